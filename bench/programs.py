@@ -14,8 +14,13 @@ from lists import CACHE
 BENCH = os.path.dirname(os.path.abspath(__file__))
 TOP = os.path.dirname(BENCH)
 
-# The crates of the program that times the calls, of the program that the script `ipnet` runs, and of `netset`.
+# The program that times the calls, and the crates that it uses. crates.txt does not list it, so `rt ci` does not prove
+# it. Its texts are in the folder rattle, and their names end with .txt.
 CALLS_CRATE = "ipnet_bench"
+CALLS_USES = ["ipnet", "ipnet_base", "ipnet_pools", "ipnet_routes", "ipnet_rules", "ipnet_sets", "thiserror"]
+CALLS_TEXTS = os.path.join(BENCH, "rattle")
+
+# The crates of the program that the script `ipnet` runs, and of `netset`.
 PROGRAM_CRATE = "ipnet_program"
 NETSET_CRATE = "netset"
 
@@ -42,13 +47,39 @@ def crates():
     return uses
 
 
-def libraries(crate):
-    """The crate and the crates of this repository below it."""
+def libraries(*names):
+    """The crates of this repository among these, and the crates of this repository below them."""
     uses = crates()
-    found = [crate]
+    found = [name for name in names if name in uses]
     for name in found:
         found += [below for below in uses[name] if below in uses and below not in found]
     return found
+
+
+def copy_folder(source, target):
+    """Makes the folder `target` a copy of `source`, or removes it if there is no such folder."""
+    shutil.rmtree(target, ignore_errors=True)
+    if os.path.isdir(source):
+        shutil.copytree(source, target)
+
+
+def copy_calls(room):
+    """Makes a repository in the folder: the program that times the calls, and the sources of the crates that it uses.
+    It keeps the work of earlier builds there. Returns the folder of the program."""
+    uses, names = crates(), libraries(*CALLS_USES)
+    for name in names:
+        for part in ("src", "specs", "proofs"):
+            copy_folder(os.path.join(TOP, "crates", name, part), os.path.join(room, "crates", name, part))
+    folder = os.path.join(room, "crates", CALLS_CRATE)
+    for part in ("src", "proofs"):
+        copy_folder(os.path.join(CALLS_TEXTS, part), os.path.join(folder, part))
+    for path in glob.glob(os.path.join(folder, "**/*.txt"), recursive=True):
+        os.rename(path, path.removesuffix(".txt"))
+    with open(os.path.join(room, "crates.txt"), "w", encoding="utf-8") as file:
+        for name in names:
+            file.write("%s: %s\n" % (name, " ".join(uses[name])))
+        file.write("%s: %s\n" % (CALLS_CRATE, " ".join(CALLS_USES)))
+    return folder
 
 
 def is_older(built, sources):
@@ -56,20 +87,40 @@ def is_older(built, sources):
     return not os.path.exists(built) or any(os.path.getmtime(path) > os.path.getmtime(built) for path in sources)
 
 
+def code_of(names):
+    """The files with the code of these crates."""
+    return [path for name in names
+            for path in glob.glob(os.path.join(TOP, "crates", name, "src/**/*.rt"), recursive=True)]
+
+
+def build(folder, *words):
+    """Proves and builds the program of the crate in this folder. With these words and no input, its status is 0."""
+    crate = os.path.basename(folder)
+    if not shutil.which("rt"):
+        sys.exit("bench/run: building %s needs the Rattle kit (command rt)" % crate)
+    note("proving and building %s; this takes some minutes" % crate)
+    command = ["rt", "run", "--", *words]
+    if subprocess.run(command, cwd=folder, stdin=subprocess.DEVNULL, stdout=subprocess.DEVNULL).returncode:
+        sys.exit("bench/run: rt run failed in " + folder)
+    os.utime(os.path.join(folder, "out", crate))  # also if rt had nothing to build, or the next run would build again
+
+
 def ours(crate, *words):
     """The program of a crate of this repository. With these words and no input, its status is 0."""
-    program = os.path.join(TOP, "crates", crate, "out", crate)
-    sources = [path for name in libraries(crate)
-               for path in glob.glob(os.path.join(TOP, "crates", name, "src/**/*.rt"), recursive=True)]
-    if is_older(program, sources):
-        if not shutil.which("rt"):
-            sys.exit("bench/run: building %s needs the Rattle kit (command rt)" % crate)
-        note("proving and building %s; this takes some minutes" % crate)
-        folder = os.path.join(TOP, "crates", crate)
-        command = ["rt", "run", "--", *words]
-        if subprocess.run(command, cwd=folder, stdin=subprocess.DEVNULL, stdout=subprocess.DEVNULL).returncode:
-            sys.exit("bench/run: rt run failed in " + folder)
-        os.utime(program)  # also where rt had nothing to build, or the next run would build again
+    folder = os.path.join(TOP, "crates", crate)
+    program = os.path.join(folder, "out", crate)
+    if is_older(program, code_of(libraries(crate))):
+        build(folder, *words)
+    return program
+
+
+def our_calls():
+    """The program that times the calls, proved and built outside the repository."""
+    room = os.path.join(CACHE, "rattle")
+    program = os.path.join(room, "crates", CALLS_CRATE, "out", CALLS_CRATE)
+    texts = glob.glob(os.path.join(CALLS_TEXTS, "**/*.txt"), recursive=True)
+    if is_older(program, [*texts, *code_of(libraries(*CALLS_USES))]):
+        build(copy_calls(room))
     return program
 
 
@@ -124,7 +175,7 @@ class Programs:
 
     @functools.cached_property
     def our_calls(self):
-        return ours(CALLS_CRATE)
+        return our_calls()
 
     @functools.cached_property
     def our_program(self):

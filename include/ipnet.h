@@ -488,6 +488,22 @@ uint32_t ipnet_table_longest_match(const void *table, size_t table_len, const ui
 uint32_t ipnet_table_longest_route(const void *table, size_t table_len, const uint8_t *address, size_t address_len,
                                    uint8_t *network, size_t network_len, uint32_t *value);
 
+/* Finds the longest network of the table that contains every address of `network`. Writes its byte form, without host
+ * bits, to the start of `covering`, which has 18 bytes or more, and its value to `*value`, and returns 1; or returns 0 if
+ * no network of the table contains it. `network` has the bytes of a network, as for ipnet_is_covered. Otherwise returns
+ *
+ * WRONG_LENGTH, UNKNOWN_FAMILY, PREFIX_TOO_LONG  if and only if the bytes of `network` have this fault
+ * BUFFER_TOO_SHORT  if and only if they are a network, and `covering_len` is less than 18
+ * NOT_A_TABLE       as ipnet_table_count; checked after the network and the length
+ *
+ * `covering` and `*value` are modified only on 1, and `covering` only up to the end of the byte form.
+ *
+ *     the image of 10.0.0.0/8 with 1 and 10.1.0.0/16 with 2, and 0, 10, 1, 2, 0, 24   1, 0, 10, 1, 0, 0, 16, and 2
+ *     the same image, and 0, 10, 0, 0, 0, 15                                          1, 0, 10, 0, 0, 0, 8, and 1
+ */
+uint32_t ipnet_table_longest_covering(const void *table, size_t table_len, const uint8_t *network, size_t network_len,
+                                      uint8_t *covering, size_t covering_len, uint32_t *value);
+
 /* Writes for each of many addresses the value of the longest network of the table that contains it, or `missing` if none
  * does. `addresses` has `width` octets for each address, 4 or 16, one address after the other.
  *

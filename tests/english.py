@@ -43,9 +43,14 @@ def tracked(top):
     return [path for path in found.split("\n") if path and os.path.isfile(os.path.join(top, path))]
 
 
+def ending_of(path):
+    """The ending of the file's name; a text NAME.rt.txt is a source in Rattle."""
+    return ".rt" if path.endswith(".rt.txt") else os.path.splitext(path)[1]
+
+
 def is_prose(path):
     """Whether the file has prose to count: a document, or a source with comments."""
-    ending = os.path.splitext(path)[1]
+    ending = ending_of(path)
     return ending in DOCUMENTS or ending in COMMENTS and not os.path.basename(path).startswith(("LICENSE", "."))
 
 
@@ -77,7 +82,7 @@ def prose_lines(top, path):
     """(number, text) of each line of prose in the file, without code in backquotes."""
     with open(os.path.join(top, path), encoding="utf-8", errors="replace") as file:
         lines = list(enumerate(file.read().split("\n"), 1))
-    ending = os.path.splitext(path)[1]
+    ending = ending_of(path)
     found = document_lines(lines) if ending in DOCUMENTS else comment_lines(ending, lines)
     for number, text in found:
         yield number, re.sub(r"`[^`]*`", "`_`", text)

@@ -1,4 +1,5 @@
-"""A plain model of the texts of entries, written from crates/netset_lib/specs/Entries.antt. A module, not a script."""
+"""A plain model of the texts of entries and of the contents of lines, written from Entries.antt, Comments.antt and
+Lists.antt in crates/ipnet_lists/specs. A module, not a script."""
 import re
 from ipaddress import AddressValueError, IPv4Address, IPv6Address
 
@@ -61,3 +62,26 @@ def range_of(text, legacy):
 
 def is_entry(text, legacy=True):
     return range_of(text, legacy) is not None
+
+
+def begins_with_entry(text):
+    """Whether the first word of the text is an entry, or its first two words are a range."""
+    first, two = re.match(r"([^ \t\f\r;,]*)[ \t\f\r;,]*[^ \t\f\r;,]*", text).group(1, 0)
+    return is_entry(first) or is_entry(two)
+
+
+def hides_entry(comment):
+    """Whether the comment begins with ";", and then with an entry, a rule or a change."""
+    said = comment.partition("#")[0].lstrip(BLANKS + ";,")
+    first, rest = re.match(r"([^ \t\f\r;,]*)[ \t\f\r;,]*(.*)", said).groups()
+    named = re.match(r"(any|all|default|host)(?![^ \t\f\r;,])", rest)
+    is_rule = first in ("permit", "deny", "+", "-") and (bool(named) or begins_with_entry(rest))
+    return comment.startswith(";") and (begins_with_entry(said) or is_rule)
+
+
+def contents_of(line):
+    """The text before the comment, or the whole line if the comment follows text and hides an entry."""
+    sign = re.search(r"#|(?:^|(?<=[ \t\f\r]));", line)
+    start = sign.start() if sign else len(line)
+    text = line[:start].strip(BLANKS)
+    return line.strip(BLANKS) if text and hides_entry(line[start:]) else text

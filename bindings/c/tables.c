@@ -120,6 +120,48 @@ static void longest_routes(const uint8_t *table, size_t len)
            "the length is checked before the table");
 }
 
+/* Networks, and the longest network of the table that contains each, in byte form, with its value. */
+static const struct {
+    uint8_t network[18];
+    size_t len;
+    uint32_t status, value;
+    uint8_t covering[18];
+} held[] = {
+    {{0, 10, 1, 2, 3, 24}, 6, 1, 4, {0, 10, 1, 2, 0, 24}},
+    {{0, 10, 1, 2, 0, 23}, 6, 1, 3, {0, 10, 1, 0, 0, 16}},
+    {{0, 10, 0, 0, 0, 8}, 6, 1, 5, {0, 10, 0, 0, 0, 8}},
+    {{0, 10, 0, 0, 0, 7}, 6, 1, 1, {0, 0, 0, 0, 0, 0}},
+    {{1, 0xfd, [17] = 33}, 18, 1, 6, {1, 0xfd, [17] = 32}},
+    {{1, 0xfd, [17] = 31}, 18, 0, 0, {0}},
+    {{0, 10, 1, 2, 3, 33}, 6, IPNET_PREFIX_TOO_LONG, 0, {0}},
+    {{2, 10, 1, 2, 3, 8}, 6, IPNET_UNKNOWN_FAMILY, 0, {0}},
+    {{0, 10, 1, 2, 3}, 5, IPNET_WRONG_LENGTH, 0, {0}},
+};
+
+static void longest_covering(const uint8_t *table, size_t len)
+{
+    for (size_t i = 0; i < sizeof held / sizeof held[0]; i++) {
+        for (size_t room = 17; room < 20; room++) {
+            uint32_t value = UNTOUCHED;
+            uint8_t *given = copied(held[i].network, held[i].len), *covering = malloc(room);
+            memset(covering, 0xa5, room);
+            uint32_t status = ipnet_table_longest_covering(table, len, given, held[i].len, covering, room, &value);
+            bool is_short = room < 18 && held[i].status <= 1, found = status == 1;
+            expect(status == (is_short ? (uint32_t)IPNET_BUFFER_TOO_SHORT : held[i].status), "the status of a network");
+            expect(value == (found ? held[i].value : UNTOUCHED), "the value of a network");
+            expect(!found || memcmp(covering, held[i].covering, held[i].len) == 0, "the network around one");
+            for (size_t k = found ? held[i].len : 0; k < room; k++) {
+                expect(covering[k] == 0xa5, "the bytes after the network around one");
+            }
+            free(given);
+            free(covering);
+        }
+    }
+    uint32_t value = UNTOUCHED;
+    expect(ipnet_table_longest_covering(table, 31, held[0].network, 6, NULL, 0, &value) == IPNET_BUFFER_TOO_SHORT,
+           "the length is checked before the table");
+}
+
 static void bulk(const uint8_t *table, size_t len)
 {
     static const uint8_t four[] = {10, 1, 2, 3, 10, 2, 0, 1, 11, 0, 0, 1};
@@ -152,6 +194,8 @@ static void hostile(const uint8_t *table, size_t len)
             for (size_t k = 0; k < sizeof asked / sizeof asked[0]; k++) {
                 ipnet_table_longest_match(changed, len, asked[k].octets, asked[k].len, &value);
                 ipnet_table_longest_route(changed, len, asked[k].octets, asked[k].len, network, sizeof network, &value);
+                ipnet_table_longest_covering(changed, len, held[k].network, held[k].len, network, sizeof network,
+                                             &value);
             }
             free(changed);
         }
@@ -220,6 +264,7 @@ int main(void)
     uint8_t *table = copied(buffer, len);
     questions(table, len);
     longest_routes(table, len);
+    longest_covering(table, len);
     bulk(table, len);
     hostile(table, len);
     free(table);

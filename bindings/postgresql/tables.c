@@ -47,8 +47,7 @@ iptable_out(PG_FUNCTION_ARGS)
     StringInfoData text;
     initStringInfo(&text);
     for (index = 0; index < count; index++) {
-        uint64 link;
-        SqlRoute route = sql_route_at(table->bytes, index, &link);
+        SqlRoute route = sql_route_at(table->bytes, index);
         enlargeStringInfo(&text, SQL_LINE + 2);
         text.len += sql_print_line(&route.network, text.data + text.len);
         text.data[text.len - 1] = ' ';
@@ -63,12 +62,13 @@ iptable_recv(PG_FUNCTION_ARGS)
     return receive_image(fcinfo, ipnet_table_check, "iptable");
 }
 
-/* The longest route that contains the address, or all addresses of the network. Returns false if there is none. */
-static bool
-find_route(const Image *table, inet *address, SqlRoute *route)
+/* Finds the longest route that contains all addresses of the network. Returns 1, or 0 if there is none, or a status. */
+static uint32
+find_covering(const Image *table, inet *address, SqlRoute *route)
 {
     SqlNetwork network = network_of_inet(address);
-    return sql_longest_around(table->bytes, count_of(table), &network, route);
+    return ipnet_table_longest_covering(table->bytes, image_len(table), network.bytes, sql_network_len(&network),
+                                        route->network.bytes, sizeof route->network.bytes, &route->value);
 }
 
 Datum
@@ -82,7 +82,7 @@ longest_match(PG_FUNCTION_ARGS)
         answer = ipnet_table_longest_match(table->bytes, image_len(table), ip_addr(address), inet_octets_len(address),
                                            &route.value);
     else
-        answer = find_route(table, address, &route);
+        answer = find_covering(table, address, &route);
     if (answer > 1)
         report_status((ipnet_status) answer);
     if (answer == 0)
@@ -101,7 +101,7 @@ longest_route(PG_FUNCTION_ARGS)
         answer = ipnet_table_longest_route(table->bytes, image_len(table), ip_addr(address), inet_octets_len(address),
                                            route.network.bytes, sizeof route.network.bytes, &route.value);
     else
-        answer = find_route(table, address, &route);
+        answer = find_covering(table, address, &route);
     if (answer > 1)
         report_status((ipnet_status) answer);
     if (answer == 0)

@@ -102,6 +102,9 @@ class Errors(unittest.TestCase):
         "10.0.0.0/24\r": "it has white space",
         " 10.0.0.0/24": "it has white space",
         "10.0.0.0 /24": "it has white space",
+        "any": "all addresses: write 0.0.0.0/0 and ::/0",
+        "localhost": "a host name: write its addresses",
+        "www.example.org/24": "a host name: write its addresses",
         "fe80::1%eth0/64": "a zone is not part of a network",
         "fe80::1%eth0": "a zone is not part of a network",
     }

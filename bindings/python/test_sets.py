@@ -94,6 +94,30 @@ class Sets(unittest.TestCase):
                 IpSet.from_list(text)
             self.assertEqual((caught.exception.line, caught.exception.text), (line, part))
 
+    ENTRY_CAUSES = {
+        "10.0.0.1\u201310.0.0.9": "a dash other than -: write - between the first and the last address",
+        "fd00::1 \u2014 fd00::9": "a dash other than -: write - between the first and the last address",
+        "10.0.0.1\u221210.0.0.9": "a dash other than -: write - between the first and the last address",
+        "10.0.0.1 -": "the range has no last address",
+        "- 10.0.0.0/8": "a - before the entry: leave it out",
+        "10.0.0.0/255.0.0.0 web server": "text after the entry: write # before it",
+        "10.0.0.1 - 10.0.0.9 office": "text after the entry: write # before it",
+        "10.0.0.0/8 - office": "text after the entry: write # before it",
+        "10.0.0.0/8 10.1.0.0/16": "it has white space",
+        "10.0.0.1 - 10.0.0.300": "not a range of addresses, FIRST-LAST",
+        "10.0.0.9-10.0.0.1": "not a range of addresses, FIRST-LAST",
+        "All": "all addresses: write 0.0.0.0/0 and ::/0",
+        "my-host": "a host name: write its addresses",
+        "www.example.org:443": "a host name: write its addresses",
+        "and/or": "the IPv4 address is not valid",
+    }
+
+    def test_causes_of_lines(self):
+        for text, cause in self.ENTRY_CAUSES.items():
+            with self.subTest(text=text), self.assertRaises(ipnet_proved.BadLine) as caught:
+                IpSet.from_list(text + "  # ours")
+            self.assertEqual((text, caught.exception.cause), (text, cause))
+
     def test_legacy(self):
         self.assertEqual(IpSet("010.0.0.0/30", legacy=True), IpSet("10.0.0.0/30"))
         self.assertEqual(IpSet(["10.0.00.1", "fd00::1"], legacy=True), IpSet(["10.0.0.1", "fd00::1"]))

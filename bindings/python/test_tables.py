@@ -24,6 +24,13 @@ def drawn(draw, count):
     return routes
 
 
+def covering(routes, network):
+    """The longest of the routes that contains the whole network, and its value."""
+    around = [(other.prefixlen, other, value) for other, value in routes.items()
+              if other.version == network.version and network.subnet_of(other)]
+    return max(around)[1:] if around else None
+
+
 def longest(routes, address):
     holding = [(network.prefixlen, value) for network, value in routes.items()
                if network.version == address.version and address in network]
@@ -43,6 +50,10 @@ class Tables(unittest.TestCase):
                     addresses = [family(first + draw.randrange(1 << 13)) for _ in range(30)]
                     wanted = [longest(routes, address) for address in addresses]
                     self.assertEqual([table.get(address) for address in addresses], wanted)
+                    asked = [ipaddress.ip_network((address, draw.randrange(8 * width + 1)), strict=False)
+                             for address in addresses]
+                    self.assertEqual([table.route(network) for network in asked],
+                                     [covering(routes, network) for network in asked])
                     packed = again.get_packed(b"".join(address.packed for address in addresses), width, missing=999)
                     self.assertEqual([None if value == 999 else value for value in packed], wanted)
 

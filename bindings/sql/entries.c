@@ -87,6 +87,81 @@ SqlPart sql_entry_at(const char *text, size_t len, size_t number)
     return entry;
 }
 
+static bool is_address(SqlPart part)
+{
+    uint8_t octets[16];
+    return sql_parse_address(part.text, part.len, octets) > 0;
+}
+
+/* Whether the part is an entry of a set. */
+static bool is_entry(SqlPart part)
+{
+    SqlNetwork network;
+    SqlPart after, front = split(part, '-', &after);
+    if (has(part, '-'))
+        return is_address(trimmed(front)) && is_address(trimmed(after));
+    front = split(part, '/', &after);
+    return sql_parse_network(part.text, part.len, &network)
+        || (is_address(front) && has(after, '.') && is_address(after));
+}
+
+/* The number of bytes of the dash that begins the part: U+2013, U+2014 or U+2212 in UTF-8, or "-". */
+static size_t dash_len(SqlPart part)
+{
+    if (part.len >= 3 && (memcmp(part.text, "\xe2\x80\x93", 3) == 0 || memcmp(part.text, "\xe2\x80\x94", 3) == 0
+                          || memcmp(part.text, "\xe2\x88\x92", 3) == 0))
+        return 3;
+    return part.len >= 1 && part.text[0] == '-';
+}
+
+static SqlPart after_bytes(SqlPart part, size_t len)
+{
+    part.text += len;
+    part.len -= len;
+    return part;
+}
+
+/* Whether the part is two entries around a dash that is not "-". */
+static bool is_dashed(SqlPart part)
+{
+    SqlPart after, front = split(part, '\xe2', &after);
+    SqlPart back = after_bytes(part, front.len);
+    return dash_len(back) == 3 && is_entry(trimmed(front)) && is_entry(trimmed(after_bytes(back, 3)));
+}
+
+/* The first word of the part, up to a blank, and the rest without blanks. */
+static SqlPart cut_word(SqlPart part, SqlPart *rest)
+{
+    SqlPart word = part;
+    word.len = 0;
+    while (word.len < part.len && !is_blank(part.text[word.len]))
+        word.len++;
+    *rest = trimmed(after_bytes(part, word.len));
+    return word;
+}
+
+/* Whether the part is a text, and not a dash with what may be meant as an address after it. */
+static bool is_remark(SqlPart part)
+{
+    size_t len = dash_len(part);
+    SqlPart rest, back = trimmed(after_bytes(part, len));
+    SqlPart word = cut_word(back, &rest);
+    if (part.len == 0 || len == 0)
+        return part.len > 0;
+    return (back.len == 0 || back.text[0] < '0' || back.text[0] > '9') && !has(word, ':');
+}
+
+/* Whether the part is an entry and a text after it that is not one. */
+static bool is_followed(SqlPart part)
+{
+    SqlPart rest, more, word = cut_word(part, &rest);
+    SqlPart back, front = split(part, '-', &back);
+    if (is_entry(word) && is_remark(rest))
+        return !is_entry(cut_word(rest, &more));
+    word = cut_word(trimmed(back), &rest);
+    return has(part, '-') && is_address(trimmed(front)) && is_address(word) && is_remark(rest);
+}
+
 static bool has_inner_blank(SqlPart part)
 {
     size_t i;
@@ -111,9 +186,53 @@ static const char *cause_of_prefix(SqlPart prefix, bool is_ipv6, bool may_be_net
     return is_ipv6 ? "the prefix length is above 128" : "the prefix length is above 32";
 }
 
+static bool is_letter(char character)
+{
+    return (character >= 'a' && character <= 'z') || (character >= 'A' && character <= 'Z');
+}
+
+/* Whether the part is this word, which has small letters, in letters of any case. */
+static bool is_word(SqlPart part, const char *word)
+{
+    size_t i;
+    if (part.len != strlen(word))
+        return false;
+    for (i = 0; i < part.len; i++)
+        if (!is_letter(part.text[i]) || (part.text[i] | 0x20) != word[i])
+            return false;
+    return true;
+}
+
+/* Whether the part is letters, digits, ".", "-" and "_", with a letter among them. */
+static bool is_name(SqlPart part)
+{
+    bool has_letter = false;
+    size_t i;
+    for (i = 0; i < part.len; i++) {
+        char character = part.text[i];
+        bool is_other = (character >= '0' && character <= '9') || character == '.' || character == '-'
+            || character == '_';
+        if (!is_letter(character) && !is_other)
+            return false;
+        has_letter = has_letter || is_letter(character);
+    }
+    return has_letter;
+}
+
+/* The cause in a word for all addresses or a host name, or NULL. */
+static const char *cause_in_name(SqlPart part)
+{
+    SqlPart after, host = split(part, '/', &after);
+    host = split(host, ':', &after);
+    if (is_word(part, "any") || is_word(part, "all") || is_word(part, "default"))
+        return "all addresses: write 0.0.0.0/0 and ::/0";
+    if (is_name(part) || (is_name(host) && has(host, '.')))
+        return "a host name: write its addresses";
+    return NULL;
+}
+
 static const char *cause_of_network(SqlPart network, bool may_have_netmask)
 {
-    uint8_t octets[16];
     SqlPart prefix, address = split(network, '/', &prefix);
     bool is_ipv6 = has(address, ':');
     if (network.len == 0)
@@ -122,7 +241,9 @@ static const char *cause_of_network(SqlPart network, bool may_have_netmask)
         return "it has white space";
     if (has(network, '%'))
         return "a zone is not part of a network";
-    if (sql_parse_address(address.text, address.len, octets) == 0)
+    if (cause_in_name(network))
+        return cause_in_name(network);
+    if (!is_address(address))
         return is_ipv6 ? "the IPv6 address is not valid" : "the IPv4 address is not valid";
     return cause_of_prefix(prefix, is_ipv6, may_have_netmask);
 }
@@ -140,6 +261,8 @@ static const char *cause_of_range(SqlPart entry)
     last = trimmed(last);
     first_len = sql_parse_address(first.text, first.len, octets);
     last_len = sql_parse_address(last.text, last.len, octets);
+    if ((first_len == 0 || last_len == 0) && cause_in_name(entry))
+        return cause_in_name(entry);
     if (first_len == 0 || last_len == 0)
         return "a range is FIRST-LAST, two addresses";
     if (first_len != last_len)
@@ -149,12 +272,21 @@ static const char *cause_of_range(SqlPart entry)
 
 const char *sql_cause_of_entry(SqlPart entry)
 {
+    SqlPart last, first = split(entry, '-', &last);
     if (has(entry, '#') || has(entry, ';'))
         return "comments are not allowed";
     if (has(entry, '\n'))
         return "it has several lines";
     if (has(entry, ','))
         return "it has a comma";
+    if (is_dashed(entry))
+        return "a dash other than -: write - between the first and the last address";
+    if (has(entry, '-') && is_entry(trimmed(first)) && trimmed(last).len == 0)
+        return "the range has no last address";
+    if (is_followed(entry))
+        return "text after the entry: leave it out";
+    if (has(entry, '-') && first.len == 0 && is_entry(trimmed(last)))
+        return "a - before the entry: leave it out";
     return has(entry, '-') ? cause_of_range(entry) : cause_of_network(entry, true);
 }
 

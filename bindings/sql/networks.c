@@ -31,16 +31,6 @@ SqlNetwork sql_network(const uint8_t *octets, size_t octets_len, uint8_t prefix_
     return network;
 }
 
-bool sql_covers(const SqlNetwork *outer, const SqlNetwork *inner)
-{
-    uint8_t prefix_len = sql_prefix_len(outer);
-    SqlNetwork around;
-    if (outer->bytes[0] != inner->bytes[0] || prefix_len > sql_prefix_len(inner))
-        return false;
-    around = sql_network(inner->bytes + 1, sql_octets_len(inner), prefix_len);
-    return memcmp(around.bytes, outer->bytes, sizeof around.bytes) == 0;
-}
-
 bool sql_parse_network(const char *text, size_t len, SqlNetwork *network)
 {
     char whole[IPNET_MAX_TEXT + 5];

@@ -24,9 +24,6 @@ uint8_t sql_prefix_len(const SqlNetwork *network);
 /* The network that contains the address with these octets, 4 or 16, and has this prefix length. Its host bits are 0. */
 SqlNetwork sql_network(const uint8_t *octets, size_t octets_len, uint8_t prefix_len);
 
-/* Whether every address of the inner network is an address of the outer one. Both have host bits 0. */
-bool sql_covers(const SqlNetwork *outer, const SqlNetwork *inner);
-
 /* Reads NETWORK/LENGTH, or an address, which is a network of full length. The host bits become 0. Returns false if the
  * text is neither. */
 bool sql_parse_network(const char *text, size_t len, SqlNetwork *network);

@@ -48,7 +48,7 @@ static uint64_t number_at(const uint8_t *bytes, size_t count)
     return number;
 }
 
-SqlRoute sql_route_at(const void *table, size_t index, uint64_t *link)
+SqlRoute sql_route_at(const void *table, size_t index)
 {
     const uint8_t *bytes = table;
     uint64_t ipv4_count = number_at(bytes + 16, 8);
@@ -61,28 +61,5 @@ SqlRoute sql_route_at(const void *table, size_t index, uint64_t *link)
         octets[i] = row[width - 1 - i];
     route.network = sql_network(octets, width, prefix_len <= 8 * width ? prefix_len : (uint8_t)(8 * width));
     route.value = (uint32_t)number_at(row + width + 4, 4);
-    *link = number_at(row + width + 8, is_ipv4 ? 4 : 8);
     return route;
-}
-
-bool sql_longest_around(const void *table, size_t count, const SqlNetwork *network, SqlRoute *found)
-{
-    size_t low = 0, high = count;
-    uint64_t link;
-    while (low < high) {
-        size_t middle = low + (high - low) / 2;
-        SqlRoute route = sql_route_at(table, middle, &link);
-        if (compare(&route.network, network) <= 0)
-            low = middle + 1;
-        else
-            high = middle;
-    }
-    /* The last route up to the network contains it, or a route around that one does, or none. Links only descend. */
-    while (low > 0) {
-        *found = sql_route_at(table, low - 1, &link);
-        if (sql_covers(&found->network, network))
-            return true;
-        low = link < low ? (size_t)link : 0;
-    }
-    return false;
 }

@@ -1,5 +1,5 @@
 /* Routes of tables for the extensions: gathered routes on their way into a table, and the routes in the image of a
- * table. Nothing here allocates memory. crates/ipnet_sets/specs/TableImages.antt defines the layout of an image. */
+ * table. Nothing here allocates memory. crates/ipnet_routes/specs/TableImages.antt defines the layout of an image. */
 #ifndef SQL_ROUTES_H
 #define SQL_ROUTES_H
 
@@ -21,12 +21,7 @@ size_t sql_print_line(const SqlNetwork *network, char *line);
  * are neighbours then; or NULL if there is none. */
 const SqlRoute *sql_find_conflict(SqlRoute *routes, size_t count);
 
-/* The route with this index, below ipnet_table_count, in the image of a table. `*link` is one more than the index of
- * the smallest route around it, or 0. */
-SqlRoute sql_route_at(const void *table, size_t index, uint64_t *link);
-
-/* Finds the longest network of a table that contains all addresses of the network. `count` is ipnet_table_count.
- * Returns false if there is none. */
-bool sql_longest_around(const void *table, size_t count, const SqlNetwork *network, SqlRoute *found);
+/* The route with this index, below ipnet_table_count, in the image of a table. */
+SqlRoute sql_route_at(const void *table, size_t index);
 
 #endif

@@ -212,7 +212,7 @@ static void refuse_memory(void)
     static const char *const rows[][2] = {
         {"SELECT hex(ipset('10.0.0.0/8, 10.0.0.3-10.0.0.9, ::1')) = hex(ipset('10.0.0.0/8, ::1'))", "1"},
         {"SELECT ipset('10.0.0.0/8, x')",
-         "entry 2 is not a network, address or range: x: the IPv4 address is not valid"},
+         "entry 2 is not a network, address or range: x: a host name: write its addresses"},
         {"SELECT ipset_contains(ipset('10.0.0.0/8'), '10.1.2.3')", "1"},
         {"SELECT ipset_contains(ipset('10.0.0.0/8'), 'x')", "not an address: x"},
         {"SELECT ipset_count(ipset_union(ipset('10.0.0.0/8'), ipset('::/0')), 6)",

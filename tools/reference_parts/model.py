@@ -6,7 +6,7 @@ from . import definitions, rattle
 
 TYPES = ("struct", "enum", "union", "trait", "type")
 # the crates that most users name come first, then those below and above them, then examples and what serves tests
-FIRST = ("ipnet", "ipnet_sets")
+FIRST = ("ipnet", "ipnet_sets", "ipnet_routes")
 LAST = ("example", "test")
 
 

@@ -29,7 +29,7 @@ True
 >>> aggregate_text("10.0.0.0/24\\n\\nx\\n")
 Traceback (most recent call last):
     ...
-ipnet_proved.BadLine: line 3: 'x': the IPv4 address is not valid
+ipnet_proved.BadLine: line 3: 'x': a host name: write its addresses
 """
 import ipaddress
 from typing import List

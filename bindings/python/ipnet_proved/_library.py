@@ -90,6 +90,7 @@ def _load() -> ctypes.CDLL:
         "ipnet_table_count": [read, size, number],
         "ipnet_table_longest_match": [read, size, read, size, word],
         "ipnet_table_longest_route": [read, size, read, size, read, size, word],
+        "ipnet_table_longest_covering": [read, size, read, size, read, size, word],
         "ipnet_table_longest_match_all": [read, size, read, size, size, value, words, size],
         "ipnet_set_contains_u32": [read, size, words, size, read, size],
         "ipnet_set_contains_rows": [read, size, read, size, read, size, read, size],

@@ -66,9 +66,59 @@ class NotANetwork(ValueError):
         return f"{quoted(self.text)}: {self.cause}"
 
 
+BLANKS = " \t\f\r"
+# a dash other than "-" that people write in a range
+OTHER_DASH = re.compile("([^\u2000-\u2fff]*)[\u2013\u2014\u2212](.*)", re.S)
+# a first word and what follows it; a first and a last address and what follows them
+FOLLOWED = re.compile(r"([^\s,;]+)[\s,;]+(.+)", re.S)
+RANGE_FOLLOWED = re.compile(r"([^-]*-[ \t\f\r]*[^\s,;-]+)[\s,;]+(.+)", re.S)
+# a dash, and what may be meant as an address
+GOES_ON = re.compile(r"[-\u2013\u2014\u2212][ \t\f\r]*([0-9]|[^\s,;]*:)")
+NAME = re.compile(r"(?=.*[A-Za-z])[A-Za-z0-9._-]+")
+
+
 def shown(data: bytes) -> str:
     """The bytes as text, with backslashes for those that are not UTF-8."""
     return data.decode("utf-8", "backslashreplace")
+
+
+def is_entry(text: str) -> bool:
+    """Whether the text is an entry of a list, with or without leading zeros. The library decides."""
+    data = as_bytes(text)
+    if not text.strip(BLANKS) or re.search("[#;\n]", text):
+        return False
+    return library.writer("ipnet_set_from_list_legacy", len(data) + library.MAX_BYTES + 64)(data)[0] == library.OK
+
+
+def cause_in_name(text: str) -> str:
+    """The cause that a word for all addresses or a host name is the text, or ""."""
+    host = text.partition("/")[0].partition(":")[0]
+    if text.lower() in ("any", "all", "default"):
+        return "all addresses: write 0.0.0.0/0 and ::/0"
+    if NAME.fullmatch(text) or NAME.fullmatch(host) and "." in host:
+        return "a host name: write its addresses"
+    return ""
+
+
+def is_followed(text: str) -> bool:
+    """Whether the text is an entry and a text after it that is not one."""
+    for match in (FOLLOWED.fullmatch(text), RANGE_FOLLOWED.fullmatch(text)):
+        if match and is_entry(match[1]) and not GOES_ON.match(match[2]):
+            return not is_entry(re.split(r"[\s,;]", match[2])[0])
+    return False
+
+
+def cause_in_entry(text: str) -> str:
+    """The cause that an entry is in the text, or ""."""
+    dashed = OTHER_DASH.fullmatch(text)
+    front, dash, back = text.partition("-")
+    if dashed and is_entry(dashed[1].rstrip(BLANKS)) and is_entry(dashed[2].lstrip(BLANKS)):
+        return "a dash other than -: write - between the first and the last address"
+    if dash and is_entry(front) and not back.strip(BLANKS):
+        return "the range has no last address"
+    if is_followed(text):
+        return "text after the entry: write # before it"
+    return "a - before the entry: leave it out" if dash and not front and is_entry(back) else ""
 
 
 def cause_of(data: bytes, legacy: bool) -> str:
@@ -90,7 +140,7 @@ def cause_of(data: bytes, legacy: bool) -> str:
             return cause
     status, _, _ = library.writer(parse, library.MAX_BYTES)(f"{address}/{width}".encode())
     if status != library.OK:
-        return f"the IPv{6 if ':' in address else 4} address is not valid"
+        return cause_in_name(text) or f"the IPv{6 if ':' in address else 4} address is not valid"
     if not length:
         return "the prefix length is missing"
     if not re.fullmatch("[0-9]+", length):
@@ -105,9 +155,10 @@ def cause_of_entry(line: bytes, legacy: bool = False) -> str:
     entry = re.split(rb"#|(?<![^ \t]);", line)[0].strip()
     if entry and b";" in line and (b"/" in entry or entry.count(b".") == 3 or b":" in entry):
         return "the comment after ';' begins with an entry, or ';' follows it without a blank"
-    if b"-" in entry:
-        return "not a range of addresses, FIRST-LAST"
-    return cause_of(entry, legacy)
+    cause = cause_in_entry(shown(entry))
+    if not cause and b"-" in entry:
+        cause = cause_in_name(shown(entry)) or "not a range of addresses, FIRST-LAST"
+    return cause or cause_of(entry, legacy)
 
 
 def first_not_utf8(data: bytes) -> bytes:

@@ -8,7 +8,7 @@ from typing import Any, Iterable, Iterator, List, Mapping, Optional, Tuple, Unio
 from . import _library as library
 from ._bulk import RAISE, Options, matched
 from ._columns import ArrowText
-from ._networks import Network, OneNetwork, bytes_of, refuse, text_of, with_lengths
+from ._networks import Network, OneNetwork, bytes_of, interface_of, refuse, text_of, with_lengths
 
 try:
     from ._quick import longest_match
@@ -18,6 +18,8 @@ except ImportError:
         return NotImplemented
 
 LARGEST = 2 ** 32 - 1
+# the bytes of the longest byte form of a network
+LONGEST = 18
 WIDTHS = (4, 16)
 HEADER = struct.Struct("<8sQQQ")
 
@@ -25,6 +27,7 @@ _from_text = library.question("ipnet_table_from_text")
 _check = library.question("ipnet_table_check")
 _count = library.question("ipnet_table_count")
 _longest_match = library.question("ipnet_table_longest_match")
+_longest_covering = library.question("ipnet_table_longest_covering")
 _longest_match_all = library.question("ipnet_table_longest_match_all")
 
 Routes = Union[Mapping[OneNetwork, int], Iterable[Tuple[OneNetwork, int]]]
@@ -123,6 +126,19 @@ class RouteTable:
         if value is None:
             raise KeyError(address)
         return value
+
+    def route(self, network: OneNetwork) -> Optional[Tuple[Network, int]]:
+        """The longest network of the table that contains the whole network, and its number, or None if none does. An
+        address is the network of its full length. Raises NotANetwork if a text is neither.
+
+        >>> table = RouteTable({"10.0.0.0/8": 1, "10.1.0.0/16": 2})
+        >>> table.route("10.1.2.3"), table.route("10.0.0.0/15"), table.route("10.0.0.0/7")
+        ((IPv4Network('10.1.0.0/16'), 2), (IPv4Network('10.0.0.0/8'), 1), None)
+        """
+        data, covering, value = bytes_of(network), ctypes.create_string_buffer(LONGEST), ctypes.c_uint32(0)
+        status = _longest_covering(self._image, len(self._image), data, len(data), covering, LONGEST,
+                                   ctypes.byref(value))
+        return (interface_of(covering.raw[:len(data)]).network, value.value) if status == 1 else None
 
     def __contains__(self, address: OneNetwork) -> bool:
         """Whether a network of the table contains the address."""

@@ -259,6 +259,15 @@ extern "C" {
         network_len: usize,
         value: *mut u32,
     ) -> u32;
+    fn ipnet_table_longest_covering(
+        table: *const u8,
+        table_len: usize,
+        network: *const u8,
+        network_len: usize,
+        covering: *mut u8,
+        covering_len: usize,
+        value: *mut u32,
+    ) -> u32;
     fn ipnet_table_longest_match_all(
         table: *const u8,
         table_len: usize,
@@ -629,6 +638,26 @@ pub fn table_longest_route(table: &[u8], octets: &[u8]) -> Option<(Bytes, u32)> 
     };
     network.len = if network.bytes[0] == 0 { 6 } else { MAX_BYTES };
     (status == 1).then_some((network, value))
+}
+
+/// The byte form and the value of the longest network that contains every address of the network in byte form.
+pub fn table_longest_covering(table: &[u8], network: &[u8]) -> Option<(Bytes, u32)> {
+    let mut covering = Bytes::default();
+    let mut value = 0;
+    // SAFETY: as in `call`.
+    let status = unsafe {
+        ipnet_table_longest_covering(
+            table.as_ptr(),
+            table.len(),
+            network.as_ptr(),
+            network.len(),
+            covering.bytes.as_mut_ptr(),
+            covering.bytes.len(),
+            &mut value,
+        )
+    };
+    covering.len = if covering.bytes[0] == 0 { 6 } else { MAX_BYTES };
+    (status == 1).then_some((covering, value))
 }
 
 /// Reads a row from each line of the text: a byte of `families` and 16 of `octets`. Returns the number of rows that are

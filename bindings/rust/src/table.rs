@@ -88,6 +88,24 @@ impl RouteTable {
         Some((Network::from_bytes(network.as_slice()).ok()?, value))
     }
 
+    /// The longest network that contains every address of `network`, and its number, or `None` if none does. Allocates
+    /// nothing.
+    ///
+    /// ```
+    /// use ipnet_proved::{Error, Network, RouteTable};
+    ///
+    /// let table = RouteTable::from_routes(&[("10.0.0.0/8".parse()?, 1), ("10.1.0.0/16".parse()?, 2)])?;
+    /// let asked: [Network; 3] = ["10.1.2.0/24".parse()?, "10.0.0.0/15".parse()?, "10.0.0.0/7".parse()?];
+    /// assert_eq!(table.longest_covering(asked[0]), Some(("10.1.0.0/16".parse()?, 2)));
+    /// assert_eq!(table.longest_covering(asked[1]), Some(("10.0.0.0/8".parse()?, 1)));
+    /// assert_eq!(table.longest_covering(asked[2]), None);
+    /// # Ok::<(), Error>(())
+    /// ```
+    pub fn longest_covering(&self, network: impl Into<Network>) -> Option<(Network, u32)> {
+        let (covering, value) = raw::table_longest_covering(&self.image, network.into().to_bytes().as_slice())?;
+        Some((Network::from_bytes(covering.as_slice()).ok()?, value))
+    }
+
     /// The number of the longest network for each of the addresses, in order, or `missing`.
     ///
     /// ```

@@ -3,11 +3,11 @@ ghost use Rattle.std.specs.Prelude.{◌↔◌, IsNone, IfSome};
 ghost use Rattle.ipnet.specs.Address.{ip_address};
 ghost use Rattle.ipnet.specs.Network.{Network};
 ghost use Rattle.ipnet.specs.Blocks.{IsCoveredBy};
-ghost use Rattle.ipnet_sets.specs.Routes.{networks_of, IsLongestMatch};
-ghost use Rattle.ipnet_sets.specs.RoutesOf.{routes_of};
+ghost use Rattle.ipnet_routes.specs.Routes.{networks_of, IsLongestMatch};
+ghost use Rattle.ipnet_routes.specs.RoutesOf.{routes_of};
 
 use ipnet::IpAddr;
-use ipnet_sets::RouteTable;
+use ipnet_routes::RouteTable;
 
 /// The gateway of the longest route to the address, or `None` if there is no route.
 pub fn gateway(table: &RouteTable<IpAddr>, address: &IpAddr) -> Option<IpAddr>

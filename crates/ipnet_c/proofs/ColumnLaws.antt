@@ -8,13 +8,11 @@ use Rattle.std.specs.Int.{from_bool}
 use Rattle.ipnet.specs.Address.{IPv4, address_at}
 use Rattle.ipnet_sets.specs.Images.{IsImageOf}
 use Rattle.ipnet_sets.specs.Members.{IsMember}
-use Rattle.ipnet_sets.specs.Routes.{Route}
-use Rattle.ipnet_sets.specs.TableImages.{IsTableImageOf}
 use Rattle.ipnet_sets.specs.declared.set.IpSet.{IpSet}
 use Rattle.ipnet_c.specs.Rows.{row_bytes}
 use Rattle.ipnet_c.specs.RowReplies.{IsRowAnswer, IsRowValue}
 use Rattle.ipnet_c.specs.SetReplies.{IsAnswerAt}
-use Rattle.ipnet_c.specs.TableReplies.{IsValueFor}
+use Rattle.ipnet_c.specs.TableReplies.{IsValueAt}
 use Rattle.ipnet_c.proofs.StatusLaws.{answered_at}
 
 -- Each number before the index is right for the row with its index.
@@ -44,7 +42,7 @@ IsNumberAnswer set numbers i answer = IsAnswerAt set (address_at IPv4 (get_or nu
 
 abbrev pub IsNumberValue : List ℕ → List ℕ → ℕ → ℕ → ℕ → Type 0
 IsNumberValue table numbers missing i value =
-    (t : List (Route ℕ)) → IsTableImageOf table t → IsValueFor t (address_at IPv4 (get_or numbers i 0)) missing value
+    IsValueAt table (address_at IPv4 (get_or numbers i 0)) missing value
 
 abbrev pub IsAnswerForRow : List ℕ → List ℕ → List ℕ → ℕ → ℕ → Type 0
 IsAnswerForRow set families octets i answer = IsRowAnswer set (get_or families i 0) (row_bytes octets i) answer

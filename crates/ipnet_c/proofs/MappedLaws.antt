@@ -6,18 +6,15 @@ use Rattle.std.specs.Net.Addr.{ipv6_bits, IsIpv4OfBits}
 use Rattle.std.specs.declared.net.ipv4_addr.Ipv4Addr.{Ipv4Addr}
 use Rattle.std.specs.declared.net.ipv6_addr.Ipv6Addr.{Ipv6Addr}
 use Rattle.ipnet.specs.Address.{IPv4, Address, width, address_at, ipv4_address, ipv6_address}
-use Rattle.ipnet.specs.Blocks.{IsCoveredBy}
 use Rattle.ipnet.specs.Network.{Network, InBlock, IsLeastOf}
 use Rattle.ipnet.specs.NetworkParts.{network_at}
 use Rattle.ipnet_base.proofs.AddressLaws.{bits_from_number}
 use Rattle.ipnet_sets.specs.Images.{IsImageOf}
 use Rattle.ipnet_sets.specs.Members.{IsMember}
-use Rattle.ipnet_sets.specs.Routes.{Route, networks_of, IsLongestMatch}
 use Rattle.ipnet_sets.specs.declared.set.IpSet.{IpSet}
 use Rattle.ipnet_c.specs.Rows.{family_byte, IsRowOf, IsWrittenRowOf, written_octets}
 use Rattle.ipnet_c.specs.RowReplies.{mapped_network, last_ipv4, length_for, IsTruncatedRow}
 use Rattle.ipnet_c.specs.SetReplies.{IsAnswerAt}
-use Rattle.ipnet_c.specs.TableReplies.{IsValueFor}
 use Rattle.ipnet_c.proofs.RowLaws.{row_once, not_both}
 use Rattle.ipnet_c.proofs.StatusLaws.{answered_at}
 
@@ -38,7 +35,7 @@ last_is a ip number e of =
 
 -- ---- addresses of numbers
 
-number_address : (a : Ipv4Addr) (number : ℕ) → number < 2 ^ 32 → IsIpv4OfBits a number
+pub number_address : (a : Ipv4Addr) (number : ℕ) → number < 2 ^ 32 → IsIpv4OfBits a number
     → ipv4_address a ≡ address_at IPv4 number
 number_address a number fits of = ap (address_at IPv4) (bits_from_number a number fits of)
 
@@ -49,21 +46,6 @@ number_answered set a number answer shown fits of h e =
     subst (λ x. IsAnswerAt set x shown) (number_address a number fits of)
     (answered_at set (ipv4_address a) answer shown h e)
 
-pub number_valued : (t : List (Route ℕ)) (a : Ipv4Addr) (number : ℕ) (n : Network) (missing value : ℕ)
-    → number < 2 ^ 32 → IsIpv4OfBits a number → IsLongestMatch t (ipv4_address a) (n, value)
-    → ((IsCoveredBy (networks_of t) (ipv4_address a) → ⊥) → ⊥)
-    → IsValueFor t (address_at IPv4 number) missing value
-number_valued t a number n missing value fits of is held =
-    subst (λ x. IsValueFor t x missing value) (number_address a number fits of)
-    (record { some = λ h. (n, is); none = λ out. absurd (held out) })
-
-pub number_missing : (t : List (Route ℕ)) (a : Ipv4Addr) (number missing : ℕ) → number < 2 ^ 32
-    → IsIpv4OfBits a number → (IsCoveredBy (networks_of t) (ipv4_address a) → ⊥)
-    → IsValueFor t (address_at IPv4 number) missing missing
-number_missing t a number missing fits of out =
-    subst (λ x. IsValueFor t x missing missing) (number_address a number fits of)
-    (record { some = λ h. absurd (out h); none = λ h. refl })
-
 -- ---- the addresses of rows
 
 pub row_answered : (set : List ℕ) (family : ℕ) (bytes : List ℕ) (y x : Address) (answer : Bool) (shown : ℕ)
@@ -71,20 +53,6 @@ pub row_answered : (set : List ℕ) (family : ℕ) (bytes : List ℕ) (y x : Add
     → ((s : IpSet) → IsImageOf set s → IsTrue answer ↔ IsMember s y) → shown ≡ from_bool answer → IsAnswerAt set x shown
 row_answered set family bytes y x answer shown of_y of_x h e =
     subst (λ z. IsAnswerAt set z shown) (row_once family bytes y x of_y of_x) (answered_at set y answer shown h e)
-
-pub row_valued : (family : ℕ) (bytes : List ℕ) (t : List (Route ℕ)) (y x : Address) (n : Network) (missing value : ℕ)
-    → IsRowOf family bytes y → IsRowOf family bytes x → IsLongestMatch t y (n, value)
-    → ((IsCoveredBy (networks_of t) y → ⊥) → ⊥) → IsValueFor t x missing value
-row_valued family bytes t y x n missing value of_y of_x is held =
-    subst (λ z. IsValueFor t z missing value) (row_once family bytes y x of_y of_x)
-    (record { some = λ h. (n, is); none = λ out. absurd (held out) })
-
-pub row_missing : (family : ℕ) (bytes : List ℕ) (t : List (Route ℕ)) (y x : Address) (missing : ℕ)
-    → IsRowOf family bytes y → IsRowOf family bytes x → (IsCoveredBy (networks_of t) y → ⊥)
-    → IsValueFor t x missing missing
-row_missing family bytes t y x missing of_y of_x out =
-    subst (λ z. IsValueFor t z missing missing) (row_once family bytes y x of_y of_x)
-    (record { some = λ h. absurd (out h); none = λ h. refl })
 
 -- a row becomes the row of the least address of its network
 pub row_truncated : (ipv4_length ipv6_length family : ℕ) (bytes new : List ℕ) (own least : Address) (n : Network)

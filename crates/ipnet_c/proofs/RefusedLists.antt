@@ -4,9 +4,9 @@ use Rattle.std.proofs.Common.{subst, arith}
 use Rattle.ipnet.specs.declared.parser.Grammar.{Grammar}
 use Rattle.ipnet_sets.specs.declared.set.IpSet.{IpSet}
 use Rattle.ipnet_sets.specs.Images.{IsImageOf}
-use Rattle.netset_lib.specs.Lists.{Refusal, IsListRead}
-use Rattle.netset_lib.specs.ListTexts.{IsReadList}
-use Rattle.netset_lib.specs.RefusedLines.{RefusedLine, RefusedLines, refusal_of}
+use Rattle.ipnet_lists.specs.Lists.{Refusal, IsListRead}
+use Rattle.ipnet_lists.specs.ListTexts.{IsReadList}
+use Rattle.ipnet_lists.specs.RefusedLines.{RefusedLine, RefusedLines, refusal_of}
 use Rattle.ipnet_c.specs.Buffers.{IsWritten, IsTooLong}
 use Rattle.ipnet_c.specs.ListReplies.{HasAddressesOfList, IsFirstRefused, IsListReply}
 use Rattle.ipnet_c.specs.SetReplies.{IsImageWith}

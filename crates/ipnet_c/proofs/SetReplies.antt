@@ -7,7 +7,7 @@ use Rattle.ipnet.specs.declared.parser.Grammar.TheVariants.{Strict}
 use Rattle.ipnet_base.proofs.UniqueLaws.{AreMaximalBlocks-same_set, AreMaximalBlocks-nil}
 use Rattle.ipnet_sets.specs.declared.set.IpSet.{IpSet}
 use Rattle.ipnet_sets.specs.Members.{IsMember, HasNoAddress, IsResultOf}
-use Rattle.netset_lib.specs.Answers.{AreNetworkLines}
+use Rattle.ipnet_lists.specs.SetLines.{AreNetworkLines}
 use Rattle.ipnet_c.specs.Buffers.{IsWritten, IsTooLong}
 use Rattle.ipnet_c.specs.Replies.{AreBlocksOfBoth, IsSetText, IsSetReply}
 use Rattle.ipnet_c.specs.SetReplies.{HasAddressesOfText}

@@ -1,7 +1,7 @@
 -- Replies with images of tables, and to questions about tables that are given by their images.
-use Rattle.std.proofs.Common.{◌≡◌, ◌≢◌, ℕ, ◌+◌, ◌-◌, ◌*◌, ◌^◌, ◌<◌, ◌≤◌, ◌⊎◌, List, [], ◌∷◌, ◌++◌, length, map, take}
+use Rattle.std.proofs.Common.{◌≡◌, ℕ, ◌+◌, ◌-◌, ◌*◌, ◌^◌, ◌<◌, ◌≤◌, ◌⊎◌, List, [], ◌∷◌, ◌++◌, length, map, take}
 use Rattle.std.proofs.Common.{drop}
-use Rattle.std.proofs.Common.{get_or, slice_set, inl, inr, refl, sym, ap, ap₂, subst, ◌∙◌, arith, IsUtf8}
+use Rattle.std.proofs.Common.{get_or, slice_set, inl, inr, refl, sym, ap, subst, subst₂, ◌∙◌, arith, IsUtf8}
 use Rattle.std.proofs.lemmas.Bool.{cases_lt}
 use Rattle.std.proofs.lemmas.Grind.{get_or-set_at}
 use Rattle.std.proofs.lemmas.List.{length-set, get_or-set_other, take_more, take_all, get_or-map, map-append}
@@ -13,22 +13,22 @@ use Rattle.ipnet_base.specs.Blocks.{IsCoveredBy}
 use Rattle.ipnet_base.proofs.DigitLaws.{number_back}
 use Rattle.ipnet.specs.CanonicalTexts.{address_octets}
 use Rattle.ipnet.specs.Address.{Address}
-use Rattle.ipnet.specs.Network.{Network}
+use Rattle.ipnet.specs.Network.{Network, InBlock}
 use Rattle.ipnet.specs.NetworkOf.{ip_network}
 use Rattle.ipnet.specs.declared.net.IpNet.{IpNet}
-use Rattle.ipnet_sets.specs.Routes.{Route, networks_of, ip_routes, IsLongestMatch}
-use Rattle.ipnet_sets.specs.TableImages.{HasTableHeader, IsTableImageOf}
+use Rattle.ipnet_routes.specs.Routes.{Route, networks_of, ip_routes, IsLongestMatch}
+use Rattle.ipnet_routes.specs.TableImages.{HasTableHeader, IsStoredRoute, IsTableImageOf}
 use Rattle.ipnet_c.specs.Buffers.{IsWritten, IsTooLong}
 use Rattle.ipnet_c.specs.SetReplies.{AreOctetsOf, HasAddressLen}
-use Rattle.ipnet_c.specs.TableReplies.{ArePairs, IsTableOfText, IsTableReply, IsValueFor, IsMatchReply}
+use Rattle.ipnet_c.specs.TableReplies.{ArePairs, IsTableOfText, IsTableReply, IsStoredValue, IsValueAt, IsMatchReply}
 use Rattle.ipnet_c.specs.TableReplies.{IsMatchAllReply}
 use Rattle.ipnet_c.proofs.StatusLaws.{not_other, differ}
 
 -- The values before the index are of the addresses there.
 pub record AreValuesTo (table addresses : List ℕ) (width missing index : ℕ) (old values : List ℕ) : Type 0 where
   pub as_many : length values ≡ length old
-  pub done : (i : ℕ) → i < index → (t : List (Route ℕ)) (x : Address) → IsTableImageOf table t
-      → AreOctetsOf (take width (drop (i * width) addresses)) x → IsValueFor t x missing (get_or values i 0)
+  pub done : (i : ℕ) → i < index → (x : Address) → AreOctetsOf (take width (drop (i * width) addresses)) x
+      → IsValueAt table x missing (get_or values i 0)
 
 one_width : (index width : ℕ) → (index + 1) * width - index * width ≡ width
 one_width index width = omega arith
@@ -36,19 +36,19 @@ one_width index width = omega arith
 -- one value more
 pub valued_more : (table addresses : List ℕ) (width missing index : ℕ) (old values : List ℕ) (value : ℕ)
     → AreValuesTo table addresses width missing index old values → index < length values
-    → ((t : List (Route ℕ)) (x : Address) → IsTableImageOf table t
+    → ((x : Address)
     → AreOctetsOf (take ((index + 1) * width - index * width) (drop (index * width) addresses)) x
-    → IsValueFor t x missing value)
+    → IsValueAt table x missing value)
     → AreValuesTo table addresses width missing (index + 1) old (slice_set values index value)
 valued_more table addresses width missing index old values value h within answer = record {
   as_many = length-set values index value ∙ h.as_many;
-  done = λ i less t x image octets. elim (cases_lt i index) [
-    | inl before ↦ subst (IsValueFor t x missing)
+  done = λ i less x octets. elim (cases_lt i index) [
+    | inl before ↦ subst (IsValueAt table x missing)
         (sym (get_or-set_other values index i value 0 (λ same. let wrong : ⊥ = omega (arith, same, before) in wrong)))
-        (h.done i before t x image octets)
+        (h.done i before x octets)
     | inr not ↦ let same : i ≡ index = omega (arith, less, not) in
-        subst (IsValueFor t x missing) (sym (get_or-set_at values index i value 0 same within))
-        (answer t x image (subst (λ k. AreOctetsOf (take k (drop (index * width) addresses)) x)
+        subst (IsValueAt table x missing) (sym (get_or-set_at values index i value 0 same within))
+        (answer x (subst (λ k. AreOctetsOf (take k (drop (index * width) addresses)) x)
         (sym (one_width index width)) (subst (λ j. AreOctetsOf (take width (drop (j * width) addresses)) x) same
         octets)))
   ];
@@ -140,26 +140,30 @@ address_len IPv4 a bytes e = inl (ap length e)
 address_len IPv6 a bytes e = inr (ap length e)
 
 -- the value of an address with a match, and of an address without one
-pub value_found : (octets : List ℕ) (t : List (Route ℕ)) (y x : Address) (n : Network) (missing value : ℕ)
-    → AreOctetsOf octets y → AreOctetsOf octets x → IsLongestMatch t y (n, value)
-    → ((IsCoveredBy (networks_of t) y → ⊥) → ⊥) → IsValueFor t x missing value
-value_found octets t y x n missing value of_y of_x is held =
-    subst (λ z. IsValueFor t z missing value) (address_once octets y x of_y of_x)
-    (record { some = λ h. (n, is); none = λ out. absurd (held out) })
+pub value_found : (table : List ℕ) (x : Address) (n : Network) (missing value : ℕ) → IsStoredRoute table (n, value)
+    → InBlock n x → ((t : List (Route ℕ)) → IsTableImageOf table t → IsLongestMatch t x (n, value))
+    → ((t : List (Route ℕ)) → IsTableImageOf table t → (IsCoveredBy (networks_of t) x → ⊥) → ⊥)
+    → IsValueAt table x missing value
+value_found table x n missing value stored holds found held = record {
+  of_table = λ t image. record { some = λ h. (n, found t image); none = λ out. absurd (held t image out) };
+  of_bytes = inr (record { network = n; stored = stored; holds = holds });
+}
 
-pub value_missing : (octets : List ℕ) (t : List (Route ℕ)) (y x : Address) (missing : ℕ) → AreOctetsOf octets y
-    → AreOctetsOf octets x → (IsCoveredBy (networks_of t) y → ⊥) → IsValueFor t x missing missing
-value_missing octets t y x missing of_y of_x out =
-    subst (λ z. IsValueFor t z missing missing) (address_once octets y x of_y of_x)
-    (record { some = λ h. absurd (out h); none = λ h. refl })
+pub value_missing : (table : List ℕ) (x : Address) (missing : ℕ)
+    → ((t : List (Route ℕ)) → IsTableImageOf table t → IsCoveredBy (networks_of t) x → ⊥)
+    → IsValueAt table x missing missing
+value_missing table x missing out = record {
+  of_table = λ t image. record { some = λ h. absurd (out t image h); none = λ h. refl };
+  of_bytes = inl refl;
+}
 
 -- a match, and none
 pub match_found : (table bytes octets : List ℕ) (y : Address) (n : Network) (old value : ℕ) → bytes ≡ table
     → HasTableHeader bytes → AreOctetsOf octets y
     → ((t : List (Route ℕ)) → IsTableImageOf bytes t → IsLongestMatch t y (n, value))
     → ((t : List (Route ℕ)) → IsTableImageOf bytes t → (IsCoveredBy (networks_of t) y → ⊥) → ⊥)
-    → IsMatchReply table octets old value 1
-match_found table bytes octets y n old value same header of_y found held = record {
+    → IsStoredValue bytes y value → IsMatchReply table octets old value 1
+match_found table bytes octets y n old value same header of_y found held stored = record {
   some = λ t x image of_x e. (
     n,
     subst (λ z. IsLongestMatch t z (n, value)) (address_once octets y x of_y of_x)
@@ -170,6 +174,7 @@ match_found table bytes octets y n old value same header of_y found held = recor
     λ out. absurd (held t (subst (λ z. IsTableImageOf z t) (sym same) image)
         (subst (λ z. IsCoveredBy (networks_of t) z → ⊥) (sym (address_once octets y x of_y of_x)) out)),
   );
+  stored = λ x of_x e. subst₂ (λ b z. IsStoredValue b z value) same (address_once octets y x of_y of_x) stored;
   known = λ l h. inr refl;
   wrong_length = (
     λ e. absurd (differ 1 6 refl e),
@@ -190,6 +195,7 @@ match_missing table bytes octets y old same header of_y out = record {
         (out t (subst (λ z. IsTableImageOf z t) (sym same) image)),
     λ no. refl,
   );
+  stored = λ x of_x e. absurd (differ 0 1 refl e);
   known = λ l h. inl refl;
   wrong_length = (
     λ e. absurd (differ 0 6 refl e),

@@ -12,8 +12,8 @@ use Rattle.std.specs.declared.net.ip_addr.IpAddr.{IpAddr}
 use Rattle.ipnet_base.specs.Address.{Address, IsAddress, ip_address}
 use Rattle.ipnet.specs.declared.parser.Grammar.TheVariants.{Strict}
 use Rattle.ipnet.proofs.ValidTexts.{text_is_network}
-use Rattle.netset_lib.specs.Entries.{IsAddressText, ReadsAs}
-use Rattle.netset_lib.proofs.EntryTexts.{with_length, with_32}
+use Rattle.ipnet_lists.specs.Entries.{IsAddressText, ReadsAs}
+use Rattle.ipnet_lists.proofs.EntryTexts.{with_length, with_32}
 use Rattle.ipnet_c.specs.Rows.{AreRows, row_bytes, written_family, written_octets}
 use Rattle.ipnet_c.specs.TextRows.{IsRowRead, AreRowsRead, column, count_bad, HasLines, AreEndedLines, IsLinesReply}
 use Rattle.ipnet_c.proofs.LineTexts.{first_line, has_line_end}

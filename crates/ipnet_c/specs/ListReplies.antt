@@ -4,7 +4,7 @@ use Rattle.std.specs.Prelude.{◌≡◌, ◌≢◌, ℕ, ◌⊎◌, List, [], �
 use Rattle.ipnet.specs.declared.parser.Grammar.{Grammar}
 use Rattle.ipnet_sets.specs.declared.set.IpSet.{IpSet}
 use Rattle.ipnet_sets.specs.Members.{IsMember}
-use Rattle.netset_lib.specs.Lists.{ListEntry, Refusal, IsListRead, HaveAddresses}
+use Rattle.ipnet_lists.specs.Lists.{ListEntry, Refusal, IsListRead, HaveAddresses}
 use Rattle.ipnet_c.specs.Statuses as statuses
 use Rattle.ipnet_c.specs.Buffers.{IsWritten, IsTooLong}
 use Rattle.ipnet_c.specs.SetReplies.{IsImageWith}

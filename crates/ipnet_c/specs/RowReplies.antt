@@ -5,12 +5,11 @@ use Rattle.ipnet.specs.Address.{Family, IPv4, IPv6, Address, address_at}
 use Rattle.ipnet.specs.Network.{Network, InBlock, IsLeastOf}
 use Rattle.ipnet.specs.NetworkParts.{network_at}
 use Rattle.ipnet_sets.specs.Images.{HasHeader}
-use Rattle.ipnet_sets.specs.Routes.{Route}
-use Rattle.ipnet_sets.specs.TableImages.{HasTableHeader, IsTableImageOf}
+use Rattle.ipnet_routes.specs.TableImages.{HasTableHeader}
 use Rattle.ipnet_c.specs.Statuses as statuses
 use Rattle.ipnet_c.specs.Rows.{AreRows, row_bytes, IsRowOf, IsNoFamily, IsWrittenRowOf}
 use Rattle.ipnet_c.specs.SetReplies.{IsAnswerAt}
-use Rattle.ipnet_c.specs.TableReplies.{IsValueFor}
+use Rattle.ipnet_c.specs.TableReplies.{IsValueAt}
 
 -- ---- columns of numbers
 
@@ -30,8 +29,8 @@ pub record IsContainsNumbersReply (set numbers old new : List ℕ) (status : ℕ
 -- Example: of the image of 10.0.0.0/8 with 7, 167772161 and 184549377 with the missing value 9 give 7, 9.
 pub record IsMatchNumbersReply (table numbers : List ℕ) (missing : ℕ) (old new : List ℕ) (status : ℕ) : Type 0 where
   pub known : (status ≡ statuses.ok) ⊎ ((status ≡ statuses.wrong_length) ⊎ (status ≡ statuses.not_a_table))
-  pub ok : status ≡ statuses.ok → (i : ℕ) → i < length old → (t : List (Route ℕ)) → IsTableImageOf table t
-      → IsValueFor t (address_at IPv4 (slice_index numbers i)) missing (slice_index new i)
+  pub ok : status ≡ statuses.ok → (i : ℕ) → i < length old
+      → IsValueAt table (address_at IPv4 (slice_index numbers i)) missing (slice_index new i)
   pub as_many : length new ≡ length old
   pub wrong_length : (status ≡ statuses.wrong_length) ↔ (length numbers ≢ length old)
   pub not_a_table : (status ≡ statuses.not_a_table) ↔ ((length numbers ≡ length old) × ¬ (HasTableHeader table))
@@ -62,8 +61,7 @@ pub record IsContainsRowsReply (set families octets old new : List ℕ) (status 
 -- The value of the longest match of the address of a row; `missing` if no network holds it, or if the row is not an
 -- address.
 pub record IsRowValue (table : List ℕ) (family : ℕ) (bytes : List ℕ) (missing value : ℕ) : Type 0 where
-  pub address : (t : List (Route ℕ)) (x : Address) → IsTableImageOf table t → IsRowOf family bytes x
-      → IsValueFor t x missing value
+  pub address : (x : Address) → IsRowOf family bytes x → IsValueAt table x missing value
   pub none : IsNoFamily family → value ≡ missing
 
 -- The longest matches of many addresses, given by rows.

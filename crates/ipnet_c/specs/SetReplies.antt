@@ -4,7 +4,6 @@ use Rattle.std.specs.Prelude.{◌≡◌, ◌≢◌, ℕ, ◌+◌, ◌*◌, ◌^�
 use Rattle.std.specs.Prelude.{IsUtf8}
 use Rattle.ipnet.specs.Address.{IPv4, IPv6, Address, IsAddress}
 use Rattle.ipnet.specs.Network.{Network, InBlock}
-use Rattle.ipnet.specs.Blocks.{AreMaximalBlocks}
 use Rattle.ipnet.specs.Bytes.{HasWrongTaggedLen, HasUnknownVariant, HasLongTaggedPrefix}
 use Rattle.ipnet.specs.CanonicalTexts.{address_octets}
 use Rattle.ipnet.specs.declared.parser.Grammar.{Grammar}
@@ -13,8 +12,7 @@ use Rattle.ipnet_sets.specs.declared.set.IpSet.{IpSet}
 use Rattle.ipnet_sets.specs.Images.{HasHeader, IsImage, IsImageOf}
 use Rattle.ipnet_sets.specs.Members.{IsMember, IsMemberOf, IsSubset, HasAddressesOf, IsComplement, IsResultOf}
 use Rattle.ipnet_sets.specs.Members.{IsCountOf}
-use Rattle.ipnet_text.specs.LineTexts.{text_of_lines}
-use Rattle.netset_lib.specs.Answers.{AreNetworkLines, AreRangeLines}
+use Rattle.ipnet_lists.specs.SetLines.{AreNetworkLines, AreRangeLines}
 use Rattle.ipnet_c.specs.Statuses as statuses
 use Rattle.ipnet_c.specs.Buffers.{IsWritten, IsTooLong}
 use Rattle.ipnet_c.specs.Replies.{IsYesExactlyAt, AreBytesOf}

@@ -4,12 +4,12 @@
 use Rattle.std.specs.Prelude.{◌≡◌, ◌≢◌, ℕ, ◌*◌, ◌<◌, ◌↔◌, ◌⊎◌, List, map, length, take, drop, slice_index}
 use Rattle.std.specs.Prelude.{IsUtf8}
 use Rattle.ipnet.specs.Address.{Address}
-use Rattle.ipnet.specs.Network.{Network}
+use Rattle.ipnet.specs.Network.{Network, InBlock}
 use Rattle.ipnet.specs.Blocks.{IsCoveredBy}
 use Rattle.ipnet.specs.declared.parser.Grammar.TheVariants.{Strict}
 use Rattle.ipnet.specs.Lines.{lines_of, AreNetworksOf, IsFirstBadLine}
-use Rattle.ipnet_sets.specs.Routes.{Route, networks_of, IsTableOf, IsLongestMatch}
-use Rattle.ipnet_sets.specs.TableImages.{HasTableHeader, IsTableImageOf, IsTableImage}
+use Rattle.ipnet_routes.specs.Routes.{Route, networks_of, IsTableOf, IsLongestMatch}
+use Rattle.ipnet_routes.specs.TableImages.{HasTableHeader, IsStoredRoute, IsTableImageOf, IsTableImage}
 use Rattle.ipnet_c.specs.Statuses as statuses
 use Rattle.ipnet_c.specs.Buffers.{IsWritten, IsTooLong}
 use Rattle.ipnet_c.specs.SetReplies.{AreOctetsOf, HasAddressLen, AreAddresses}
@@ -68,13 +68,30 @@ pub record IsValueFor (t : List (Route ℕ)) (x : Address) (missing value : ℕ)
   pub some : IsCoveredBy (networks_of t) x → (n : Network) × IsLongestMatch t x (n, value)
   pub none : ¬ (IsCoveredBy (networks_of t) x) → value ≡ missing
 
+-- The bytes hold a route with this value, and its network contains the address. The bytes need not be the image of a
+-- table.
+-- Example: the image of 10.0.0.0/8 with 7 has 7 for 10.0.0.1, and nothing for 11.0.0.1.
+pub record IsStoredValue (table : List ℕ) (x : Address) (value : ℕ) : Type 0 where
+  pub network : Network
+  pub stored : IsStoredRoute table (network, value)
+  pub holds : InBlock network x
+
+-- If the bytes are the image of a table, the number is the value of the longest match of the address. It is `missing`
+-- if no network of the table holds the address. Whatever the bytes are, it is `missing` or the value of a route in the
+-- bytes whose network contains the address.
+pub record IsValueAt (table : List ℕ) (x : Address) (missing value : ℕ) : Type 0 where
+  pub of_table : (t : List (Route ℕ)) → IsTableImageOf table t → IsValueFor t x missing value
+  pub of_bytes : (value ≡ missing) ⊎ IsStoredValue table x value
+
 -- The longest match of an address: the status is 1 and `value` its value, or 0, or says why there is no answer.
+-- Whatever the bytes of the table are, a value comes from a route in them whose network contains the address.
 -- Example: of the image of 10.0.0.0/8 with 7, 10, 0, 0, 1 gives 1 and 7, and 11, 0, 0, 1 gives 0.
 pub record IsMatchReply (table address : List ℕ) (value_old value status : ℕ) : Type 0 where
   pub some : (t : List (Route ℕ)) (x : Address) → IsTableImageOf table t → AreOctetsOf address x → status ≡ 1
       → (n : Network) × IsLongestMatch t x (n, value)
   pub none : (t : List (Route ℕ)) (x : Address) → IsTableImageOf table t → AreOctetsOf address x
       → (status ≡ 0) ↔ ¬ (IsCoveredBy (networks_of t) x)
+  pub stored : (x : Address) → AreOctetsOf address x → status ≡ 1 → IsStoredValue table x value
   pub known : HasAddressLen address → HasTableHeader table → (status ≡ 0) ⊎ (status ≡ 1)
   pub wrong_length : (status ≡ statuses.wrong_length) ↔ ¬ (HasAddressLen address)
   pub not_a_table : (status ≡ statuses.not_a_table) ↔ (HasAddressLen address × ¬ (HasTableHeader table))
@@ -84,9 +101,8 @@ pub record IsMatchReply (table address : List ℕ) (value_old value status : ℕ
 -- of the address in `new` is the value of its longest match, or `missing`.
 pub record IsMatchAllReply (table addresses : List ℕ) (width missing : ℕ) (old new : List ℕ) (status : ℕ) : Type 0 where
   pub known : (status ≡ statuses.ok) ⊎ ((status ≡ statuses.wrong_length) ⊎ (status ≡ statuses.not_a_table))
-  pub ok : status ≡ statuses.ok → (i : ℕ) → i < length old → (t : List (Route ℕ)) (x : Address)
-      → IsTableImageOf table t → AreOctetsOf (take width (drop (i * width) addresses)) x
-      → IsValueFor t x missing (slice_index new i)
+  pub ok : status ≡ statuses.ok → (i : ℕ) → i < length old → (x : Address)
+      → AreOctetsOf (take width (drop (i * width) addresses)) x → IsValueAt table x missing (slice_index new i)
   pub as_many : length new ≡ length old
   pub wrong_length : (status ≡ statuses.wrong_length) ↔ ¬ (AreAddresses addresses width (length old))
   pub not_a_table : (status ≡ statuses.not_a_table)

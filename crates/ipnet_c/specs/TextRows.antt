@@ -4,7 +4,7 @@ use Rattle.std.specs.Prelude.{drop, slice_index, slice_index_or, filter, All, Op
 use Rattle.ipnet.specs.Address.{Address}
 use Rattle.ipnet.specs.declared.parser.Grammar.TheVariants.{Strict}
 use Rattle.ipnet_sets.specs.Images.{number_from}
-use Rattle.netset_lib.specs.Entries.{IsAddressText, ReadsAs}
+use Rattle.ipnet_lists.specs.Entries.{IsAddressText, ReadsAs}
 use Rattle.ipnet_c.specs.Statuses as statuses
 use Rattle.ipnet_c.specs.Rows.{AreRows, IsWrittenRow}
 

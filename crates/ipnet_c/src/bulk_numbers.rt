@@ -1,15 +1,14 @@
 //! Columns of IPv4 addresses as numbers: one call for all of them.
-ghost use Rattle.std.specs.Prelude.{◌≡◌, ℕ, ◌+◌, ◌<◌, ◌≤◌, List, length, slice_index};
+ghost use Rattle.std.specs.Prelude.{◌≡◌, ℕ, ◌+◌, ◌<◌, ◌≤◌, length, slice_index};
 ghost use Rattle.ipnet_base.specs.Address.{IPv4, address_at};
-ghost use Rattle.ipnet_sets.specs.Routes.{Route};
-ghost use Rattle.ipnet_sets.specs.TableImages.{IsTableImageOf};
 ghost use Rattle.ipnet_c.specs.SetReplies.{IsAnswerAt};
-ghost use Rattle.ipnet_c.specs.TableReplies.{IsValueFor};
+ghost use Rattle.ipnet_c.specs.TableReplies.{IsValueAt};
 ghost use Rattle.ipnet_c.specs.RowReplies.{IsContainsNumbersReply, IsMatchNumbersReply};
 
 use crate::statuses::{NOT_A_SET, NOT_A_TABLE, OK, WRONG_LENGTH};
 use ipnet::{IpAddr, Ipv4Addr};
-use ipnet_sets::{IpSetImage, RouteTableImage};
+use ipnet_routes::RouteTableImage;
+use ipnet_sets::IpSetImage;
 
 /// Returns 1 if the set of the image contains the IPv4 address with this number, and 0 if it does not.
 fn number_answer(image: &IpSetImage<'_>, number: u32) -> u8
@@ -69,8 +68,7 @@ pub extern "C" fn ipnet_set_contains_u32(set: &[u8], addresses: &[u32], answers:
 /// Returns the value of the longest match for the IPv4 address with this number, or `missing` if there is none.
 #[inline(always)]
 fn number_value(image: &RouteTableImage<'_>, number: u32, missing: u32) -> u32
-    ensures { (t : List (Route ℕ)) → IsTableImageOf image.now.table.bytes.now t
-        → IsValueFor t (address_at IPv4 number) missing result }
+    ensures { IsValueAt image.now.table.bytes.now (address_at IPv4 number) missing result }
 {
     match image.longest_match(&IpAddr::V4(Ipv4Addr::from_bits(number))) {
         Some(route) => route.1,

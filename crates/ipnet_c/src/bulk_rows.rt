@@ -10,7 +10,8 @@ ghost use Rattle.ipnet_c.specs.RowReplies.{length_for, IsTruncatedRow, IsTruncat
 use crate::row_form::{are_rows, padded_octets, read_row, write_octets};
 use crate::statuses::{NOT_A_SET, NOT_A_TABLE, OK, PREFIX_TOO_LONG, WRONG_LENGTH};
 use ipnet::{IpAddr, IpNet, Ipv4Addr};
-use ipnet_sets::{IpSetImage, RouteTableImage};
+use ipnet_routes::RouteTableImage;
+use ipnet_sets::IpSetImage;
 
 /// The answer for a row that is not an address.
 const NO_ADDRESS: u8 = 2;

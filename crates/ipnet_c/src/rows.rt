@@ -4,7 +4,7 @@ ghost use Rattle.std.specs.Prelude.{[], ◌∷◌, length, take, filter, option_
 ghost use Rattle.ipnet_base.specs.Address.{ip_address};
 ghost use Rattle.ipnet.specs.declared.parser.Grammar.TheVariants.{Strict};
 ghost use Rattle.memchr.specs.Find.{IsFirstByte, is_byte};
-ghost use Rattle.netset_lib.specs.Entries.{IsAddressText, ReadsAs};
+ghost use Rattle.ipnet_lists.specs.Entries.{IsAddressText, ReadsAs};
 ghost use Rattle.ipnet_c.specs.Rows.{AreRows, row_bytes, written_family, written_octets};
 ghost use Rattle.ipnet_c.specs.TextRows.{column, IsEnded, HasLines, IsLinesReply, AreOffsets, offset_at, AreAscending};
 ghost use Rattle.ipnet_c.specs.TextRows.{IsOffsetsReply};
@@ -12,10 +12,10 @@ ghost use Rattle.ipnet_c.specs.TextRows.{IsOffsetsReply};
 use crate::row_form::{are_rows, padded_octets, write_octets};
 use crate::statuses::{BAD_OFFSETS, OK, WRONG_LENGTH};
 use ipnet::{Grammar, IpAddr};
+use ipnet_lists::parse_address;
 use ipnet_sets::{read_u32, read_u64};
 use ipnet_text::ipv4_addr_at;
 use memchr::memchr;
-use netset_lib::parse_address;
 use std::str;
 
 /// Returns the address that the whole text is in the strict grammar, or `None` if it is not an address.

@@ -9,8 +9,8 @@ use crate::buffers::write_to_buffer;
 use crate::lists::set_of_text;
 use crate::statuses::{NOT_A_SET, OTHER_NOT_A_SET, OUT_OF_MEMORY};
 use ipnet::Grammar;
+use ipnet_lists::{network_lines, range_lines};
 use ipnet_sets::{IpSetRef, Operation};
-use netset_lib::{network_lines, range_lines};
 use std::alloc::{AllocError, Global};
 
 /// Writes the image of the addresses of a text in this grammar into the buffer, and its length into `count`.

@@ -5,7 +5,7 @@ ghost use Rattle.ipnet_c.specs.ListReplies.{IsListReply};
 use crate::buffers::write_to_buffer;
 use crate::statuses::{BAD_LINE, OUT_OF_MEMORY};
 use ipnet::Grammar;
-use netset_lib::read_list_text;
+use ipnet_lists::read_list_text;
 use std::alloc::Global;
 
 /// Writes the image of the addresses of a list as people keep it, in this grammar, into the buffer, and its length into

@@ -3,14 +3,14 @@ ghost use Rattle.std.specs.Prelude.{IfOk, string_bytes};
 ghost use Rattle.ipnet_sets.specs.declared.operation.Operation.TheVariants.{Union, Intersection, Difference};
 ghost use Rattle.ipnet_sets.specs.declared.set.IpSet.{IpSet as SetValue};
 ghost use Rattle.ipnet_sets.specs.Members.{IsMember, IsResultOf};
-ghost use Rattle.netset_lib.specs.Answers.{AreNetworkLines};
+ghost use Rattle.ipnet_lists.specs.SetLines.{AreNetworkLines};
 ghost use Rattle.ipnet_c.specs.Replies.{IsSetReply};
 
 use crate::buffers::write_to_buffer;
 use crate::lists::sets_of_texts;
 use crate::statuses::OUT_OF_MEMORY;
+use ipnet_lists::network_lines;
 use ipnet_sets::{IpSet, Operation};
-use netset_lib::network_lines;
 use std::alloc::{AllocError, Global};
 
 /// Returns the text of the result of the operation on the two sets.

@@ -1,11 +1,10 @@
 //! Tables of routes as images: the bytes of a table, which the caller keeps, and the longest match for an address.
-ghost use Rattle.std.specs.Prelude.{◌≡◌, ℕ, List, map, length, IfOk};
+ghost use Rattle.std.specs.Prelude.{◌≡◌, map, length, IfOk};
 ghost use Rattle.ipnet_base.specs.Address.{Address};
 ghost use Rattle.ipnet.specs.NetworkOf.{ip_network};
-ghost use Rattle.ipnet_sets.specs.Routes.{Route, ip_routes};
-ghost use Rattle.ipnet_sets.specs.TableImages.{IsTableImageOf};
+ghost use Rattle.ipnet_routes.specs.Routes.{ip_routes};
 ghost use Rattle.ipnet_c.specs.SetReplies.{AreOctetsOf};
-ghost use Rattle.ipnet_c.specs.TableReplies.{ArePairs, IsTableWith, IsValueFor, IsTableReply, IsTableCountReply};
+ghost use Rattle.ipnet_c.specs.TableReplies.{ArePairs, IsTableWith, IsValueAt, IsTableReply, IsTableCountReply};
 ghost use Rattle.ipnet_c.specs.TableReplies.{IsTableCheckReply, IsMatchReply, IsMatchAllReply};
 
 use crate::buffers::write_to_buffer;
@@ -13,7 +12,7 @@ use crate::lists::read_networks;
 use crate::set_questions::{are_items, read_address};
 use crate::statuses::{BAD_LINE, NOT_A_TABLE, NOT_UTF8, OK, OUT_OF_MEMORY, WRONG_LENGTH};
 use ipnet::IpNet;
-use ipnet_sets::{RouteTable, RouteTableImage, RouteTableRef};
+use ipnet_routes::{RouteTable, RouteTableImage, RouteTableRef};
 use ipnet_text::ToolError;
 use std::alloc::{AllocError, Global};
 use std::str;
@@ -159,8 +158,7 @@ pub extern "C" fn ipnet_table_longest_match(table: &[u8], address: &[u8], value:
 /// Returns the value of the longest match for the address of these octets, or `missing` if there is none.
 #[inline(always)]
 fn value_for(image: &RouteTableImage<'_>, octets: &[u8], missing: u32) -> u32
-    ensures { (t : List (Route ℕ)) (x : Address) → IsTableImageOf image.now.table.bytes.now t → AreOctetsOf octets.now x
-        → IsValueFor t x missing result }
+    ensures { (x : Address) → AreOctetsOf octets.now x → IsValueAt image.now.table.bytes.now x missing result }
 {
     match read_address(octets) {
         Some(address) => match image.longest_match(&address) {

@@ -11,7 +11,7 @@ use Rattle.ipnet_base.proofs.DecidedLaws.{IsDecided}
 use Rattle.ipnet_base.proofs.ExactCoverLaws.{IsExactCover-of_maximal}
 use Rattle.ipnet.specs.NetworkParts.{network_at}
 use Rattle.ipnet_sets.proofs.SetRangeLaws.{any_cases, any_here, any_there}
-use Rattle.ipnet_pictures.specs.Parts.{HasSome, HasAll}
+use Rattle.ipnet_bars.specs.Parts.{HasSome, HasAll}
 use Rattle.ipnet_maps.specs.Cells.{IsInCell, widened}
 
 -- ---- the cell of an address

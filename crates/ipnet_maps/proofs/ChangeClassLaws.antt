@@ -8,9 +8,9 @@ use Rattle.ipnet_base.specs.Blocks.{IsInEither}
 use Rattle.ipnet_base.proofs.BlockLaws.{own, own_in}
 use Rattle.ipnet_base.proofs.DecidedLaws.{IsDecided, block_decided}
 use Rattle.ipnet_base.proofs.ListLaws.{contains_here, contains_there}
-use Rattle.ipnet_pictures.specs.declared.change.Change.TheVariants as change
-use Rattle.ipnet_pictures.specs.Parts.{HasSome, HasNone, HasAll}
-use Rattle.ipnet_pictures.specs.Changes.{IsOnlyIn, IsChange}
+use Rattle.ipnet_bars.specs.declared.change.Change.TheVariants as change
+use Rattle.ipnet_bars.specs.Parts.{HasSome, HasNone, HasAll}
+use Rattle.ipnet_bars.specs.Changes.{IsOnlyIn, IsChange}
 use Rattle.ipnet_maps.specs.declared.drawing.Class.{Class}
 use Rattle.ipnet_maps.specs.declared.drawing.Class.TheVariants.{Removed, Added, Mixed, KeptPart, KeptWhole}
 use Rattle.ipnet_maps.specs.Cells.{IsKeptPart, IsKeptWhole}

@@ -4,9 +4,9 @@ use Rattle.ipnet_base.specs.Address.{Address}
 use Rattle.ipnet_base.specs.Network.{InBlock}
 use Rattle.ipnet_base.proofs.DecidedLaws.{IsDecided}
 use Rattle.ipnet.specs.NetworkParts.{network_at}
-use Rattle.ipnet_pictures.specs.declared.change.Change.TheVariants.{Removed, Mixed}
-use Rattle.ipnet_pictures.specs.Changes.{IsOnlyIn, IsChange}
-use Rattle.ipnet_pictures.specs.Parts.{HasSome, HasAll}
+use Rattle.ipnet_bars.specs.declared.change.Change.TheVariants.{Removed, Mixed}
+use Rattle.ipnet_bars.specs.Changes.{IsOnlyIn, IsChange}
+use Rattle.ipnet_bars.specs.Parts.{HasSome, HasAll}
 use Rattle.ipnet_maps.specs.Cells.{IsInCell, IsKeptPart, IsKeptWhole}
 use Rattle.ipnet_maps.proofs.CellLaws.{some_same}
 

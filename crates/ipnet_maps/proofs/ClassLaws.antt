@@ -11,12 +11,12 @@ use Rattle.ipnet_base.proofs.ListLaws.{all_at, contains_nil, contains_here, cont
 use Rattle.ipnet_base.proofs.ListLaws.{pairs_head, pairs_tail, pairs_cons}
 use Rattle.ipnet_sets.specs.Members.{IsCountOf}
 use Rattle.ipnet_sets.proofs.CountSums.{one_count}
-use Rattle.ipnet_pictures.specs.declared.share.Level.{Level}
-use Rattle.ipnet_pictures.specs.declared.share.Level.TheVariants as level
+use Rattle.ipnet_bars.specs.declared.share.Level.{Level}
+use Rattle.ipnet_bars.specs.declared.share.Level.TheVariants as level
 use Rattle.ipnet_sets.specs.Parts.{IsInPart}
-use Rattle.ipnet_pictures.specs.Parts.{HasSome, HasNone, IsLevelOf, block_size}
-use Rattle.ipnet_pictures.specs.Shares.{IsShare}
-use Rattle.ipnet_pictures.proofs.PartLaws.{same_count, block_counted, part_fits, nothing_counted, nothing_shown}
+use Rattle.ipnet_bars.specs.Parts.{HasSome, HasNone, IsLevelOf, block_size}
+use Rattle.ipnet_bars.specs.Shares.{IsShare}
+use Rattle.ipnet_bars.proofs.PartLaws.{same_count, block_counted, part_fits, nothing_counted, nothing_shown}
 use Rattle.ipnet_maps.specs.declared.drawing.Class.{Class}
 use Rattle.ipnet_maps.specs.declared.drawing.Class.TheVariants.{BelowThird, FromThird, FromTwoThirds, Whole, Removed}
 use Rattle.ipnet_maps.specs.Classes.{HasLevelClass, level_classes}

@@ -22,7 +22,7 @@ use Rattle.ipnet_base.proofs.UniqueLaws.{AreMaximalBlocks-same_set, maximal_bloc
 use Rattle.ipnet.specs.NetworkParts.{network_at}
 use Rattle.ipnet_sets.specs.Members.{IsMember}
 use Rattle.ipnet_sets.proofs.SetRangeLaws.{any_cases, any_here, any_there}
-use Rattle.ipnet_pictures.specs.Parts.{HasSome}
+use Rattle.ipnet_bars.specs.Parts.{HasSome}
 use Rattle.ipnet_maps.specs.declared.layout.Rectangle.{Rectangle}
 use Rattle.ipnet_maps.specs.declared.drawing.Class.{Class}
 use Rattle.ipnet_maps.specs.declared.drawing.Layer.{Layer}

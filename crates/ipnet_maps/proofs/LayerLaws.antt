@@ -8,7 +8,7 @@ use Rattle.ipnet_base.specs.Address.{Address}
 use Rattle.ipnet_base.specs.Network.{Network}
 use Rattle.ipnet_base.specs.Blocks.{AreMaximalBlocks}
 use Rattle.ipnet_base.proofs.UniqueLaws.{AreMaximalBlocks-unique}
-use Rattle.ipnet_pictures.proofs.PartLaws.{zip_push}
+use Rattle.ipnet_bars.proofs.PartLaws.{zip_push}
 use Rattle.ipnet_maps.specs.Drawings.{total_of}
 
 -- one more pair

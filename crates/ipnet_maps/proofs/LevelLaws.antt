@@ -12,12 +12,12 @@ use Rattle.ipnet.specs.NetworkOf.{ip_network}
 use Rattle.ipnet_sets.specs.Members.{IsCountOf}
 use Rattle.ipnet_sets.specs.Pushed.{IsPushed}
 use Rattle.ipnet_sets.proofs.CountSums.{one_count}
-use Rattle.ipnet_pictures.specs.declared.share.Level.{Level}
-use Rattle.ipnet_pictures.specs.declared.share.Level.TheVariants.{Nothing, BelowThird, FromThird, FromTwoThirds, Whole}
+use Rattle.ipnet_bars.specs.declared.share.Level.{Level}
+use Rattle.ipnet_bars.specs.declared.share.Level.TheVariants.{Nothing, BelowThird, FromThird, FromTwoThirds, Whole}
 use Rattle.ipnet_sets.specs.Parts.{IsInPart}
-use Rattle.ipnet_pictures.specs.Parts.{HasSome, IsLevelOf, block_size}
-use Rattle.ipnet_pictures.specs.Shares.{IsShare}
-use Rattle.ipnet_pictures.proofs.PartLaws.{same_count, block_counted, most_addresses}
+use Rattle.ipnet_bars.specs.Parts.{HasSome, IsLevelOf, block_size}
+use Rattle.ipnet_bars.specs.Shares.{IsShare}
+use Rattle.ipnet_bars.proofs.PartLaws.{same_count, block_counted, most_addresses}
 use Rattle.ipnet_maps.specs.declared.levels.KnownCells.{KnownCells}
 use Rattle.ipnet_maps.specs.declared.levels.OpenCell.{OpenCell}
 use Rattle.ipnet_maps.specs.LevelSteps.{IsPushedAs}

@@ -3,13 +3,13 @@ use Rattle.std.proofs.Common.{ℕ, ◌-◌, ◌<◌, ◌≤◌, arith}
 use Rattle.std.proofs.lemmas.Nat.{pow_pos}
 use Rattle.ipnet_base.specs.Address.{Address, width}
 use Rattle.ipnet_base.specs.Network.{Network}
-use Rattle.ipnet_pictures.specs.declared.share.Level.{Level}
-use Rattle.ipnet_pictures.specs.declared.share.Level.TheVariants.{Nothing, BelowThird, FromThird}
-use Rattle.ipnet_pictures.specs.declared.share.Level.TheVariants.{FromTwoThirds, Whole}
+use Rattle.ipnet_bars.specs.declared.share.Level.{Level}
+use Rattle.ipnet_bars.specs.declared.share.Level.TheVariants.{Nothing, BelowThird, FromThird}
+use Rattle.ipnet_bars.specs.declared.share.Level.TheVariants.{FromTwoThirds, Whole}
 use Rattle.ipnet_sets.specs.Parts.{IsInPart}
-use Rattle.ipnet_pictures.specs.Parts.{IsLevelOf, block_size}
-use Rattle.ipnet_pictures.specs.Shares.{IsShare}
-use Rattle.ipnet_pictures.proofs.PartLaws.{no_more, part_fits}
+use Rattle.ipnet_bars.specs.Parts.{IsLevelOf, block_size}
+use Rattle.ipnet_bars.specs.Shares.{IsShare}
+use Rattle.ipnet_bars.proofs.PartLaws.{no_more, part_fits}
 use Rattle.ipnet_maps.specs.Levels.{place_of}
 
 -- more addresses of a block have no lower level

@@ -3,9 +3,9 @@ use Rattle.std.specs.Prelude.{ℕ, min}
 use Rattle.ipnet_base.specs.Address.{Address, IsAddress}
 use Rattle.ipnet_base.specs.Network.{Network}
 use Rattle.ipnet.specs.NetworkParts.{network_at}
-use Rattle.ipnet_pictures.specs.declared.change.Change.TheVariants.{Unchanged}
-use Rattle.ipnet_pictures.specs.Changes.{IsChange}
-use Rattle.ipnet_pictures.specs.Parts.{HasAll}
+use Rattle.ipnet_bars.specs.declared.change.Change.TheVariants.{Unchanged}
+use Rattle.ipnet_bars.specs.Changes.{IsChange}
+use Rattle.ipnet_bars.specs.Parts.{HasAll}
 
 -- The address is in a cell with this property, in a map whose cells have this prefix length. The cell of an address is
 -- the block of the network of the address and this prefix length.

@@ -4,10 +4,10 @@ use Rattle.ipnet_base.specs.Address.{Address}
 use Rattle.ipnet_base.specs.Network.{Network}
 use Rattle.ipnet_sets.specs.declared.set.IpSet.{IpSet}
 use Rattle.ipnet_sets.specs.Members.{IsMember}
-use Rattle.ipnet_pictures.specs.declared.share.Level.TheVariants as level
-use Rattle.ipnet_pictures.specs.declared.change.Change.TheVariants as change
-use Rattle.ipnet_pictures.specs.Parts.{HasSome, HasNone, HasAll, IsLevelOf}
-use Rattle.ipnet_pictures.specs.Changes.{IsChange}
+use Rattle.ipnet_bars.specs.declared.share.Level.TheVariants as level
+use Rattle.ipnet_bars.specs.declared.change.Change.TheVariants as change
+use Rattle.ipnet_bars.specs.Parts.{HasSome, HasNone, HasAll, IsLevelOf}
+use Rattle.ipnet_bars.specs.Changes.{IsChange}
 use Rattle.ipnet_maps.specs.declared.drawing.Class.{Class}
 use Rattle.ipnet_maps.specs.declared.drawing.Class.TheVariants.{BelowThird, FromThird, FromTwoThirds, Whole}
 use Rattle.ipnet_maps.specs.declared.drawing.Class.TheVariants.{Removed, Added, Mixed, KeptPart, KeptWhole}

@@ -5,7 +5,7 @@ use Rattle.ipnet_base.specs.Address.{Address, width}
 use Rattle.ipnet_base.specs.Network.{Network, InBlock}
 use Rattle.ipnet_base.specs.Blocks.{AreMaximalBlocks}
 use Rattle.ipnet.specs.NetworkParts.{network_at}
-use Rattle.ipnet_pictures.specs.Parts.{HasSome}
+use Rattle.ipnet_bars.specs.Parts.{HasSome}
 use Rattle.ipnet_maps.specs.declared.layout.Rectangle.{Rectangle}
 use Rattle.ipnet_maps.specs.declared.drawing.Class.{Class}
 use Rattle.ipnet_maps.specs.declared.drawing.Layer.{Layer}

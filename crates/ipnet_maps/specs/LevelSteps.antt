@@ -4,10 +4,10 @@ use Rattle.ipnet_base.specs.Address.{Address}
 use Rattle.ipnet_base.specs.Network.{Network, InBlock, IsSubnetOf}
 use Rattle.ipnet.specs.NetworkOf.{ip_network}
 use Rattle.ipnet_sets.specs.Pushed.{IsPushed}
-use Rattle.ipnet_pictures.specs.declared.share.Level.{Level}
-use Rattle.ipnet_pictures.specs.declared.share.Level.TheVariants.{Nothing, BelowThird, FromThird, FromTwoThirds, Whole}
-use Rattle.ipnet_pictures.specs.Parts.{block_size}
-use Rattle.ipnet_pictures.specs.Shares.{IsShare}
+use Rattle.ipnet_bars.specs.declared.share.Level.{Level}
+use Rattle.ipnet_bars.specs.declared.share.Level.TheVariants.{Nothing, BelowThird, FromThird, FromTwoThirds, Whole}
+use Rattle.ipnet_bars.specs.Parts.{block_size}
+use Rattle.ipnet_bars.specs.Shares.{IsShare}
 use Rattle.ipnet_maps.specs.declared.levels.KnownCells.{KnownCells}
 use Rattle.ipnet_maps.specs.declared.levels.OpenCell.{OpenCell}
 

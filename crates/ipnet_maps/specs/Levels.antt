@@ -1,7 +1,7 @@
 -- Levels: their order.
 use Rattle.std.specs.Prelude.{ℕ}
-use Rattle.ipnet_pictures.specs.declared.share.Level.{Level}
-use Rattle.ipnet_pictures.specs.declared.share.Level.TheVariants.{Nothing, BelowThird, FromThird, FromTwoThirds, Whole}
+use Rattle.ipnet_bars.specs.declared.share.Level.{Level}
+use Rattle.ipnet_bars.specs.declared.share.Level.TheVariants.{Nothing, BelowThird, FromThird, FromTwoThirds, Whole}
 
 -- The place of the level among all levels, from 0. Example: 0 for `Nothing`, and 4 for `Whole`.
 abbrev pub place_of : Level → ℕ

@@ -3,7 +3,7 @@ use Rattle.std.specs.Prelude.{◌≡◌, ℕ, ◌<◌, List, length, All, AllPai
 use Rattle.ipnet_base.specs.Address.{Address, IsAddressBefore}
 use Rattle.ipnet_base.specs.Network.{Network, InBlock}
 use Rattle.ipnet.specs.NetworkParts.{network_at}
-use Rattle.ipnet_pictures.specs.Parts.{HasNone}
+use Rattle.ipnet_bars.specs.Parts.{HasNone}
 
 -- A whole cell lies between the two blocks: all its addresses come after the first block, and before the second.
 -- Example: with cells of length 24, 10.0.1.0/24 lies between 10.0.0.9/32 and 10.0.2.0/32.

@@ -3,7 +3,7 @@ ghost use Rattle.std.specs.Prelude.{◌≡◌, ◌↔◌, IfOk};
 ghost use Rattle.ipnet_base.specs.Address.{Address};
 ghost use Rattle.ipnet.specs.NetworkOf.{ip_network};
 ghost use Rattle.ipnet_sets.specs.Members.{IsMember};
-ghost use Rattle.ipnet_pictures.specs.Parts.{HasSome, HasAll};
+ghost use Rattle.ipnet_bars.specs.Parts.{HasSome, HasAll};
 ghost use Rattle.ipnet_maps.specs.Cells.{IsInCell, widened};
 
 use ipnet::IpNet;

@@ -2,8 +2,8 @@
 ghost use Rattle.std.specs.Prelude.{◌↔◌, IfOk};
 ghost use Rattle.ipnet_base.specs.Address.{Address};
 ghost use Rattle.ipnet_sets.specs.Members.{IsMember};
-ghost use Rattle.ipnet_pictures.specs.declared.change.Change.TheVariants.{Removed, Added, Mixed};
-ghost use Rattle.ipnet_pictures.specs.Changes.{IsChange};
+ghost use Rattle.ipnet_bars.specs.declared.change.Change.TheVariants.{Removed, Added, Mixed};
+ghost use Rattle.ipnet_bars.specs.Changes.{IsChange};
 ghost use Rattle.ipnet_maps.specs.Cells.{IsInCell, IsKeptPart, IsKeptWhole};
 
 use crate::cells::{cells_with_all, cells_with_some};

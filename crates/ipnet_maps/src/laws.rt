@@ -3,9 +3,9 @@ ghost use Rattle.std.specs.Prelude.{◌≡◌, ◌↔◌, ◌⊎◌, ◌+◌, �
 ghost use Rattle.ipnet_base.specs.Network.{Network};
 ghost use Rattle.ipnet_sets.specs.declared.set.IpSet.{IpSet};
 ghost use Rattle.ipnet_sets.specs.Members.{IsMember, IsSubset};
-ghost use Rattle.ipnet_pictures.specs.declared.share.Level.{Level};
-ghost use Rattle.ipnet_pictures.specs.declared.share.Level.TheVariants.{Nothing, Whole};
-ghost use Rattle.ipnet_pictures.specs.Parts.{HasNone, HasAll, IsLevelOf};
+ghost use Rattle.ipnet_bars.specs.declared.share.Level.{Level};
+ghost use Rattle.ipnet_bars.specs.declared.share.Level.TheVariants.{Nothing, Whole};
+ghost use Rattle.ipnet_bars.specs.Parts.{HasNone, HasAll, IsLevelOf};
 ghost use Rattle.ipnet_maps.specs.declared.layout.Axis.{Axis};
 ghost use Rattle.ipnet_maps.specs.declared.layout.Rectangle.{Rectangle};
 ghost use Rattle.ipnet_maps.specs.Cuts.{columns_in, rows_in, column_of, row_of, cell_at};

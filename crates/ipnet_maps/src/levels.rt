@@ -4,17 +4,17 @@ ghost use Rattle.ipnet_base.specs.Address.{Address};
 ghost use Rattle.ipnet_base.specs.Network.{InBlock, IsSubnetOf};
 ghost use Rattle.ipnet.specs.NetworkOf.{ip_network};
 ghost use Rattle.ipnet_sets.specs.Members.{IsMember};
-ghost use Rattle.ipnet_pictures.specs.Parts.{IsLevelOf, block_size};
-ghost use Rattle.ipnet_pictures.specs.Shares.{IsShare};
-ghost use Rattle.ipnet_pictures.specs.declared.share.Level.{Level};
-ghost use Rattle.ipnet_pictures.specs.declared.share.Level.TheVariants.{Nothing, BelowThird, FromThird};
-ghost use Rattle.ipnet_pictures.specs.declared.share.Level.TheVariants.{FromTwoThirds, Whole};
+ghost use Rattle.ipnet_bars.specs.Parts.{IsLevelOf, block_size};
+ghost use Rattle.ipnet_bars.specs.Shares.{IsShare};
+ghost use Rattle.ipnet_bars.specs.declared.share.Level.{Level};
+ghost use Rattle.ipnet_bars.specs.declared.share.Level.TheVariants.{Nothing, BelowThird, FromThird};
+ghost use Rattle.ipnet_bars.specs.declared.share.Level.TheVariants.{FromTwoThirds, Whole};
 ghost use Rattle.ipnet_maps.specs.Cells.{IsInCell, widened};
 ghost use Rattle.ipnet_maps.specs.LevelSteps.{IsPushedAs, IsPushedTo, IsClosed, IsJoined, IsOpenFor};
 
 use crate::cells::widened_to;
 use ipnet::IpNet;
-use ipnet_pictures::{Level, last_place, level_of};
+use ipnet_bars::{Level, last_place, level_of};
 use ipnet_sets::{IpSet, IpSetBuilder};
 use std::alloc::{AllocError, Global};
 

@@ -3,7 +3,7 @@ ghost use Rattle.std.specs.Prelude.{◌↔◌, IfOk};
 ghost use Rattle.std.specs.List.{AllZip};
 ghost use Rattle.ipnet_base.specs.Address.{Address};
 ghost use Rattle.ipnet_sets.specs.Members.{IsMember};
-ghost use Rattle.ipnet_pictures.specs.Parts.{HasSome, HasAll};
+ghost use Rattle.ipnet_bars.specs.Parts.{HasSome, HasAll};
 ghost use Rattle.ipnet_maps.specs.Cells.{IsInCell};
 ghost use Rattle.ipnet_maps.specs.Classes.{HasSharedClass, shared_classes};
 ghost use Rattle.ipnet_maps.specs.Layers.{IsClassCells};

@@ -2,7 +2,7 @@
 ghost use Rattle.std.specs.Prelude.{◌↔◌, IfOk};
 ghost use Rattle.ipnet_base.specs.Address.{Address};
 ghost use Rattle.ipnet_sets.specs.Members.{IsMember};
-ghost use Rattle.ipnet_pictures.specs.Parts.{HasSome};
+ghost use Rattle.ipnet_bars.specs.Parts.{HasSome};
 ghost use Rattle.ipnet_maps.specs.Cells.{IsInCell};
 ghost use Rattle.ipnet_maps.specs.Shared.{IsInTwo};
 

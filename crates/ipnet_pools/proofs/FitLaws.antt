@@ -71,7 +71,7 @@ same_or_apart n k e =
 pub IsInside-of_rest : (InSet : Address → Type 0) (n k : Network) → IsInside (Without InSet n) 0 k → IsInside InSet 0 k
 IsInside-of_rest InSet n k i = IsInside-of_block (Without InSet n) InSet 0 k i (λ x a. (i.within x a).0)
 
-IsFit-of_rest : (InSet : Address → Type 0) (n k : Network) (f : Family) (q : ℕ) → IsFit (Without InSet n) f q k
+pub IsFit-of_rest : (InSet : Address → Type 0) (n k : Network) (f : Family) (q : ℕ) → IsFit (Without InSet n) f q k
     → IsFit InSet f q k
 IsFit-of_rest InSet n k f q fit = record {
   inside = IsInside-of_rest InSet n k fit.inside;

@@ -1,7 +1,7 @@
 -- The order of the keys of a set of networks, and the networks of the set after a key is added or removed.
-use Rattle.std.proofs.Common.{◌≡◌, ◌⊎◌, ◌↔◌, Bool, true, false, List, Contains, inl, inr, map}
+use Rattle.std.proofs.Common.{◌≡◌, ◌⊎◌, ◌↔◌, Bool, true, false, List, Contains, inl, inr}
 use Rattle.std.proofs.Common.{refl, sym, ap, ◌∙◌, subst, Ordering, Less, Equal, Greater, nat_cmp, cond, IsTrue}
-use Rattle.std.proofs.Common.{Result, Ok, Err, OnOk, OnErr, [], ◌∷◌}
+use Rattle.std.proofs.Common.{Result, Ok, Err, OnOk, OnErr}
 use Rattle.std.specs.Cmp.{IsTotalOrder}
 use Rattle.std.specs.Ordering.{ordering_then, ordering_reverse, is_eq}
 use Rattle.std.specs.BTreeMap.{is_at}
@@ -9,7 +9,6 @@ use Rattle.std.specs.BTreeSet.{BTreeSet, IsUnchanged, Updates, UpdatesBy, contai
 use Rattle.std.proofs.lemmas.Cmp.{nat_cmp_total, then_total, on_total}
 use Rattle.std.proofs.lemmas.Map.Lookups.{CmpEqualImpliesEq, exact_unsigned}
 use Rattle.std.proofs.lemmas.Map.Views.{btree_set_contains_iff}
-use Rattle.ipnet_base.proofs.ListLaws.{contains_nil, contains_here, contains_there, contains_cases}
 use Rattle.ipnet_base.specs.Address.{family_index}
 use Rattle.ipnet_base.specs.Network.{Network, IsNetwork, host_bits}
 use Rattle.ipnet.specs.declared.net.IpNet.{IpNet}
@@ -18,6 +17,7 @@ use Rattle.ipnet.specs.NetLaws.{ip_one_to_one, ip_valid}
 use Rattle.ipnet_pools.specs.declared.block_set.BlockKey.{BlockKey}
 use Rattle.ipnet_pools.specs.BlockKeys.{IsKey, AreKeys, networks_of_keys}
 use Rattle.ipnet_pools.proofs.LeaseLaws.{IsRanking, total, exact}
+use Rattle.ipnet_pools.proofs.MappedLaws.{contains_map, map_contains}
 
 -- by family, then by host bits, then by network
 abbrev pub key_cmp : (IpNet → IpNet → Ordering) → BlockKey → BlockKey → Ordering
@@ -52,21 +52,6 @@ then_equal : (r s : Ordering) → ordering_then r s ≡ Equal → (r ≡ Equal) 
 then_equal Less s e = absurd (cc)
 then_equal Equal s e = (refl, e)
 then_equal Greater s e = absurd (cc)
-
-contains_map : {X Y : Type 0} (f : X → Y) (xs : List X) (x : X) → Contains xs x → Contains (map f xs) (f x)
-contains_map f [] x c = absurd (contains_nil x c)
-contains_map f (y ∷ ys) x c = elim (contains_cases y ys x c) [
-  | inl e ↦ subst (λ z. Contains (f y ∷ map f ys) (f z)) e (contains_here (f y) (map f ys))
-  | inr r ↦ contains_there (f y) (map f ys) (f x) (contains_map f ys x r)
-]
-
-map_contains : {X Y : Type 0} (f : X → Y) (xs : List X) (y : Y) → Contains (map f xs) y
-    → (x : X) × (f x ≡ y) × Contains xs x
-map_contains f [] y c = absurd (contains_nil y c)
-map_contains f (x ∷ xs) y c = elim (contains_cases (f x) (map f xs) y c) [
-  | inl e ↦ (x, e, contains_here x xs)
-  | inr r ↦ let (z, e, d) = map_contains f xs y r in (z, e, contains_there x xs z d)
-]
 
 -- the network of a key of the list, and the key of a network of the list
 pub network_in : (keys : List BlockKey) (k : BlockKey) → Contains keys k

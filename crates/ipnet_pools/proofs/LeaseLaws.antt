@@ -1,6 +1,6 @@
 -- The members of the map of leases after an insertion and after a removal.
 use Rattle.std.proofs.Common.{◌≡◌, ◌⊎◌, ◌↔◌, Bool, true, false, Option, Some, None, List, Contains, inl, inr}
-use Rattle.std.proofs.Common.{◌∙◌, refl, sym, ap, subst, Ordering, Less, Equal, Greater, cond, [], ◌∷◌}
+use Rattle.std.proofs.Common.{◌∙◌, refl, sym, ap, subst, arith, Ordering, Less, Equal, Greater, cond, [], ◌∷◌}
 use Rattle.std.proofs.Common.{Bor, option_copied, IfSome, IfNone}
 use Rattle.std.specs.Cmp.{IsTotalOrder, strict}
 use Rattle.std.specs.Ordering.{MatchOrdering, is_eq, is_gt, is_lt}
@@ -12,14 +12,19 @@ use Rattle.std.specs.BTreeMap.{BTreeMap, IsOrdered, Updates, UpdatesBy, get, is_
 use Rattle.std.proofs.lemmas.Cmp.{by_ranked}
 use Rattle.std.proofs.lemmas.Map.Lookups.{CmpEqualImpliesEq}
 use Rattle.std.proofs.lemmas.Map.Views.{btree_map_get_iff, IfSome-get}
-use Rattle.std.specs.Map.{lookup}
-use Rattle.ipnet_base.proofs.ListLaws.{contains_nil, contains_cases}
+use Rattle.std.proofs.lemmas.Map.Keys.{sorted_tail}
+use Rattle.std.proofs.lemmas.Map.Views.{All-after_first}
+use Rattle.std.specs.List.Sorted.{IsStrictlySortedBy}
+use Rattle.std.specs.Map.{lookup, keys_of}
+use Rattle.ipnet_base.proofs.ListLaws.{contains_nil, contains_cases, pairs_cons, all_at}
+use Rattle.ipnet_base.specs.Blocks.{IsAscending}
 use Rattle.ipnet_base.specs.Network.{IsBefore}
 use Rattle.ipnet_base.proofs.OrderLaws.{IsBefore-asymmetric, IsBefore-transitive}
 use Rattle.ipnet.specs.declared.net.IpNet.{IpNet}
 use Rattle.ipnet.specs.NetworkOf.{ip_network}
 use Rattle.ipnet.specs.NetLaws.{ip_one_to_one}
-use Rattle.ipnet_pools.specs.Leases.{HasLeaseOf, IsLastNotAfter}
+use Rattle.ipnet_pools.specs.Leases.{HasLeaseOf, IsLastNotAfter, networks_of_leases}
+use Rattle.ipnet_pools.proofs.MappedLaws.{contains_map, map_contains}
 
 -- the order of networks
 abbrev Before : IpNet → IpNet → Type 0
@@ -151,6 +156,26 @@ module _ (cmp : IpNet → IpNet → Ordering) (ranking : IsRanking cmp) where
   one_value m ordered n v w c d =
       some_value v w (sym ((btree_map_get_iff total exact m ordered n v).1 c)
       ∙ (btree_map_get_iff total exact m ordered n w).1 d)
+
+  less_before : (a b : IpNet) → cmp a b ≡ Less → Before a b
+  less_before a b e = by_ranked (Before a b) (a ≡ b) (Before b a) (cmp a b) (ranks a b) (λ _ before. before)
+      (λ f _. absurd (cc)) (λ f _. absurd (cc))
+
+  -- the networks of an ordered map ascend
+  ascending_entries : {V : Type 0} (es : List (IpNet × V)) → IsStrictlySortedBy cmp (keys_of es)
+      → IsAscending (networks_of_leases es)
+  ascending_entries [] sorted = λ i j d l m. absurd (omega (arith, m))
+  ascending_entries (e ∷ es) sorted =
+      pairs_cons IsBefore (ip_network e.0) (networks_of_leases es)
+      (λ y c.
+      let (f, is, member) = map_contains (λ lease. ip_network lease.0) es y c in
+      subst (IsBefore (ip_network e.0)) is (less_before e.0 f.0
+      (all_at (λ q. cmp e.0 q ≡ Less) (keys_of es) (All-after_first cmp e.0 (keys_of es) sorted) f.0
+      (contains_map (λ lease. lease.0) es f member))))
+      (ascending_entries es (sorted_tail cmp e.0 (keys_of es) sorted))
+
+  pub ascending : {V : Type 0} (m : BTreeMap IpNet V) → IsOrdered cmp m → IsAscending (networks_of_leases m.entries)
+  ascending m ordered = ascending_entries m.entries ordered
 
   not_greater : (a b : IpNet) → is_gt (cmp a b) ≡ false → ¬ (Before b a)
   not_greater a b e h = by_ranked (Before a b) (a ≡ b) (Before b a) (cmp a b) (ranks a b)

@@ -1,9 +1,9 @@
 -- A list that is the maximal blocks of what it covers, and the list of the maximal blocks of a set.
-use Rattle.std.proofs.Common.{◌≡◌, ◌⊎◌, ◌↔◌, List, Contains, ap, ◌∙◌, subst, arith, inl, inr}
+use Rattle.std.proofs.Common.{◌≡◌, ◌⊎◌, ◌↔◌, List, Contains, ap, subst, arith, inl, inr}
 use Rattle.std.proofs.lemmas.Bool.{cases_eq}
-use Rattle.ipnet_base.specs.Address.{Address, IsAddress, width}
+use Rattle.ipnet_base.specs.Address.{Address, IsAddress}
 use Rattle.ipnet_base.specs.Network.{Network, IsNetwork, InBlock}
-use Rattle.ipnet_base.specs.Blocks.{IsInside, IsMaximal, IsCoveredBy}
+use Rattle.ipnet_base.specs.Blocks.{IsMaximal, IsCoveredBy}
 use Rattle.ipnet_base.proofs.BlockLaws.{own, own_in}
 use Rattle.ipnet_base.proofs.CoverLaws.{covered_fits}
 use Rattle.ipnet_base.proofs.DecidedLaws.{IsDecided}

@@ -10,9 +10,9 @@ use Rattle.ipnet_base.specs.Blocks.{IsInside}
 use Rattle.ipnet_base.proofs.ListLaws.{pairs_append, contains_cases, contains_nil, any_from_contains}
 use Rattle.ipnet_base.proofs.CoverLaws.{cover_nil, cover_push}
 use Rattle.ipnet_base.proofs.MaximalLaws.{IsInside-of_block}
-use Rattle.ipnet_pools.specs.Fits.{HasRoom, Without, IsBestFit}
+use Rattle.ipnet_pools.specs.Fits.{HasRoom, Without, WithoutAll, IsBestFit}
 use Rattle.ipnet_pools.specs.Placements.{Request, request_of, CanPlace}
-use Rattle.ipnet_pools.specs.Plans.{requests_of, IsPlan}
+use Rattle.ipnet_pools.specs.Plans.{requests_of, IsPlan, KeepsRoom}
 use Rattle.ipnet_pools.specs.PlanSteps.{IsPlannedSoFar}
 use Rattle.ipnet_pools.proofs.PlacementLaws.{room_of_first, CanPlace-more, place_disjoint}
 
@@ -32,7 +32,7 @@ planned_start S Left f lengths left back = record {
   disjoint = λ i j d l m. absurd (omega (arith, m));
   left = left;
   apart = λ x h covered. cover_nil x covered;
-  keeps = CanPlace-more (requests_of f lengths) S Left back;
+  keeps = λ more. CanPlace-more (requests_of f lengths ++ more) S Left back;
 }
 
 module _ (S Old New : Address → Type 0) (f : Family) (lengths : List ℕ) (done p : ℕ) (networks : List Network)
@@ -60,8 +60,8 @@ module _ (S Old New : Address → Type 0) (f : Family) (lengths : List ℕ) (don
       | inl before ↦ so_far.apart x (rest x h).0 before
       | inr now ↦ (rest x h).1 now
     ];
-    keeps = λ place. keeps (requests_of f (drop (done + 1) lengths))
-        (subst (λ z. CanPlace Old (requests_of f z)) here (so_far.keeps place));
+    keeps = λ more place. keeps (requests_of f (drop (done + 1) lengths) ++ more)
+        (subst (λ z. CanPlace Old (requests_of f z ++ more)) here (so_far.keeps more place));
   }
     where
       same_request : request_of n ≡ (f, p)
@@ -69,8 +69,9 @@ module _ (S Old New : Address → Type 0) (f : Family) (lengths : List ℕ) (don
 
   pub planned_none : ¬ (HasRoom Old f p) → ¬ (CanPlace S (requests_of f lengths))
   planned_none none place =
-      none (room_of_first Old (f, p) (requests_of f (drop (done + 1) lengths))
-      (subst (λ z. CanPlace Old (requests_of f z)) here (so_far.keeps place)))
+      none (room_of_first Old (f, p) (requests_of f (drop (done + 1) lengths) ++ [])
+      (subst (λ z. CanPlace Old (requests_of f z ++ [])) here (so_far.keeps []
+      (subst (CanPlace S) (sym (append-nil (requests_of f lengths))) place))))
 
 pub planned_end : (S Left : Address → Type 0) (f : Family) (lengths : List ℕ) (networks : List Network)
     → IsPlannedSoFar S Left f lengths (length lengths) networks → IsPlan S f lengths networks
@@ -82,8 +83,15 @@ planned_end S Left f lengths networks h = record {
   disjoint = h.disjoint;
 }
 
+pub planned_keeps : (S Left : Address → Type 0) (f : Family) (lengths : List ℕ) (networks : List Network)
+    → IsPlannedSoFar S Left f lengths (length lengths) networks → KeepsRoom S f lengths networks
+planned_keeps S Left f lengths networks h = λ more place.
+    CanPlace-more more Left (WithoutAll S networks) (λ x l. (h.left x l, h.apart x l))
+    (subst (λ z. CanPlace Left (requests_of f z ++ more)) (drop_all (length lengths) lengths (omega arith))
+    (h.keeps more place))
+
 -- a plan shows that its requests can be placed
-plan_places : (S : Address → Type 0) (f : Family) (lengths : List ℕ) (networks : List Network)
+pub plan_places : (S : Address → Type 0) (f : Family) (lengths : List ℕ) (networks : List Network)
     → IsPlan S f lengths networks → CanPlace S (requests_of f lengths)
 plan_places S f lengths networks plan =
     subst (CanPlace S) plan.requested (place_disjoint S networks plan.inside plan.disjoint)

@@ -1,8 +1,8 @@
 -- Networks that fit into a set of addresses, the rest of the set after one is taken, and the best fit.
-use Rattle.std.specs.Prelude.{◌≡◌, ◌⊎◌, ℕ, ◌≤◌}
+use Rattle.std.specs.Prelude.{◌≡◌, ◌⊎◌, ℕ, ◌≤◌, List}
 use Rattle.ipnet_base.specs.Address.{Family, Address}
 use Rattle.ipnet_base.specs.Network.{Network, InBlock, IsBefore}
-use Rattle.ipnet_base.specs.Blocks.{IsInside, IsMaximal}
+use Rattle.ipnet_base.specs.Blocks.{IsInside, IsMaximal, IsCoveredBy}
 
 -- a network of the family and the prefix length, without host bits, inside the set
 pub record IsFit (InSet : Address → Type 0) (family : Family) (prefix_len : ℕ) (n : Network) : Type 0 where
@@ -17,6 +17,10 @@ HasRoom InSet family prefix_len = (n : Network) × IsFit InSet family prefix_len
 -- the set without the network's block
 abbrev pub Without : (Address → Type 0) → Network → Address → Type 0
 Without InSet n x = InSet x × ¬ (InBlock n x)
+
+-- the set without the blocks of all the networks
+abbrev pub WithoutAll : (Address → Type 0) → List Network → Address → Type 0
+WithoutAll InSet networks x = InSet x × ¬ (IsCoveredBy networks x)
 
 -- a maximal block of the set that contains networks of the family and the prefix length
 pub record IsLargeEnough (InSet : Address → Type 0) (family : Family) (prefix_len : ℕ) (block : Network) : Type 0 where

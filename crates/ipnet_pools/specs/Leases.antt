@@ -1,8 +1,7 @@
--- Leases: networks with a value each, as a list. The invariants of a pool cite these.
--- Only private contracts cite these.
-use Rattle.std.specs.Prelude.{◌≡◌, ◌↔◌, List, Contains}
+-- Leases: networks with a value each, as a list. The invariants of a pool cite these, and `PoolOf`.
+use Rattle.std.specs.Prelude.{◌≡◌, ◌↔◌, ◌⊎◌, List, Contains, map}
 use Rattle.ipnet_base.specs.Address.{Address}
-use Rattle.ipnet_base.specs.Network.{InBlock, IsTruncated, AreDisjoint, IsBefore}
+use Rattle.ipnet_base.specs.Network.{Network, InBlock, IsTruncated, AreDisjoint, IsBefore}
 use Rattle.ipnet.specs.declared.net.IpNet.{IpNet}
 use Rattle.ipnet.specs.NetworkOf.{ip_network}
 
@@ -40,3 +39,19 @@ pub record IsLastNotAfter {V : Type 0} (leases : List (IpNet × V)) (at k : IpNe
   pub not_after : ¬ (IsBefore (ip_network at) (ip_network k))
   pub last : (q : IpNet) → HasLeaseOf leases q → ¬ (IsBefore (ip_network at) (ip_network q))
       → ¬ (IsBefore (ip_network k) (ip_network q))
+
+-- the network has an address of the set
+abbrev pub HasAddressOf : (Address → Type 0) → IpNet → Type 0
+HasAddressOf InSet n = (x : Address) × InBlock (ip_network n) x × InSet x
+
+-- the first lease, in the order of networks, that has an address of the set
+pub record IsFirstWithAddressOf {V : Type 0} (leases : List (IpNet × V)) (InSet : Address → Type 0) (n : IpNet)
+    : Type 0 where
+  pub leased : HasLeaseOf leases n
+  pub shared : HasAddressOf InSet n
+  pub first : (k : IpNet) → HasLeaseOf leases k → HasAddressOf InSet k
+      → (k ≡ n) ⊎ IsBefore (ip_network n) (ip_network k)
+
+-- the networks of the leases, one after the other
+abbrev pub networks_of_leases : {V : Type 0} → List (IpNet × V) → List Network
+networks_of_leases leases = map (λ lease. ip_network lease.0) leases

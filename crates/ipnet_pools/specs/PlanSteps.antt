@@ -3,11 +3,11 @@ use Rattle.std.specs.Prelude.{◌≡◌, ℕ, List, map, All, drop, ◌++◌}
 use Rattle.ipnet_base.specs.Address.{Family, Address}
 use Rattle.ipnet_base.specs.Network.{Network}
 use Rattle.ipnet_base.specs.Blocks.{IsInside, ArePairwiseDisjoint, IsCoveredBy}
-use Rattle.ipnet_pools.specs.Placements.{request_of, CanPlace}
+use Rattle.ipnet_pools.specs.Placements.{Request, request_of, CanPlace}
 use Rattle.ipnet_pools.specs.Plans.{requests_of}
 
--- The first lengths have their networks, and the rest of the set has room for the other lengths if the set had room for
--- all of them.
+-- The first lengths have their networks. Whatever can be placed in the set together with all lengths can be placed in
+-- the rest of the set together with the other lengths.
 pub record IsPlannedSoFar (InSet IsLeft : Address → Type 0) (family : Family) (lengths : List ℕ) (done : ℕ)
     (networks : List Network) : Type 0 where
   pub requested : map request_of networks ++ requests_of family (drop done lengths) ≡ requests_of family lengths
@@ -15,4 +15,5 @@ pub record IsPlannedSoFar (InSet IsLeft : Address → Type 0) (family : Family) 
   pub disjoint : ArePairwiseDisjoint networks
   pub left : (x : Address) → IsLeft x → InSet x
   pub apart : (x : Address) → IsLeft x → ¬ (IsCoveredBy networks x)
-  pub keeps : CanPlace InSet (requests_of family lengths) → CanPlace IsLeft (requests_of family (drop done lengths))
+  pub keeps : (more : List Request) → CanPlace InSet (requests_of family lengths ++ more)
+      → CanPlace IsLeft (requests_of family (drop done lengths) ++ more)

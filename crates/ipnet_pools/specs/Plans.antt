@@ -1,9 +1,10 @@
 -- Plans: networks of given prefix lengths in a set of addresses, all at once.
-use Rattle.std.specs.Prelude.{◌≡◌, ℕ, List, map, All}
+use Rattle.std.specs.Prelude.{◌≡◌, ℕ, List, map, All, ◌++◌}
 use Rattle.ipnet_base.specs.Address.{Family, Address}
 use Rattle.ipnet_base.specs.Network.{Network}
 use Rattle.ipnet_base.specs.Blocks.{IsInside, ArePairwiseDisjoint}
-use Rattle.ipnet_pools.specs.Placements.{Request, request_of}
+use Rattle.ipnet_pools.specs.Fits.{WithoutAll}
+use Rattle.ipnet_pools.specs.Placements.{Request, request_of, CanPlace}
 
 -- a request of the family for each of the prefix lengths
 abbrev pub requests_of : Family → List ℕ → List Request
@@ -18,3 +19,11 @@ pub record IsPlan (InSet : Address → Type 0) (family : Family) (lengths : List
   pub inside : All (IsInside InSet 0) networks
   -- no two of the networks share an address
   pub disjoint : ArePairwiseDisjoint networks
+
+-- The networks keep room: whatever further requests can be placed in the set together with the lengths can still be
+-- placed in the addresses that the networks leave.
+-- Example: for the length 26 in 10.0.0.0/24 and 10.0.1.0/26, the network 10.0.1.0/26 keeps room for a /24. The network
+-- 10.0.0.0/26 does not, although a /24 and a /26 can be placed together.
+abbrev pub KeepsRoom : (Address → Type 0) → Family → List ℕ → List Network → Type 0
+KeepsRoom InSet family lengths networks = (more : List Request) → CanPlace InSet (requests_of family lengths ++ more)
+    → CanPlace (WithoutAll InSet networks) more

@@ -7,6 +7,7 @@ use Rattle.ipnet.specs.NetworkOf.{ip_network}
 use Rattle.ipnet_sets.specs.declared.set.IpSet.{IpSet}
 use Rattle.ipnet_sets.specs.Members.{IsMember}
 use Rattle.ipnet_pools.specs.FreeOf.{IsIn}
+use Rattle.ipnet_pools.specs.Leases.{IsFirstWithAddressOf}
 use Rattle.ipnet_pools.specs.declared.pool.IpPool.{IpPool}
 
 -- the address belongs to the pool
@@ -44,6 +45,11 @@ IsLeased pool n v = (k : IpNet) × (ip_network k ≡ n) × Contains (leases_of p
 -- the network is leased
 abbrev pub IsLeaseOf : {V : Type 0} → IpPool V → IpNet → Type 0
 IsLeaseOf {V} pool k = (v : V) × Contains (leases_of pool) (k, v)
+
+-- The first lease, in the order of networks, that has an address of the set.
+-- Example: 10.0.0.64/26 for the leases 10.0.0.0/26, 10.0.0.64/26 and 10.0.0.128/26 and the set 10.0.0.100-10.0.0.200.
+abbrev pub IsFirstInTheWay : {V : Type 0} → IpPool V → (Address → Type 0) → IpNet → Type 0
+IsFirstInTheWay pool InSet n = IsFirstWithAddressOf (leases_of pool) InSet n
 
 -- both pools have the same addresses, the same free addresses and the same leases
 pub record IsSamePool {V : Type 0} (old new : IpPool V) : Type 0 where

@@ -3,9 +3,11 @@ ghost use Rattle.std.specs.Prelude.{◌≡◌, ◌↔◌, ◌⊎◌, Contains, I
 ghost use Rattle.std.specs.BTreeMap.{IsUnchanged};
 ghost use Rattle.ipnet_base.specs.Network.{InBlock, AreDisjoint, IsBefore};
 ghost use Rattle.ipnet_base.specs.Address.{Address};
+ghost use Rattle.ipnet_base.specs.Blocks.{IsAscending};
 ghost use Rattle.ipnet.specs.NetworkOf.{ip_network};
 ghost use Rattle.ipnet.specs.declared.net.IpNet.{IpNet as Net};
 ghost use Rattle.ipnet_pools.specs.Leases.{HasLeaseOf, IsInLease, AreLeases, IsLastNotAfter};
+ghost use Rattle.ipnet_pools.specs.Leases.{networks_of_leases, IsFirstWithAddressOf};
 
 use ipnet::IpNet;
 use ipnet::net::laws::ip_nets_compare_by_network;
@@ -75,6 +77,14 @@ pub(crate) fn have_one_value<V>(leases: &BTreeMap<IpNet, V>)
     let _ = leases.iter();
 }
 
+/// Each lease comes before all later ones. The function computes nothing; its contract is a fact for callers.
+pub(crate) fn are_ascending<V>(leases: &BTreeMap<IpNet, V>)
+    ensures { IsAscending (networks_of_leases leases.now.entries) }
+{
+    ip_nets_compare_by_network();
+    let _ = leases.iter();
+}
+
 /// Returns the last lease that is not after the network `at` in the order of networks.
 fn last_not_after<'a, V>(leases: &'a BTreeMap<IpNet, V>, at: &IpNet) -> Option<(&'a IpNet, &'a V)>
     ensures found { IfSome result (λ r. Contains leases.now.entries (r.0.now, r.1.now)
@@ -101,6 +111,25 @@ pub(crate) fn touching<'a, V>(
     let (lease, value) = last_not_after(leases, &last)?;
     if network.contains(lease) || lease.contains(network) {
         return Some((lease, value));
+    }
+    None
+}
+
+/// Returns the first lease that shares an address with the network, or `None` if there is no such lease.
+pub(crate) fn first_touching<V>(leases: &BTreeMap<IpNet, V>, network: &IpNet) -> Option<IpNet>
+    requires { AreLeases leases.now.entries }
+    ensures found { IfSome result (λ n. IsFirstWithAddressOf leases.now.entries
+        (InBlock (ip_network network.now)) n) }
+    ensures none { IfNone result ((x : Address) → InBlock (ip_network network.now) x
+        → ¬ (IsInLease leases.now.entries x)) }
+{
+    // Most networks share no address with a lease, and a search finds that without looking at every lease.
+    touching(leases, network)?;
+    are_ascending(leases);
+    for (lease, _) in leases.iter() {
+        if network.contains(lease) || lease.contains(network) {
+            return Some(*lease);
+        }
     }
     None
 }

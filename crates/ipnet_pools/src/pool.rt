@@ -3,7 +3,7 @@ ghost use Rattle.std.specs.Prelude.{◌≡◌, ◌↔◌, ◌⊎◌, ◌<◌, �
 ghost use Rattle.std.specs.Prelude.{IfSome, IfNone, IsTrue};
 ghost use Rattle.ipnet_base.specs.Address.{Address, IPv4, IPv6, ip_address};
 ghost use Rattle.ipnet_base.specs.Network.{Network, InBlock, AreDisjoint, IsTruncated, truncation};
-ghost use Rattle.ipnet_base.specs.Blocks.{AreMaximalBlocks};
+ghost use Rattle.ipnet_base.specs.Blocks.{AreMaximalBlocks, IsAscending};
 ghost use Rattle.ipnet.specs.NetworkOf.{ip_network};
 ghost use Rattle.ipnet_sets.specs.Members.{IsMember};
 ghost use Rattle.ipnet_pools.specs.Fits.{HasRoom, IsBestFit};
@@ -284,8 +284,10 @@ impl<V: Drop> IpPool<V> {
     /// after take 10.0.0.64/26 and assign_ipv4(26): 10.0.0.0/26, 10.0.0.64/26
     /// ```
     pub fn leases(&self) -> Iter<'_, IpNet, V>
-        ensures { result ≡ leases_of self.now }
+        ensures leases { result ≡ leases_of self.now }
+        ensures ascending { IsAscending (map (λ lease. ip_network lease.0) (leases_of self.now)) }
     {
+        leases::are_ascending(&self.leases);
         self.leases.iter()
     }
 

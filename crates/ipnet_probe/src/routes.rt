@@ -2,7 +2,7 @@
 //! commas; `-` is the empty list. Values are texts, because texts are not `Copy`.
 use crate::show;
 use ipnet::{IpAddr, IpNet};
-use ipnet_sets::RouteTable;
+use ipnet_routes::RouteTable;
 use std::alloc::{AllocError, Global};
 
 /// The result of a call on the table of the routes; `None` if the call is unknown or its arguments are invalid. A call

@@ -6,4 +6,7 @@ pub mod RouteLaws
 pub mod CellLaws
 pub mod PaintingLaws
 pub mod OwnerLaws
+pub mod MatchLaws
+pub mod CompiledLaws
+pub mod DifferenceLaws
 pub mod KeptLaws

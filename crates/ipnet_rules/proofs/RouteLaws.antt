@@ -10,21 +10,16 @@ use Rattle.ipnet.specs.NetworkParts.{network_at}
 use Rattle.ipnet_rules.specs.declared.rules.Rule.{Rule}
 use Rattle.ipnet_rules.specs.declared.prefix_list.PrefixRule.{PrefixRule}
 use Rattle.ipnet_rules.specs.Rules.{Matches}
-use Rattle.ipnet_rules.specs.PrefixLists.{IsLengthAsked, MatchesRoute}
-use Rattle.ipnet_rules.specs.RoutesOfLength.{AreRulesOfLength}
+use Rattle.ipnet_rules.specs.PrefixLists.{MatchesRoute}
+use Rattle.ipnet_rules.specs.RoutesOfLength.{CanMatch, AreRulesOfLength}
 use Rattle.ipnet_rules.proofs.VerdictLaws.{any_nil, any_push, permit_push}
 
--- the rule matches networks of this length
-abbrev pub CanMatch : PrefixRule → ℕ → Type 0
-CanMatch rule len = ((ip_network rule.network).prefix_len ≤ len) × (len ≤ width (ip_network rule.network).family)
-    × IsLengthAsked (ip_network rule.network) rule.ge rule.le len
-
 -- the network of this length at an address
-valid_at : (x : Address) (len : ℕ) → IsAddress x → len ≤ width x.family → IsNetwork (network_at x len)
+pub valid_at : (x : Address) (len : ℕ) → IsAddress x → len ≤ width x.family → IsNetwork (network_at x len)
 valid_at x len a l = record { address_fits = a; prefix_fits = l }
 
 -- such a rule matches the network at an address if and only if its own network contains the address
-match_of_length : (rule : PrefixRule) (len : ℕ) (x : Address) → CanMatch rule len
+pub match_of_length : (rule : PrefixRule) (len : ℕ) (x : Address) → CanMatch rule len
     → InBlock (ip_network rule.network) x ↔ MatchesRoute rule (network_at x len)
 match_of_length rule len x can = (
   λ b. record { inside = subnet_from_own (network_at x len) (ip_network rule.network) can.0 b; asked = can.2 },
@@ -32,7 +27,7 @@ match_of_length rule len x can = (
 )
 
 -- a rule that matches the network at an address matches networks of its length
-can_from_match : (rule : PrefixRule) (len : ℕ) (x : Address) → IsAddress x → len ≤ width x.family
+pub can_from_match : (rule : PrefixRule) (len : ℕ) (x : Address) → IsAddress x → len ≤ width x.family
     → MatchesRoute rule (network_at x len) → CanMatch rule len
 can_from_match rule len x a l m = (
   longer_from_subnet (network_at x len) (ip_network rule.network) (valid_at x len a l) (ip_valid rule.network) m.inside,

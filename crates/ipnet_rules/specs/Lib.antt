@@ -7,3 +7,5 @@ pub mod KeptRules
 pub mod KeptSteps
 pub mod PrefixLists
 pub mod RoutesOfLength
+pub mod CompiledLists
+pub mod CompiledListOf

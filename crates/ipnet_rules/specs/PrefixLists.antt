@@ -1,8 +1,10 @@
 -- Prefix lists: rules for routes, by their network and their prefix length.
 use Rattle.std.specs.Prelude.{◌≡◌, ℕ, ◌<◌, ◌≤◌, ◌⊎◌, ◌↔◌, Option, Some, None, List, ⊤}
 use Rattle.ipnet_base.specs.Address.{width}
-use Rattle.ipnet_base.specs.Network.{Network, IsNetwork, IsSubnetOf}
+use Rattle.ipnet_base.specs.Network.{Network, IsNetwork, IsSubnetOf, IsTruncated}
 use Rattle.ipnet.specs.NetworkOf.{ip_network}
+use Rattle.ipnet.specs.NetworkParts.{own_address}
+use Rattle.ipnet_sets.specs.Members.{IsAtMost}
 use Rattle.ipnet_rules.specs.declared.rules.Action.{Action}
 use Rattle.ipnet_rules.specs.declared.rules.Action.TheVariants.{Permit, Deny}
 use Rattle.ipnet_rules.specs.declared.prefix_list.PrefixRule.{PrefixRule}
@@ -55,3 +57,17 @@ pub record IsPermittedByOne (rules others : List PrefixRule) (n : Network) : Typ
   pub network : IsNetwork n
   pub differ : (IsRoutePermitted rules n × ¬ (IsRoutePermitted others n))
       ⊎ (IsRoutePermitted others n × ¬ (IsRoutePermitted rules n))
+
+-- The first network of this prefix length that one of the two lists permits and the other does not. It has no host
+-- bits, and IPv4 comes before IPv6.
+pub record IsFirstOfLength (rules others : List PrefixRule) (len : ℕ) (n : Network) : Type 0 where
+  pub of_length : n.prefix_len ≡ len
+  pub truncated : IsTruncated n
+  pub first : (k : Network) → IsPermittedByOne rules others k → k.prefix_len ≡ len
+      → IsAtMost (own_address n) (own_address k)
+
+-- The first of the shortest networks that one of the two lists permits and the other does not.
+-- Example: 10.0.0.0/25, if only the first list permits the networks in 10.0.0.0/8 that are longer than 24.
+pub record IsFirstDifference (rules others : List PrefixRule) (n : Network) : Type 0 where
+  pub shortest : (k : Network) → IsPermittedByOne rules others k → n.prefix_len ≤ k.prefix_len
+  pub first : IsFirstOfLength rules others n.prefix_len n

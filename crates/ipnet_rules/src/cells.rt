@@ -100,7 +100,11 @@ fn push_ends(cuts: &mut Vec<u128>, pieces: &[Piece]) -> Result<(), AllocError>
 }
 
 /// Returns the numbers at which a range of the rules begins, or the one after it ends, in ascending order.
-fn cuts_of(alloc: Global, rules: &[Rule], family: Family) -> Result<Vec<u128>, AllocError>
+pub(crate) fn cuts_of(
+    alloc: Global,
+    rules: &[Rule],
+    family: Family,
+) -> Result<Vec<u128>, AllocError>
     ensures { IfOk result (λ cuts. AreCuts (family_of family) rules.now cuts.items) }
 {
     let mut cuts = Vec::new(alloc);
@@ -114,7 +118,7 @@ fn cuts_of(alloc: Global, rules: &[Rule], family: Family) -> Result<Vec<u128>, A
 }
 
 /// Returns the cells whose numbers lie in the piece, which begin and end there.
-fn span_of(cuts: &[u128], piece: &Piece) -> Span
+pub(crate) fn span_of(cuts: &[u128], piece: &Piece) -> Span
     requires { IsStrictlyIncreasing cuts.now }
     ensures { IsSpanOf cuts.now piece.now result }
 {
@@ -155,7 +159,7 @@ impl Painting {
     }
 
     /// Makes the place the owner of each free cell of the span. Each cell is skipped at once when it is met again.
-    fn paint(&mut self, span: Span, place: usize)
+    pub(crate) fn paint(&mut self, span: Span, place: usize)
         requires skips { AreSkips self.old }
         requires within { span.end ≤ length self.old.owners.items }
         requires place { place ≢ self.old.free }

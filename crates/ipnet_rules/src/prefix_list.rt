@@ -7,6 +7,7 @@ ghost use Rattle.ipnet_rules.specs.declared.prefix_list.PrefixRuleError.TheVaria
 ghost use Rattle.ipnet_rules.specs.PrefixLists.{IsLengthAsked, MatchesRoute, IsRouteVerdict, IsRoutePermitted};
 ghost use Rattle.ipnet_rules.specs.Rules.{Matches};
 ghost use Rattle.ipnet_rules.specs.PrefixLists.{PermitSameRoutes, IsPermittedByOne, IsPrefixRule, IsBound, IsAbove};
+ghost use Rattle.ipnet_rules.specs.PrefixLists.{IsFirstDifference};
 
 use crate::route_sets;
 use crate::rules::{Action, Addresses, Rule};
@@ -245,8 +246,9 @@ impl PrefixList {
         }
     }
 
-    /// Returns a network that one of the two lists permits and the other does not, or `None` if the lists permit the
-    /// same networks. Fails only if memory runs out.
+    /// Returns the first network that one of the two lists permits and the other does not, or `None` if the lists
+    /// permit the same networks. It has the shortest prefix length of all these networks, and no host bits. It is
+    /// the first one of this length: IPv4 before IPv6, then by address. Fails only if memory runs out.
     ///
     /// ```text
     /// permit 10.0.0.0/8 ge 16, against permit 10.0.0.0/8 ge 16 le 24: Some(10.0.0.0/25)
@@ -260,6 +262,8 @@ impl PrefixList {
             ↔ PermitSameRoutes self.now.list.items other.now.list.items) }
         ensures some { IfOk result (λ found. IfSome found (λ n.
             IsPermittedByOne self.now.list.items other.now.list.items (ip_network n))) }
+        ensures first { IfOk result (λ found. IfSome found (λ n.
+            IsFirstDifference self.now.list.items other.now.list.items (ip_network n))) }
     {
         let ours = self.list.as_slice();
         let theirs = other.list.as_slice();

@@ -4,7 +4,7 @@ ghost use Rattle.ipnet_base.specs.Address.{Address, IsAddress, width};
 ghost use Rattle.ipnet.specs.NetworkOf.{ip_network};
 ghost use Rattle.ipnet.specs.NetworkParts.{network_at};
 ghost use Rattle.ipnet_sets.specs.Members.{IsMember};
-ghost use Rattle.ipnet_rules.specs.PrefixLists.{IsRoutePermitted, IsPermittedByOne};
+ghost use Rattle.ipnet_rules.specs.PrefixLists.{IsRoutePermitted, IsPermittedByOne, IsFirstOfLength};
 ghost use Rattle.ipnet_rules.specs.RoutesOfLength.{AreRulesOfLength};
 
 use crate::prefix_list::PrefixRule;
@@ -45,8 +45,8 @@ fn permitted_of_length(
     Ok(compiled.permitted)
 }
 
-/// Returns a network of this length that one of the two lists permits and the other does not, or `None` if there is no
-/// such network.
+/// Returns the first network of this length that one of the two lists permits and the other does not, or `None` if
+/// there is no such network.
 pub(crate) fn difference_of_length(
     alloc: Global,
     rules: &[PrefixRule],
@@ -58,6 +58,8 @@ pub(crate) fn difference_of_length(
         ↔ IsRoutePermitted others.now (network_at x prefix_len)) }
     ensures some { IfOk result (λ found. IfSome found (λ n.
         IsPermittedByOne rules.now others.now (ip_network n))) }
+    ensures first { IfOk result (λ found. IfSome found (λ n.
+        IsFirstOfLength rules.now others.now prefix_len (ip_network n))) }
 {
     let ours = permitted_of_length(alloc, rules, prefix_len)?;
     let theirs = permitted_of_length(alloc, others, prefix_len)?;

@@ -12,7 +12,7 @@ use Rattle.ipnet.specs.NetworkParts.{network_at}
 use Rattle.ipnet_sets.specs.declared.set.IpSet.{IpSet}
 use Rattle.ipnet_sets.specs.Boundaries.{is_inside, IsLeastInside, IsGreatestInside}
 use Rattle.ipnet_sets.specs.Members.{IsMemberOf, HasFamily, boundaries_of}
-use Rattle.ipnet_sets.specs.RouteMapSteps.{IsCommonSupernet}
+use Rattle.ipnet_sets.specs.CommonSupernets.{IsCommonSupernet}
 use Rattle.ipnet_sets.specs.Supernets.{IsSmallestAround, IsWithin}
 use Rattle.ipnet_sets.proofs.MemberLaws.{fits_below, fits_to}
 

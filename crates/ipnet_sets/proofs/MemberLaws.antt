@@ -1,6 +1,6 @@
 -- Facts about the addresses of a set, from facts about the numbers of each family.
 use Rattle.std.proofs.Common.{◌+◌, ◌≡◌, ℕ, ◌^◌, ◌<◌, ◌≤◌, ◌↔◌, Bool, true, false, IsTrue, List, length, map}
-use Rattle.std.proofs.Common.{refl, sym, ap, ◌∙◌, subst, subst₂, arith}
+use Rattle.std.proofs.Common.{sym, ap, ◌∙◌, subst, subst₂, arith}
 use Rattle.std.proofs.lemmas.List.{length-map}
 use Rattle.ipnet_base.specs.Address.{Family, IPv4, IPv6, Address, IsAddress, width, greatest_number}
 use Rattle.ipnet_base.specs.Network.{Network, InBlock, IsLeastOf, IsGreatestOf}

@@ -9,7 +9,7 @@ use Rattle.std.specs.Int.Bits.{xor_self, xor_zero_l, xor_zero_r, xor_assoc}
 use Rattle.std.specs.Int.Count.{count_leading_zeros}
 use Rattle.std.proofs.lemmas.Bool.{cases_lt}
 use Rattle.ipnet_base.specs.Address.{Address, width}
-use Rattle.ipnet_sets.specs.RouteMapSteps.{AreSharedBits}
+use Rattle.ipnet_sets.specs.CommonSupernets.{AreSharedBits}
 
 same_from_xor : (a b : ℕ) → bit_xor a b ≡ 0 → a ≡ b
 same_from_xor a b e =

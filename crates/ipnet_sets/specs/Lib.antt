@@ -11,16 +11,5 @@ pub mod BoundaryRanges
 pub mod RangesLeft
 pub mod RangeBlocks
 pub mod NetworksLeft
-pub mod Routes
-pub mod RouteValues
-pub mod RouteSteps
-pub mod RoutesOf
-pub mod MatchesLeft
-pub mod RouteMaps
-pub mod RouteLends
-pub mod RouteMapSteps
-pub mod RouteMapsOf
-pub mod RouteMapsLeft
 pub mod Images
-pub mod TableImages
-pub mod ByteTableImages
+pub mod CommonSupernets

@@ -2,7 +2,7 @@
 ghost use Rattle.std.specs.Prelude.{◌≡◌, ◌≢◌, IfSome, IfNone};
 ghost use Rattle.ipnet_base.specs.Address.{ipv4_address, ipv6_address, ip_address};
 ghost use Rattle.ipnet.specs.NetworkOf.{ip_network};
-ghost use Rattle.ipnet_sets.specs.RouteMapSteps.{AreSharedBits, IsCommonSupernet};
+ghost use Rattle.ipnet_sets.specs.CommonSupernets.{AreSharedBits, IsCommonSupernet};
 
 use ipnet::{IpAddr, IpNet, Ipv4Addr, Ipv6Addr};
 
@@ -32,8 +32,13 @@ fn shared_bits(ip: IpAddr, other: IpAddr) -> Option<u8>
     }
 }
 
-/// The smallest network that contains both, without host bits; `None` if they are of two families.
-pub(crate) fn common_supernet(network: &IpNet, other: &IpNet) -> Option<IpNet>
+/// Returns the smallest network that contains both, without host bits; `None` if they are of two families.
+///
+/// ```text
+/// 10.1.0.0/16 and 10.2.0.0/16:  10.0.0.0/14
+/// 10.1.0.0/16 and fd00::/8:     None
+/// ```
+pub fn common_supernet(network: &IpNet, other: &IpNet) -> Option<IpNet>
     ensures some { IfSome result (λ s.
         IsCommonSupernet (ip_network network.now) (ip_network other.now) (ip_network s)) }
     ensures none { IfNone result ((ip_network network.now).family ≢ (ip_network other.now).family) }

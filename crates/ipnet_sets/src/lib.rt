@@ -1,4 +1,4 @@
-//! Sets of addresses, kept by the numbers at which they begin and end; and tables of routes.
+//! Sets of addresses, kept by the numbers at which they begin and end.
 #![tactic(auto)]
 
 mod boundaries;
@@ -7,19 +7,16 @@ mod gather;
 pub mod image;
 mod number;
 pub mod operation;
-pub mod route_map;
-pub mod routes;
 pub mod set;
 pub mod set_networks;
 pub mod set_ranges;
 
-pub use image::stored::{read_u32, read_u64};
+pub use common::common_supernet;
+pub use image::stored::{
+    append_u32, append_u32s, append_u64, append_u128, read_u32, read_u64, read_u128,
+};
 pub use image::{ImageError, IpSetImage, IpSetRef};
 pub use operation::Operation;
-pub use route_map::RouteMap;
-pub use routes::RouteTable;
-pub use routes::image::byte_table::{ByteTableImage, ByteTableImageError, ByteTableRef};
-pub use routes::image::{RouteTableImage, RouteTableRef, TableImageError};
 pub use set::IpSet;
 pub use set::builder::IpSetBuilder;
 pub use set_networks::IpSetNetworks;

@@ -2,4 +2,6 @@
 pub mod AnswerLaws
 pub mod TextLengths
 pub mod PieceLaws
+pub mod TextCuts
 pub mod ReadingLaws
+pub mod ReportLaws

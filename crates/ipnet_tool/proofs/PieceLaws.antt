@@ -1,14 +1,16 @@
 -- A text that is read in pieces: if a piece ends with a line's end, its lines are followed by the lines of the next.
 use Rattle.std.proofs.Common.{◌≡◌, ◌≢◌, ℕ, ◌+◌, ◌<◌, ◌≤◌, List, [], ◌∷◌, ◌++◌, length, get_or}
 use Rattle.std.proofs.Common.{refl, sym, ap, ◌∙◌, subst, arith, append_assoc, IsUtf8, ne_eqb, suc}
-use Rattle.std.proofs.Common.{length-append}
-use Rattle.std.proofs.lemmas.List.Elements.{All-append}
+use Rattle.std.proofs.Common.{length-append, All, inl, inr}
+use Rattle.std.proofs.lemmas.List.{drop_at}
+use Rattle.std.proofs.lemmas.List.Elements.{All-append, All-head, All-tail, All-drop}
 use Rattle.std.proofs.lemmas.Str.{IsUtf8-append, IsUtf8-nil}
 use Rattle.ipnet.specs.Network.{Network}
 use Rattle.ipnet.specs.Blocks.{HaveSameCover}
 use Rattle.ipnet.specs.declared.parser.Grammar.{Grammar}
-use Rattle.ipnet.specs.Lines.{lines_of, onto_first_line, AreNetworksOf, IsFirstBadLine, IsGoodLine}
+use Rattle.ipnet.specs.Lines.{lines_of, onto_first_line, AreNetworksOf, IsFirstBadLine, IsGoodLine, IsBadLine}
 use Rattle.ipnet.proofs.LineLaws.{all_good, bad_line}
+use Rattle.ipnet_text.specs.BadLines.{StartsWithBadLine}
 use Rattle.ipnet_text.proofs.ClosedLines.{IsClosed, closed_append}
 use Rattle.ipnet_tool.specs.Reading.{IsTaken}
 use Rattle.ipnet_tool.proofs.TextLengths.{network_text_short}
@@ -104,6 +106,53 @@ bad_in_piece grammar front piece old number later taken bad =
     subst (IsFirstBadLine grammar (lines_of (front ++ piece))) (ap (λ n. n + later) (sym taken.count))
     (subst (λ z. IsFirstBadLine grammar z (length (lines_of front) + later)) (sym (taken.closed piece))
     (bad_after grammar (lines_of front) (lines_of piece) taken.written later taken.are bad))
+
+good_or_bad : (grammar : Grammar) (line : List ℕ) → IsGoodLine grammar line → ¬ (IsBadLine grammar line)
+good_or_bad grammar line (inl none) bad = bad.0 none
+good_or_bad grammar line (inr some) bad = bad.1 some.0 some.1
+
+-- after good lines, lines of which the first that is not empty is not bad
+at_once_after : (grammar : Grammar) (lines others before : List (List ℕ)) (line : List ℕ) (after : List (List ℕ))
+    → All (IsGoodLine grammar) lines → ((later : ℕ) → ¬ (StartsWithBadLine grammar others later))
+    → lines ++ others ≡ before ++ line ∷ after → All (IsGoodLine grammar) before → All (λ l. l ≡ []) before
+    → ¬ (IsBadLine grammar line)
+at_once_after grammar [] others before line after good none cut fine empty bad = none (length before + 1) (record {
+  first = record {
+    before = before;
+    line = line;
+    after = after;
+    cut = cut;
+    number_is = refl;
+    good = fine;
+    bad = bad;
+  };
+  empty = empty;
+})
+at_once_after grammar (l ∷ lines) others [] line after good none cut fine empty bad =
+    let same : l ≡ line = cc in
+    good_or_bad grammar line (subst (IsGoodLine grammar) same (All-head (IsGoodLine grammar) l lines good)) bad
+at_once_after grammar (l ∷ lines) others (b ∷ before) line after good none cut fine empty bad =
+    let rest : lines ++ others ≡ before ++ line ∷ after = cc in
+    at_once_after grammar lines others before line after (All-tail (IsGoodLine grammar) l lines good) none rest
+    (All-tail (IsGoodLine grammar) b before fine) (All-tail (λ z. z ≡ []) b before empty) bad
+
+pub not_at_once_after : (grammar : Grammar) (front piece : List ℕ) (old : List Network) (number : ℕ)
+    → IsTaken grammar front old number → ((later : ℕ) → ¬ (StartsWithBadLine grammar (lines_of piece) later))
+    → (later : ℕ) → ¬ (StartsWithBadLine grammar (lines_of (front ++ piece)) later)
+not_at_once_after grammar front piece old number taken none later h =
+    at_once_after grammar (lines_of front) (lines_of piece) h.first.before h.first.line h.first.after
+    (all_good grammar (lines_of front) taken.written taken.are) none (sym (taken.closed piece) ∙ h.first.cut)
+    h.first.good h.empty h.first.bad
+
+-- and lines that are not all empty
+pub some_after : (grammar : Grammar) (front piece : List ℕ) (old : List Network) (number : ℕ)
+    → IsTaken grammar front old number → ¬ (All (λ line. line ≡ []) (lines_of piece))
+    → ¬ (All (λ line. line ≡ []) (lines_of (front ++ piece)))
+some_after grammar front piece old number taken some all =
+    let lines = lines_of front in
+    some (subst (All (λ line. line ≡ [])) (drop_at lines (lines_of piece) _ refl)
+    (All-drop (λ line. line ≡ []) (length lines) (lines ++ lines_of piece)
+    (subst (All (λ line. line ≡ [])) (taken.closed piece) all)))
 
 -- and of the text with what follows it
 pub bad_before_more : (grammar : Grammar) (text more : List ℕ) (number : ℕ) → IsClosed text

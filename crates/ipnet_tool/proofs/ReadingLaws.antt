@@ -1,19 +1,24 @@
 -- The bytes that a reader returned; the window holds the last of them.
-use Rattle.std.proofs.Common.{◌≡◌, ℕ, ◌+◌, ◌<◌, List, [], ◌++◌, length, take, drop, sym, ap, ◌∙◌, subst}
-use Rattle.std.proofs.Common.{IsUtf8, Option}
+use Rattle.std.proofs.Common.{◌≡◌, ℕ, ◌+◌, ◌<◌, List, [], ◌++◌, length, take, drop, refl, sym, ap, ◌∙◌, subst}
+use Rattle.std.proofs.Common.{IsUtf8, Option, All, Contains, Bool, true, false}
 use Rattle.std.proofs.Common.{append_assoc, append-nil, take-append-drop, get_or, ◌≢◌, ◌≤◌, arith, length-drop}
 use Rattle.std.specs.Io.KnownBytes.{Consumes, IsAtEnd}
 use Rattle.std.proofs.KnownBytes.{Consumes-nil, Consumes-trans}
 use Rattle.std.proofs.lemmas.Str.{IsUtf8-append, IsUtf8-nil}
+use Rattle.std.proofs.lemmas.Grind.{get_or_default_zero}
 use Rattle.std.proofs.lemmas.List.{get_or-drop}
 use Rattle.ipnet.specs.Network.{Network}
 use Rattle.ipnet.specs.Blocks.{HaveSameCover}
 use Rattle.ipnet.specs.declared.parser.Grammar.{Grammar}
 use Rattle.ipnet.specs.Lines.{lines_of, AreNetworksOf, IsFirstBadLine}
-use Rattle.ipnet_tool.specs.Reading.{IsTextLeft, IsTaken, AreReadFrom, IsBadLineFrom}
+use Rattle.ipnet_text.specs.Inputs.{GaveWhole}
+use Rattle.ipnet_text.specs.BadLines.{StartsWithBadLine}
+use Rattle.ipnet_tool.specs.Reading.{IsTextLeft, IsTaken, AreReadFrom, IsBadLineFrom, IsNoTextLeft, IsNoTextFrom}
+use Rattle.ipnet_tool.specs.Reading.{TakesMemoryFrom}
 use Rattle.ipnet_text.proofs.ClosedLines.{IsClosed, closed_append}
 use Rattle.ipnet_tool.proofs.PieceLaws.{taken_none, taken_more, networks_more, bad_in_piece}
-use Rattle.ipnet_tool.proofs.PieceLaws.{bad_before_more, long_is_bad}
+use Rattle.ipnet_tool.proofs.PieceLaws.{bad_before_more, long_is_bad, not_at_once_after, some_after}
+use Rattle.ipnet_tool.proofs.TextCuts.{text_after, closed_text}
 
 -- the bytes of two pieces, cut behind the first bytes of the second
 regrouped : (front held given : List ℕ) (count : ℕ)
@@ -45,13 +50,36 @@ judged_more first a b c held given now count (judged, more, is_text, is, read) f
   Consumes-trans a b c more given read given_now,
 )
 
-pub judged_whole : (first : List ℕ) (a b : Option (List ℕ)) (held : List ℕ) → IsJudged first a b held → held ≡ []
+-- at the end, what is held decides
+pub judged_whole : (first : List ℕ) (a b : Option (List ℕ)) (held : List ℕ) → IsJudged first a b held → IsUtf8 held
     → IsAtEnd b → IsTextLeft first a b
-judged_whole first a b held (judged, more, is_text, is, read) none end = record {
+judged_whole first a b held (judged, more, is_text, is, read) ends end = record {
   more = more;
-  is_text = subst IsUtf8 (sym (is ∙ ap (λ z. judged ++ z) none ∙ append-nil judged)) is_text;
+  is_text = subst IsUtf8 (sym is) (IsUtf8-append judged held is_text ends);
   read = record { given = read; whole = end };
 }
+
+pub judged_no_text : (first : List ℕ) (a b : Option (List ℕ)) (held : List ℕ) → IsJudged first a b held
+    → ¬ (IsUtf8 held) → IsAtEnd b → IsNoTextLeft first a b
+judged_no_text first a b held (judged, more, is_text, is, read) bad end = record {
+  more = more;
+  read = record { given = read; whole = end };
+  no_text = λ all. bad (text_after judged held is_text (subst IsUtf8 is all));
+}
+
+-- before the end, if nothing makes what is held a text
+pub judged_bad : (first : List ℕ) (a b c : Option (List ℕ)) (held later : List ℕ) (count : ℕ) → IsJudged first a b held
+    → IsUtf8 (take count held) → ¬ (IsUtf8 (drop count held ++ later)) → GaveWhole b c later → IsNoTextLeft first a c
+judged_bad first a b c held later count (judged, more, is_text, is, read) front bad last =
+    let text = judged ++ take count held in
+    let whole : first ++ (more ++ later) ≡ text ++ (drop count held ++ later) =
+    sym (append_assoc first more later) ∙ ap (λ z. z ++ later) is ∙ regrouped judged held later count in
+    record {
+      more = more ++ later;
+      read = record { given = Consumes-trans a b c more later read last.given; whole = last.whole };
+      no_text = λ all. bad (text_after text (drop count held ++ later)
+          (IsUtf8-append judged (take count held) is_text front) (subst IsUtf8 whole all));
+    }
 
 -- ---- what was taken of a text, and what is held of it
 
@@ -173,3 +201,86 @@ pub none_after : (held after : List ℕ) (count : ℕ) → after ≡ drop count 
 none_after held after count is none k less e =
     none (count + k) (omega arith) (omega (arith, less, ap length is, length-drop count held))
     (sym (ap (λ z. get_or z k 0) is ∙ get_or-drop count held k 0) ∙ e)
+
+-- ---- inputs that are not UTF-8
+
+-- if the whole lines that are held are not UTF-8, the input is not UTF-8
+pub lines_no_text : (grammar : Grammar) (a b c : Option (List ℕ)) (held later : List ℕ) (networks : List Network)
+    (number count : ℕ) → IsReadUpTo grammar a b held networks number → IsClosed (take count held)
+    → ¬ (IsUtf8 (take count held)) → GaveWhole b c later → IsNoTextFrom a c
+lines_no_text grammar a b c held later networks number count h closed bad last =
+    let piece = take count held in
+    let text = h.front ++ (piece ++ (drop count held ++ later)) in
+    let whole : (h.front ++ held) ++ later ≡ text =
+    regrouped h.front held later count ∙ append_assoc h.front piece (drop count held ++ later) in
+    record {
+      bytes = text;
+      read = record {
+        given = subst (Consumes a c) whole (Consumes-trans a b c (h.front ++ held) later h.read last.given);
+        whole = last.whole;
+      };
+      no_text = λ all. bad (closed_text piece (drop count held ++ later) closed
+          (text_after h.front (piece ++ (drop count held ++ later)) h.taken.is_text all));
+    }
+
+-- if the last bytes are not UTF-8, the input is not UTF-8
+pub last_no_text : (grammar : Grammar) (a b : Option (List ℕ)) (held : List ℕ) (networks : List Network) (number : ℕ)
+    → IsReadUpTo grammar a b held networks number → ¬ (IsUtf8 held) → IsAtEnd b → IsNoTextFrom a b
+last_no_text grammar a b held networks number h bad end = record {
+  bytes = h.front ++ held;
+  read = record { given = h.read; whole = end };
+  no_text = λ all. bad (text_after h.front held h.taken.is_text all);
+}
+
+-- if what is read after a refused line is not UTF-8, the input is not UTF-8
+pub rest_no_text : (grammar : Grammar) (a b c : Option (List ℕ)) (held after : List ℕ) (networks : List Network)
+    (number count : ℕ) → IsReadUpTo grammar a b held networks number → IsUtf8 (take count held)
+    → after ≡ drop count held → IsNoTextLeft after b c → IsNoTextFrom a c
+rest_no_text grammar a b c held after networks number count h is_text rest left =
+    let text = h.front ++ take count held in
+    record {
+      bytes = text ++ (after ++ left.more);
+      read = record {
+        given = subst (Consumes a c) (regrouped h.front held left.more count
+            ∙ ap (λ z. text ++ (z ++ left.more)) (sym rest))
+            (Consumes-trans a b c (h.front ++ held) left.more h.read left.read.given);
+        whole = left.read.whole;
+      };
+      no_text = λ all. left.no_text (text_after text (after ++ left.more)
+          (IsUtf8-append h.front (take count held) h.taken.is_text is_text) all);
+    }
+
+-- ---- memory
+
+-- memory ran out at the whole lines that are held
+pub memory_taken : (grammar : Grammar) (a b : Option (List ℕ)) (held : List ℕ) (networks : List Network)
+    (number count : ℕ) → IsReadUpTo grammar a b held networks number → IsUtf8 (take count held)
+    → ¬ (Contains (drop count held) 10) → ¬ (All (λ line. line ≡ []) (lines_of (take count held)))
+    → ((later : ℕ) → ¬ (StartsWithBadLine grammar (lines_of (take count held)) later)) → TakesMemoryFrom grammar a b
+memory_taken grammar a b held networks number count h is_text none some not_at_once =
+    let piece = take count held in
+    record {
+      text = h.front ++ piece;
+      rest = drop count held;
+      read = subst (Consumes a b) (ap (λ z. h.front ++ z) (sym (take-append-drop count held))
+          ∙ sym (append_assoc h.front piece (drop count held))) h.read;
+      is_text = IsUtf8-append h.front piece h.taken.is_text is_text;
+      no_more_lines = none;
+      some = some_after grammar h.front piece networks number h.taken some;
+      not_at_once = not_at_once_after grammar h.front piece networks number h.taken not_at_once;
+    }
+
+-- no line ends in what is held after the last line
+none_held : (held : List ℕ) (count : ℕ)
+    → ((k : ℕ) → count ≤ k → k < length held → get_or held k 0 ≢ 10) → ¬ (Contains (drop count held) 10)
+none_held held count none (k, less, e) =
+    none_after held (drop count held) count refl none k less
+    (sym (get_or_default_zero (drop count held) k 10 less) ∙ e)
+
+none_at_all : (held : List ℕ) (count : ℕ) → length held ≤ count → ¬ (Contains (drop count held) 10)
+none_at_all held count all (k, less, e) = absurd (omega (arith, less, length-drop count held))
+
+pub none_behind : (more : Bool) (held : List ℕ) (count : ℕ) → (more ≡ false → count ≡ length held)
+    → (more ≡ true → (k : ℕ) → count ≤ k → k < length held → get_or held k 0 ≢ 10) → ¬ (Contains (drop count held) 10)
+none_behind true held count all last = none_held held count (last refl)
+none_behind false held count all last = none_at_all held count (omega (arith, all refl))

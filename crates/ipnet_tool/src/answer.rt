@@ -12,8 +12,8 @@ use ipnet_text::{NetLists, write_whole};
 use std::io;
 use std::io::Write;
 
-/// Writes the canonical texts of the networks, one per line, IPv4 first, and flushes the writer. If a write or the
-/// flush fails, a front of the lines has been written.
+/// Writes the canonical texts of the networks, one per line, IPv4 first. If a write fails, a front of the lines has
+/// been written.
 pub(crate) fn write_networks<W: Write>(out: &mut W, families: &NetLists) -> io::Result<()>
     ensures whole { OnOk result
         (Appends (W.contents out.old) (W.contents out.new) (text_of_lines (networks_of families.now))) }
@@ -27,6 +27,5 @@ pub(crate) fn write_networks<W: Write>(out: &mut W, families: &NetLists) -> io::
     for network in &families.ipv6 {
         put_line(out, &mut piece, IpNet::V6(*network))?;
     }
-    write_whole(out, piece.as_str().as_bytes())?;
-    out.flush()
+    write_whole(out, piece.as_str().as_bytes())
 }

@@ -5,11 +5,15 @@
 //! only if each of these pieces is.
 ghost use Rattle.std.specs.Prelude.{◌≡◌, ◌≢◌, ℕ, ◌+◌, ◌<◌, ◌≤◌, ◌⊎◌, List, ◌++◌, length, take, IfOk, IfErr, Err};
 ghost use Rattle.std.specs.Prelude.{slice_index, true, false};
+ghost use Rattle.std.specs.Io.KnownBytes.{Keeps};
 ghost use Rattle.ipnet.specs.Lines.{lines_of};
 ghost use Rattle.ipnet_text.specs.NetLists.{networks_of};
 ghost use Rattle.ipnet_text.specs.Window.{held};
-ghost use Rattle.ipnet_tool.specs.Reading.{AreReadFrom, IsBadLineFrom, IsTextLeft};
+ghost use Rattle.ipnet_text.specs.Inputs.{GaveWhole};
+ghost use Rattle.ipnet_tool.specs.Reading.{AreReadFrom, IsBadLineFrom, IsTextLeft, IsNoTextLeft};
+ghost use Rattle.ipnet_tool.specs.Reading.{IsNoTextFrom, TakesMemoryFrom};
 ghost use Rattle.ipnet_tool.specs.declared.failure.Failure.TheVariants.{Arguments, Unreadable, NotUtf8, Line};
+ghost use Rattle.ipnet_tool.specs.declared.failure.Failure.TheVariants.{Memory, Unwritable};
 
 use crate::failure::Failure;
 use ipnet::Grammar;
@@ -38,7 +42,10 @@ pub(crate) fn read_networks<R: Read>(
         AreReadFrom grammar (R.remaining input.old) (R.remaining input.new) (networks_of families)) }
     ensures bad_line { (number : ℕ) → result ≡ Err (Failure.Line number)
         → IsBadLineFrom grammar (R.remaining input.old) (R.remaining input.new) number }
-    ensures failure { IfErr result (λ failure. failure ≢ Arguments) }
+    ensures not_utf8 { result ≡ Err NotUtf8 → IsNoTextFrom (R.remaining input.old) (R.remaining input.new) }
+    ensures memory { result ≡ Err Memory → Keeps (R.remaining input.old) (R.remaining input.new)
+        ⊎ TakesMemoryFrom grammar (R.remaining input.old) (R.remaining input.new) }
+    ensures failure { IfErr result (λ failure. (failure ≢ Arguments) × (failure ≢ Unwritable)) }
 {
     let mut window = Window::new(alloc)?;
     let mut families = NetLists::new(alloc);
@@ -81,7 +88,9 @@ pub(crate) fn read_networks<R: Read>(
 fn after_bad_line<R: Read>(window: &mut Window, input: &mut R, number: usize) -> Failure
     ensures line { (line : ℕ) → result ≡ Failure.Line line → (line ≡ number)
         × IsTextLeft (held window.old) (R.remaining input.old) (R.remaining input.new) }
-    ensures failure { result ≢ Arguments }
+    ensures not_utf8 { result ≡ NotUtf8
+        → IsNoTextLeft (held window.old) (R.remaining input.old) (R.remaining input.new) }
+    ensures failure { (result ≡ Failure.Line number) ⊎ (result ≡ NotUtf8) ⊎ (result ≡ Unreadable) }
 {
     for _ in 0..u64::MAX {
         let count = match str::from_utf8(window.held()) {
@@ -94,7 +103,7 @@ fn after_bad_line<R: Read>(window: &mut Window, input: &mut R, number: usize) ->
         }
         match window.fill(input) {
             Ok(true) => {}
-            Ok(false) if window.held().is_empty() => return Failure::Line(number),
+            Ok(false) if str::from_utf8(window.held()).is_ok() => return Failure::Line(number),
             Ok(false) => return Failure::NotUtf8,
             Err(error) => return Failure::from(error),
         }
@@ -104,7 +113,9 @@ fn after_bad_line<R: Read>(window: &mut Window, input: &mut R, number: usize) ->
 
 /// The failure to report if the input is not UTF-8. The rest is read, because a failed read is reported first.
 fn after_bad_bytes<R: Read>(window: &mut Window, input: &mut R) -> Failure
-    ensures { (result ≡ NotUtf8) ⊎ (result ≡ Unreadable) }
+    ensures whole { result ≡ NotUtf8
+        → (more : List ℕ) × GaveWhole (R.remaining input.old) (R.remaining input.new) more }
+    ensures failure { (result ≡ NotUtf8) ⊎ (result ≡ Unreadable) }
 {
     for _ in 0..u64::MAX {
         let count = window.held().len();

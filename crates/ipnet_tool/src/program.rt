@@ -1,19 +1,24 @@
 //! The program, over any reader and writers.
-ghost use Rattle.std.specs.Prelude.{◌≡◌, ◌≤◌, ◌⊎◌, ◌↔◌, drop, IfErr, IfSome, IfNone};
+ghost use Rattle.std.specs.Prelude.{◌≡◌, ◌≢◌, ◌≤◌, ◌⊎◌, ◌↔◌, [], ⊤, drop, Err, IfSome, IfNone, IfOk, IfErr, OnErr};
+ghost use Rattle.std.specs.Prelude.{MatchResult};
+ghost use Rattle.std.specs.IoError.{error_kind};
 ghost use Rattle.std.specs.Vec.Iter.{into_iter_items};
 ghost use Rattle.std.specs.Io.KnownBytes.{Keeps};
 ghost use Rattle.ipnet.specs.declared.parser.Grammar.{Grammar};
-ghost use Rattle.ipnet_tool.specs.Runs.{IsChosenBy, IsAnswered, IsCutShort, HasBadLine};
+ghost use Rattle.ipnet_tool.specs.FailureTexts.{IsReported};
+ghost use Rattle.ipnet_tool.specs.Runs.{IsChosenBy, IsAnswered, IsCutShort, HasBadLine, IsFailedBy};
 ghost use Rattle.ipnet_tool.specs.Statuses.{status_of};
+ghost use Rattle.ipnet_tool.specs.Watched.{writer_of, place_of, IsFlushed, HasFailed};
+ghost use Rattle.ipnet_tool.specs.declared.failure.Failure.{Failure};
 ghost use Rattle.ipnet_tool.specs.declared.failure.Failure.TheVariants.{Arguments, Memory};
 
-use crate::answer::write_networks;
 use crate::failure::Failure;
 use crate::input::read_networks;
+use crate::watched::Watched;
 use ipnet::Grammar;
-use std::alloc::Global;
-use std::env;
-use std::env::Env;
+use std::alloc::{AllocError, Global};
+use std::env::Args;
+use std::io;
 use std::io::{ErrorKind, Read, Write};
 use std::vec::IntoIter;
 
@@ -54,6 +59,49 @@ pub fn run<R: Read, W: Write, X: Write>(
         (R.remaining input.old) (R.remaining input.new) (W.contents out.old) (W.contents out.new) }
     ensures faultless { result ≡ 0 → Keeps (X.contents faults.old) (X.contents faults.new) }
     ensures bad_line { result ≡ 1 → HasBadLine args.now (R.remaining input.old) (R.remaining input.new) }
+    ensures reported { result ≢ 0 → (failure : Failure) × (result ≡ status_of failure)
+        × IsFailedBy args.now failure
+        (R.remaining input.old) (R.remaining input.new) (W.contents out.old) (W.contents out.new)
+        × IsReported failure (X.contents faults.old) (X.contents faults.new) ⊤ }
+{
+    let mut out = Watched::new(out);
+    let mut faults = Watched::new(faults);
+    run_watched(alloc, args, input, &mut out, &mut faults)
+}
+
+/// Runs the program as [`run`] does, for watched writers. At status 0 the output is flushed. At any
+/// other status `faults` has the whole line of the failure, unless a write to it failed.
+///
+/// ```text
+/// arguments none, input "10.0.0.0/24\n": status 0, and out is flushed
+/// ```
+pub fn run_watched<R: Read, W: Write, X: Write>(
+    alloc: Global,
+    args: &[String],
+    input: &mut R,
+    out: &mut Watched<'_, W>,
+    faults: &mut Watched<'_, X>,
+) -> u8
+    ensures status { result ≤ 3 }
+    ensures refused { (result ≡ 2) ↔ ((grammar : Grammar) → ¬ (IsChosenBy args.now grammar)) }
+    ensures unread { result ≡ 2 → Keeps (R.remaining input.old) (R.remaining input.new) }
+    ensures silent { (result ≡ 1) ⊎ (result ≡ 2)
+        → Keeps (W.contents (writer_of out.old)) (W.contents (writer_of out.new)) }
+    ensures answered { result ≡ 0 → IsAnswered args.now (R.remaining input.old) (R.remaining input.new)
+        (W.contents (writer_of out.old)) (W.contents (writer_of out.new)) }
+    ensures flushed { result ≡ 0 → IsFlushed out.new }
+    ensures cut_short { result ≡ 3 → Keeps (W.contents (writer_of out.old)) (W.contents (writer_of out.new))
+        ⊎ IsCutShort args.now (R.remaining input.old) (R.remaining input.new)
+        (W.contents (writer_of out.old)) (W.contents (writer_of out.new)) }
+    ensures faultless { result ≡ 0 → faults.new ≡ faults.old }
+    ensures bad_line { result ≡ 1 → HasBadLine args.now (R.remaining input.old) (R.remaining input.new) }
+    ensures reported { result ≢ 0 → (failure : Failure) × (result ≡ status_of failure)
+        × IsFailedBy args.now failure (R.remaining input.old) (R.remaining input.new)
+        (W.contents (writer_of out.old)) (W.contents (writer_of out.new))
+        × IsReported failure (X.contents (writer_of faults.old)) (X.contents (writer_of faults.new))
+        (HasFailed faults.new) }
+    ensures same_out { place_of out.new ≡ place_of out.old }
+    ensures same_faults { place_of faults.new ≡ place_of faults.old }
 {
     let Some(grammar) = chosen(args) else {
         return report(faults, Failure::Arguments);
@@ -63,7 +111,7 @@ pub fn run<R: Read, W: Write, X: Write>(
         Err(failure) => return report(faults, failure),
     };
     families.aggregate();
-    let Ok(()) = write_networks(out, &families) else {
+    let Ok(()) = out.put_networks(&families) else {
         return report(faults, Failure::Unwritable);
     };
     0
@@ -81,31 +129,42 @@ fn chosen(args: &[String]) -> Option<Grammar>
     }
 }
 
-/// The arguments that the system passed, without the program's own name, which comes first.
+/// Returns the arguments among the words that the system passed: all of them, in order, except the program's own name,
+/// which comes first.
 ///
-/// An argument that is not UTF-8 is refused with `Arguments`, like any other word. If memory runs out, the error is
-/// `Memory`.
+/// Words that `std::env::args` refuses because one is not UTF-8 are refused with `Arguments`, like any other word. If
+/// memory runs out, the error is `Memory`. A program without arguments needs no memory here.
 ///
 /// ```text
-/// the words  ipnet legacy  have the arguments  legacy
+/// arguments(alloc, env::args(&rt)), of the words  ipnet legacy  has the arguments  legacy
 /// ```
-pub fn arguments<R: Env + AllocGlobal>(rt: &R) -> Result<Vec<String>, Failure>
-    ensures { IfErr result (λ failure. (failure ≡ Arguments) ⊎ (failure ≡ Memory)) }
+pub fn arguments(alloc: Global, words: io::Result<Args>) -> Result<Vec<String>, Failure>
+    ensures given { IfOk words (λ words. MatchResult result
+        (λ args. args.items ≡ drop 1 (into_iter_items words))
+        (λ failure. (failure ≡ Memory) × (drop 1 (into_iter_items words) ≢ []))) }
+    ensures refused { IfErr words (λ error.
+        (error_kind error ≡ ErrorKind.OutOfMemory → result ≡ Err Memory)
+        × (error_kind error ≢ ErrorKind.OutOfMemory → result ≡ Err Arguments)) }
 {
-    match env::args(rt) {
-        Ok(args) => Ok(after_name(args).collect::<Vec<String>>(rt.alloc())?),
+    match words {
+        Ok(words) => Ok(after_name(alloc, words)?),
         Err(error) if error.kind() == ErrorKind::OutOfMemory => Err(Failure::Memory),
         Err(_) => Err(Failure::Arguments),
     }
 }
 
 /// The words without the first, if there is one.
-fn after_name(words: IntoIter<String>) -> IntoIter<String>
-    ensures { into_iter_items result ≡ drop 1 (into_iter_items words) }
+fn after_name(alloc: Global, words: IntoIter<String>) -> Result<Vec<String>, AllocError>
+    ensures ok { IfOk result (λ args. args.items ≡ drop 1 (into_iter_items words)) }
+    ensures err { OnErr result (drop 1 (into_iter_items words) ≢ []) }
 {
     let mut rest = words;
     let _name = rest.next();
-    rest
+    let mut args = Vec::new(alloc);
+    for word in rest {
+        args.push(word)?;
+    }
+    Ok(args)
 }
 
 /// Reports the failure in one line, ignoring a failed write, and returns its exit status, as the table of [`run`]
@@ -114,9 +173,13 @@ fn after_name(words: IntoIter<String>) -> IntoIter<String>
 /// ```text
 /// of Failure::Line(2): status 1, and faults gets "line 2: invalid IP address syntax\n"
 /// ```
-pub fn report<X: Write>(faults: &mut X, failure: Failure) -> u8
-    ensures { result ≡ status_of failure }
+#[tactic(auto, using(crate::proofs::ReportLaws::reported))]
+pub fn report<X: Write>(faults: &mut Watched<'_, X>, failure: Failure) -> u8
+    ensures status { result ≡ status_of failure }
+    ensures line { IsReported failure (X.contents (writer_of faults.old)) (X.contents (writer_of faults.new))
+        (HasFailed faults.new) }
+    ensures same_reference { place_of faults.new ≡ place_of faults.old }
 {
-    let _ = writeln!(faults, "{failure}");
+    let _ = faults.put(failure.to_line().as_str().as_bytes());
     failure.status()
 }

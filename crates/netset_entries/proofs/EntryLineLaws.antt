@@ -4,9 +4,9 @@ use Rattle.std.proofs.Common.{subst}
 use Rattle.std.proofs.Common.{take_all, Option, Result, Ok, Err, IfOk, IfErr, inl, inr, refl}
 use Rattle.std.proofs.lemmas.List.{map_push, take_more}
 use Rattle.ipnet.specs.declared.parser.Grammar.{Grammar}
-use Rattle.netset_lib.specs.declared.cause.Cause.{Cause}
-use Rattle.netset_lib.specs.ContentLineOf.{AddsRead}
-use Rattle.netset_lib.specs.ContentLines.{ContentLine, RefusedContent}
+use Rattle.ipnet_lists.specs.declared.cause.Cause.{Cause}
+use Rattle.ipnet_lists.specs.ContentLineOf.{AddsRead}
+use Rattle.ipnet_lists.specs.ContentLines.{ContentLine, RefusedContent}
 use Rattle.netset_entries.specs.declared.entry_list.EntryLine.{EntryLine}
 use Rattle.netset_entries.specs.EntryLineOf.{numbered}
 use Rattle.netset_entries.specs.NumberedEntries.{NumberedEntry, IsEntryOfLine, IsRefusedFor, AreEntryLines}

@@ -9,7 +9,7 @@ use Rattle.ipnet.specs.Lines.{lines_of}
 use Rattle.ipnet.specs.declared.net.IpNet.{IpNet}
 use Rattle.ipnet.specs.declared.parser.Grammar.{Grammar}
 use Rattle.ipnet_text.proofs.ClosedLines.{closed_append}
-use Rattle.netset_lib.proofs.LineEnds.{ended, ended_closed, only, before_end, no_end, to_end}
+use Rattle.ipnet_lists.proofs.LineEnds.{ended, ended_closed, only, before_end, no_end, to_end}
 use Rattle.netset_entries.specs.NotedEntries.{without_mark, list_lines, lines_of_all}
 use Rattle.netset_entries.specs.NoteSteps.{AreKept, ReadsLine, ReadsBegun, IsStart, first_text, HaveNoted, ReadsUpTo}
 use Rattle.netset_entries.specs.NoteSteps.{IsAtEnd, EndsLine}

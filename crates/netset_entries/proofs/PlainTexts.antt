@@ -23,12 +23,12 @@ use Rattle.ipnet.specs.Numerals.{IsDecimal}
 use Rattle.ipnet.specs.NetworkTexts.{IsNetworkText}
 use Rattle.ipnet.proofs.Ipv4Texts.{Dots-from}
 use Rattle.ipnet_sets.specs.SetRanges.{IsInRange}
-use Rattle.netset_lib.specs.Entries.{IsAddressText, IsEntryText, IsPlainEntry, IsNetworkOrMasked, IsMaskedText}
-use Rattle.netset_lib.specs.Entries.{block_range}
-use Rattle.netset_lib.proofs.PlainLines.{plain_contents}
-use Rattle.netset_lib.proofs.AddressBytes.{IsAddressByte, IsPlainByte, decimal_bytes, middle, one_back}
-use Rattle.netset_lib.proofs.EntryTexts.{address_bytes, cut_no_address, network_cut}
-use Rattle.netset_lib.proofs.RangeCovers.{whole_block}
+use Rattle.ipnet_lists.specs.Entries.{IsAddressText, IsEntryText, IsPlainEntry, IsNetworkOrMasked, IsMaskedText}
+use Rattle.ipnet_lists.specs.Entries.{block_range}
+use Rattle.ipnet_lists.proofs.PlainLines.{plain_contents}
+use Rattle.ipnet_lists.proofs.AddressBytes.{IsAddressByte, IsPlainByte, decimal_bytes, middle, one_back}
+use Rattle.ipnet_lists.proofs.EntryTexts.{address_bytes, cut_no_address, network_cut}
+use Rattle.ipnet_lists.proofs.RangeCovers.{whole_block}
 use Rattle.netset_entries.specs.NoteSteps.{AreSigns, EndsInLength, HasLength, byte_sign, family_if}
 use Rattle.netset_entries.specs.declared.plain.Signs.{Signs}
 
@@ -202,7 +202,7 @@ pub seen_all : (text : List ℕ) (i : ℕ) (is_plain : Bool) (s : Signs) → len
 seen_all text i is_plain s past plain h =
     let whole = take_all i text past in
     record {
-      contents = λ grammar. plain_contents grammar text (subst (All IsPlainByte) whole (h.plain plain));
+      contents = plain_contents text (subst (All IsPlainByte) whole (h.plain plain));
       no_dash = subst (All (λ b. b ≢ 45)) whole (h.no_dash plain);
       colon = λ e all. h.colon e (subst (All (λ b. b ≢ 58)) (sym whole) all);
       no_colon = λ e. subst (All (λ b. b ≢ 58)) whole (h.no_colon e);

@@ -18,7 +18,7 @@ use Rattle.ipnet_rules.proofs.VerdictLaws.{any_push}
 use Rattle.ipnet_sets.specs.SetRanges.{range_of, IsInRange}
 use Rattle.netset_entries.specs.declared.entry_list.EntryLine.{EntryLine}
 use Rattle.netset_entries.specs.EntryLineOf.{numbered}
-use Rattle.netset_lib.specs.EntryOf.{entry_range}
+use Rattle.ipnet_lists.specs.EntryOf.{entry_range}
 use Rattle.netset_entries.specs.NumberedEntries.{NumberedEntry}
 use Rattle.netset_entries.specs.declared.redundancy.Covered.{Covered}
 use Rattle.netset_entries.specs.declared.redundancy.Kept.{Kept}

@@ -5,7 +5,7 @@ use Rattle.ipnet_base.specs.Network.{Network}
 use Rattle.ipnet_sets.specs.declared.set.IpSet.{IpSet}
 use Rattle.ipnet_sets.specs.Members.{IsMember}
 use Rattle.netset_lib.specs.declared.answer.Request.{Request}
-use Rattle.netset_lib.specs.Lists.{IsInEntries}
+use Rattle.ipnet_lists.specs.Lists.{IsInEntries}
 use Rattle.netset_lib.specs.Operations.{IsInResult}
 use Rattle.netset_lib.specs.PlanAnswers.{IsResultSet}
 use Rattle.netset_entries.specs.Supernets.{IsSupernetFor, AreSupernetLines, IsSupernetAnswer}

@@ -4,8 +4,9 @@ use Rattle.std.proofs.Common.{◌∙◌, arith, cond, inl, inr, nat_lt}
 use Rattle.std.specs.Str.Lossy.{utf8_lossy}
 use Rattle.std.proofs.lemmas.Bool.{cases_order}
 use Rattle.std.proofs.lemmas.List.{drop_all}
-use Rattle.ipnet_pictures.specs.ShortTexts.{IsShortened}
-use Rattle.netset_lib.specs.Lists.{IsCommentAt, without_blanks}
+use Rattle.ipnet_bars.specs.ShortTexts.{IsShortened}
+use Rattle.ipnet_lists.specs.Comments.{IsCommentAt}
+use Rattle.ipnet_lists.specs.Lists.{without_blanks}
 use Rattle.netset_entries.specs.NotedEntries.{IsCommentOf, IsTitleOf}
 
 -- a line without a comment

@@ -7,9 +7,9 @@ use Rattle.ipnet_base.specs.Network.{Network}
 use Rattle.ipnet_base.specs.Ranges.{AddressRange}
 use Rattle.ipnet.specs.declared.parser.Grammar.{Grammar}
 use Rattle.ipnet_sets.specs.SetRanges.{IsInRange}
-use Rattle.netset_lib.specs.Entries.{IsEntryText}
-use Rattle.netset_lib.specs.Lists.{IsContents}
-use Rattle.netset_lib.proofs.OneReading.{one_contents, one_entry}
+use Rattle.ipnet_lists.specs.Entries.{IsEntryText}
+use Rattle.ipnet_lists.specs.Lists.{IsContents}
+use Rattle.ipnet_lists.proofs.OneReading.{one_contents, one_entry}
 use Rattle.netset_entries.specs.NotedEntries.{IsCommentOf, IsTitleOf, IsTitledBlock}
 use Rattle.netset_entries.specs.NoteSteps.{HasLength, IsSmallLine, largest_of}
 use Rattle.netset_entries.specs.declared.noted.NotedBlocks.{NotedBlocks}
@@ -17,12 +17,12 @@ use Rattle.netset_entries.proofs.TitleLaws.{one_comment, one_title}
 
 -- ---- its blocks
 
-module _ (grammar : Grammar) (line text : List ℕ) (contents : IsContents grammar line text) where
+module _ (grammar : Grammar) (line text : List ℕ) (contents : IsContents line text) where
   -- the contents of the line are its entry
   same_writes : (n : Network) (title : List ℕ) (h : IsTitledBlock grammar n title line)
       → IsEntryText grammar text h.range
   same_writes n title h =
-      subst (λ z. IsEntryText grammar z h.range) (one_contents grammar line h.text text h.contents contents) h.writes
+      subst (λ z. IsEntryText grammar z h.range) (one_contents line h.text text h.contents contents) h.writes
 
   -- a line whose contents are not an entry
   pub none_titled : ((range : AddressRange) → ¬ (IsEntryText grammar text range)) → (n : Network) (title : List ℕ)
@@ -41,18 +41,18 @@ module _ (grammar : Grammar) (line text : List ℕ) (contents : IsContents gramm
       → (n : Network) (other : List ℕ) → IsTitledBlock grammar n other line → other ≡ title
   titled_as comment title has is n other h =
       one_title text comment other title
-      (subst (λ z. IsTitleOf z comment other) (one_contents grammar line h.text text h.contents contents)
+      (subst (λ z. IsTitleOf z comment other) (one_contents line h.text text h.contents contents)
       (subst (λ z. IsTitleOf h.text z other) (one_comment line h.comment comment h.has_comment has) h.titled)) is
 
 -- a line with one network that is too small
-pub small_line : (b : NotedBlocks) (line text : List ℕ) (family : Family) (len : ℕ) → IsContents b.grammar line text
+pub small_line : (b : NotedBlocks) (line text : List ℕ) (family : Family) (len : ℕ) → IsContents line text
     → HasLength text family len → (largest_of family b).end ≤ len → IsSmallLine b line
 small_line b line text family len contents has past = λ n title h.
     let is = has b.grammar h.range (same_writes b.grammar line text contents n title h) n h.block in
     subst (λ f. (largest_of f b).end ≤ n.prefix_len) (sym is.0) (omega (arith, past, is.1))
 
 -- a line whose entry has only blocks that are too small
-pub small_entry : (b : NotedBlocks) (line text : List ℕ) → IsContents b.grammar line text → (range : AddressRange)
+pub small_entry : (b : NotedBlocks) (line text : List ℕ) → IsContents line text → (range : AddressRange)
     → IsEntryText b.grammar text range
     → ((n : Network) → IsMaximal (IsInRange range) 0 n → (largest_of n.family b).end ≤ n.prefix_len)
     → IsSmallLine b line

@@ -1,16 +1,17 @@
 -- The entries of two lists, one after the other, and the text of their pairs.
+use Rattle.std.specs.Borrow.{Bor}
 use Rattle.std.proofs.Common.{◌≡◌, ℕ, List, [], ◌++◌, length, map, Option, Some, sym, ap, ◌∙◌, subst, subst₂}
-use Rattle.std.proofs.Common.{Bool, true, ◌==◌, vec_len, arith}
+use Rattle.std.proofs.Common.{Bool, true, false, not, ◌==◌, vec_len, arith, refl, None}
 use Rattle.std.proofs.lemmas.Bool.{eqb-true}
 use Rattle.std.proofs.lemmas.List.{map-append, length-map, nil_from_length}
 use Rattle.ipnet.specs.declared.parser.Grammar.{Grammar}
-use Rattle.netset_lib.specs.ContentLineOf.{refused_of}
-use Rattle.ipnet_text.specs.Outputs.{IsWritten, IsFrontWritten}
+use Rattle.ipnet_lists.specs.ContentLineOf.{refused_of}
 use Rattle.netset_entries.specs.declared.entry_list.EntryLine.{EntryLine}
 use Rattle.netset_entries.specs.declared.entry_list.EntryList.{EntryList}
-use Rattle.netset_entries.specs.EntryLineOf.{numbered, IsReadOf}
+use Rattle.netset_entries.specs.declared.overlaps.Asked.{Asked}
+use Rattle.netset_entries.specs.EntryLineOf.{numbered, IsReadOf, AreAsked}
 use Rattle.netset_entries.specs.NumberedEntries.{NumberedEntry, IsEntryList}
-use Rattle.netset_entries.specs.Overlaps.{HoldsOfTwo, IsOverlapText, IsOverlapAnswerOfTwo}
+use Rattle.netset_entries.specs.Overlaps.{HoldsOfTwo, HoldsOfLists, HasOverlap, HasNoOverlap, IsOverlapOutcome}
 
 -- no line is refused
 pub all_read : (grammar : Grammar) (bytes : List ℕ) (list : EntryList) (empty : Bool) → IsReadOf grammar bytes list
@@ -25,7 +26,7 @@ module _ (grammar : Grammar) (bytes other : List ℕ) (first second joined : Lis
     (read : IsEntryList grammar bytes (map numbered first) [])
     (other_read : IsEntryList grammar other (map numbered second) [])
     (is : joined ≡ first ++ second) (counted : count ≡ Some (length first)) where
-  pub of_two : (Holds : List NumberedEntry → Option ℕ → Type 0) → Holds (map numbered joined) count
+  of_two : (Holds : List NumberedEntry → Option ℕ → Type 0) → Holds (map numbered joined) count
       → HoldsOfTwo grammar bytes other Holds
   of_two Holds h = record {
     entries = map numbered first;
@@ -38,20 +39,25 @@ module _ (grammar : Grammar) (bytes other : List ℕ) (first second joined : Lis
     };
   }
 
-  pub written_of_two : (a b : Option (List ℕ)) → IsWritten (IsOverlapText (map numbered joined) count) a b
-      → IsWritten (IsOverlapAnswerOfTwo grammar bytes other) a b
-  written_of_two a b h = record {
-    text = h.text;
-    right = of_two (λ entries count. IsOverlapText entries count h.text) h.right;
-    written = h.written;
-  }
+-- what holds of what is asked holds of the lists
+pub of_asked : (grammar : Grammar) (bytes : List ℕ) (other : Option (Bor (List ℕ))) (asked : Asked)
+    → AreAsked grammar bytes other asked → (Holds : List NumberedEntry → Option ℕ → Type 0)
+    → Holds (map numbered asked.entries.items) asked.count → HoldsOfLists grammar bytes other Holds
+of_asked grammar bytes None asked are Holds h = record {
+  entries = map numbered asked.entries.items;
+  read = are.0;
+  right = subst (Holds (map numbered asked.entries.items)) are.1 h;
+}
+of_asked grammar bytes (Some other) asked are Holds h =
+    let (first, second, read, other_read, is, counted) = are in
+    of_two grammar bytes other.now first second asked.entries.items asked.count read other_read is counted Holds h
 
-  pub front_of_two : (a b : Option (List ℕ)) → IsFrontWritten (IsOverlapText (map numbered joined) count) a b
-      → IsFrontWritten (IsOverlapAnswerOfTwo grammar bytes other) a b
-  front_of_two a b h = record {
-    text = h.text;
-    right = of_two (λ entries count. IsOverlapText entries count h.text) h.right;
-    front = h.front;
-    begins = h.begins;
-    written = h.written;
-  }
+pub overlap_outcome : (grammar : Grammar) (bytes : List ℕ) (other : Option (Bor (List ℕ))) (asked : Asked) (some : Bool)
+    → AreAsked grammar bytes other asked
+    → (some ≡ true → HasOverlap (map numbered asked.entries.items) asked.count)
+    → (some ≡ false → HasNoOverlap (map numbered asked.entries.items) asked.count)
+    → HoldsOfLists grammar bytes other (IsOverlapOutcome (not some))
+overlap_outcome grammar bytes other asked true are found none =
+    of_asked grammar bytes other asked are HasOverlap (found refl)
+overlap_outcome grammar bytes other asked false are found none =
+    of_asked grammar bytes other asked are HasNoOverlap (none refl)

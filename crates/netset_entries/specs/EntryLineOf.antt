@@ -1,11 +1,13 @@
 -- The entries that were read, as contracts see them.
 -- Only private contracts use these.
-use Rattle.std.specs.Prelude.{ℕ, List, map}
+use Rattle.std.specs.Prelude.{◌≡◌, ◌++◌, ℕ, List, [], map, length, Option, Some, None}
+use Rattle.std.specs.Borrow.{Bor}
 use Rattle.ipnet.specs.declared.parser.Grammar.{Grammar}
 use Rattle.netset_entries.specs.declared.entry_list.EntryLine.{EntryLine}
 use Rattle.netset_entries.specs.declared.entry_list.EntryList.{EntryList}
-use Rattle.netset_lib.specs.ContentLineOf.{refused_of}
-use Rattle.netset_lib.specs.EntryOf.{entry_range}
+use Rattle.netset_entries.specs.declared.overlaps.Asked.{Asked}
+use Rattle.ipnet_lists.specs.ContentLineOf.{refused_of}
+use Rattle.ipnet_lists.specs.EntryOf.{entry_range}
 use Rattle.netset_entries.specs.NumberedEntries.{NumberedEntry, IsEntryList}
 
 -- The entry that a value represents.
@@ -16,3 +18,12 @@ numbered l = record { line = l.number; text = l.text.now; range = entry_range l.
 abbrev pub IsReadOf : Grammar → List ℕ → EntryList → Type 0
 IsReadOf grammar bytes list = IsEntryList grammar bytes (map numbered list.entries.items)
     (map refused_of list.refused.items)
+
+-- The entries of the list and of the other list, if there is one, one list after the other, and the number of entries
+-- of the first list.
+abbrev pub AreAsked : Grammar → List ℕ → Option (Bor (List ℕ)) → Asked → Type 0
+AreAsked grammar bytes None asked =
+    IsEntryList grammar bytes (map numbered asked.entries.items) [] × (asked.count ≡ None)
+AreAsked grammar bytes (Some other) asked = (first : List EntryLine) × (second : List EntryLine)
+    × IsEntryList grammar bytes (map numbered first) [] × IsEntryList grammar other.now (map numbered second) []
+    × (asked.entries.items ≡ first ++ second) × (asked.count ≡ Some (length first))

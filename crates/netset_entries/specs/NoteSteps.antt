@@ -1,5 +1,5 @@
 -- Notes of lists that are read in pieces, and the private steps of noting their entries.
--- Public contracts use only HaveNoted.
+-- Public contracts use only HaveNoted and IsBroken.
 use Rattle.std.specs.Prelude.{◌≡◌, ◌≢◌, ◌⊎◌, ◌<◌, ◌≤◌, ℕ, ◌+◌, ◌-◌, Bool, true, false, List, [], ◌∷◌, ◌++◌, length}
 use Rattle.std.specs.Prelude.{All, Any, Option, ⊤, take, drop, string_bytes, ◌==◌, ◌||◌, cond, nat_lt}
 use Rattle.std.specs.Char.{digit_value}
@@ -23,8 +23,8 @@ use Rattle.netset_entries.specs.declared.largest.NotedEntry.{NotedEntry}
 use Rattle.netset_entries.specs.declared.noted.EntryNotes.{EntryNotes}
 use Rattle.netset_entries.specs.declared.noted.NotedBlocks.{NotedBlocks}
 use Rattle.netset_entries.specs.declared.plain.Signs.{Signs}
-use Rattle.netset_lib.specs.Entries.{IsEntryText}
-use Rattle.netset_lib.specs.Lists.{IsContents, after_mark}
+use Rattle.ipnet_lists.specs.Entries.{IsEntryText}
+use Rattle.ipnet_lists.specs.Lists.{IsContents, after_mark}
 
 -- ---- the blocks of one family
 
@@ -157,7 +157,7 @@ byte_sign b = cond (b == 58) 2 (cond (b == 47) 4 (cond ((b == 46) || nat_lt (dig
 -- The text has no "-" (45), and as a line it contains all that it is. Whether it has a colon (58) is known, and that it
 -- has no slash (47) if this is said.
 pub record AreSigns (text : List ℕ) (s : Signs) : Type 0 where
-  pub contents : (grammar : Grammar) → IsContents grammar text text
+  pub contents : IsContents text text
   pub no_dash : All (λ b. b ≢ 45) text
   pub colon : s.has_colon ≡ true → ¬ (All (λ b. b ≢ 58) text)
   pub no_colon : s.has_colon ≡ false → All (λ b. b ≢ 58) text
@@ -177,7 +177,7 @@ HasLength text family len = (grammar : Grammar) → (range : AddressRange) → I
 
 -- The text is such a text, and as a line it contains all that it is.
 pub record IsPlainText (text : List ℕ) (family : Family) (len : ℕ) : Type 0 where
-  pub contents : (grammar : Grammar) → IsContents grammar text text
+  pub contents : IsContents text text
   pub blocks : HasLength text family len
 
 -- ---- lists in pieces
@@ -214,6 +214,10 @@ pub record HaveNoted (grammar : Grammar) (frame : Option IpNet) (lists : List (L
   pub no_end : All (λ b. b ≢ 10) notes.line.items
   pub start : IsStart notes.is_start (lines_of closed)
   pub kept : AreKept grammar frame (lines_of_all lists ++ list_lines closed) notes.blocks
+
+-- A call that takes bytes or ends a list has failed.
+abbrev pub IsBroken : EntryNotes → Type 0
+IsBroken notes = notes.is_broken ≡ true
 
 -- A line of a list ends after these bytes.
 abbrev pub EndsLine : EntryNotes → EntryNotes → List ℕ → Type 0

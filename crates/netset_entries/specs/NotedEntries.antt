@@ -11,11 +11,12 @@ use Rattle.ipnet.specs.Lines.{lines_of}
 use Rattle.ipnet.specs.NetworkOf.{ip_network}
 use Rattle.ipnet.specs.declared.net.IpNet.{IpNet}
 use Rattle.ipnet.specs.declared.parser.Grammar.{Grammar}
-use Rattle.ipnet_pictures.specs.ShortTexts.{IsShortened}
+use Rattle.ipnet_bars.specs.ShortTexts.{IsShortened}
 use Rattle.ipnet_sets.specs.SetRanges.{IsInRange}
 use Rattle.netset_entries.specs.declared.largest.NotedEntry.{NotedEntry}
-use Rattle.netset_lib.specs.Entries.{IsEntryText}
-use Rattle.netset_lib.specs.Lists.{IsCommentAt, IsContents, after_mark, without_blanks}
+use Rattle.ipnet_lists.specs.Entries.{IsEntryText}
+use Rattle.ipnet_lists.specs.Comments.{IsCommentAt}
+use Rattle.ipnet_lists.specs.Lists.{IsContents, after_mark, without_blanks}
 
 -- The comment of the line, without its sign and blanks around it; it is empty if there is no comment.
 -- Example: `dhcp-246` of `10.20.168.9/22 # dhcp-246`.
@@ -37,7 +38,7 @@ IsTitleOf text (b ∷ comment) title =
 -- Example: 10.0.0.2/32 and `10.0.0.0-10.0.0.2: x`, for the line `10.0.0.0-10.0.0.2 # x`.
 pub record IsTitledBlock (grammar : Grammar) (n : Network) (title line : List ℕ) : Type 0 where
   pub text : List ℕ
-  pub contents : IsContents grammar line text
+  pub contents : IsContents line text
   pub range : AddressRange
   pub writes : IsEntryText grammar text range
   pub block : IsMaximal (IsInRange range) 0 n

@@ -2,10 +2,10 @@
 use Rattle.std.specs.Prelude.{◌≡◌, ◌⊎◌, ℕ, List, [], ◌∷◌, Option}
 use Rattle.ipnet_base.specs.Ranges.{AddressRange}
 use Rattle.ipnet.specs.declared.parser.Grammar.{Grammar}
-use Rattle.netset_lib.specs.declared.cause.Cause.{Cause}
-use Rattle.netset_lib.specs.Causes.{IsReportedCause}
-use Rattle.netset_lib.specs.ContentLines.{ContentLine, RefusedContent, AreContentLines, IsNextRefused}
-use Rattle.netset_lib.specs.Entries.{IsEntryText, IsNoEntry}
+use Rattle.ipnet_lists.specs.declared.cause.Cause.{Cause}
+use Rattle.ipnet_lists.specs.Causes.{IsReportedCause}
+use Rattle.ipnet_lists.specs.ContentLines.{ContentLine, RefusedContent, AreContentLines, IsNextRefused}
+use Rattle.ipnet_lists.specs.Entries.{IsEntryText, IsNoEntry}
 
 -- An entry of a list: the number of its line, from 1, its text and its range.
 -- Example: 3, `::1` and the range of one address for `::1 # x` on line 3.
@@ -37,7 +37,7 @@ AreEntryLines grammar (line ∷ lines) entries refused =
 -- The bytes are a list with these entries and refused lines.
 -- Example: `10.0.0.1\n\nx # y\n` has one entry, on line 1, and line 3, `x`, is refused without a cause.
 abbrev pub IsEntryList : Grammar → List ℕ → List NumberedEntry → List (RefusedContent (Option Cause)) → Type 0
-IsEntryList grammar bytes entries refused = (lines : List ContentLine) × AreContentLines grammar bytes lines
+IsEntryList grammar bytes entries refused = (lines : List ContentLine) × AreContentLines bytes lines
     × AreEntryLines grammar lines entries refused
 
 -- No line of the list is refused, and `Holds` is true of its entries.

@@ -1,11 +1,12 @@
 -- The pairs of entries that share addresses, and their lines.
 use Rattle.std.specs.Prelude.{◌≡◌, ◌↔◌, ◌⊎◌, ◌<◌, ℕ, Bool, true, if◌then◌else◌, nat_lt, nat_le, min, List, [], ◌∷◌}
-use Rattle.std.specs.Prelude.{◌++◌, Option, Some, None, AllPairs, Contains, length}
+use Rattle.std.specs.Prelude.{◌++◌, false, Option, Some, None, AllPairs, Contains, length}
+use Rattle.std.specs.Borrow.{Bor}
 use Rattle.ipnet_base.specs.Address.{Address, family_index}
 use Rattle.ipnet_base.specs.Ranges.{AddressRange}
 use Rattle.ipnet.specs.declared.parser.Grammar.{Grammar}
 use Rattle.ipnet_sets.specs.SetRanges.{IsInRange}
-use Rattle.netset_lib.specs.Answers.{range_text}
+use Rattle.ipnet_lists.specs.SetLines.{range_text}
 use Rattle.netset_entries.specs.EntryPlaces.{IsEntryAt}
 use Rattle.netset_entries.specs.EntryTexts.{entry_text}
 use Rattle.netset_entries.specs.NumberedEntries.{NumberedEntry, HoldsOfEntries}
@@ -110,11 +111,12 @@ abbrev pub HoldsOfTwo : Grammar → List ℕ → List ℕ → (List NumberedEntr
 HoldsOfTwo grammar bytes other Holds = HoldsOfEntries grammar bytes (λ entries.
     HoldsOfEntries grammar other (λ more. Holds (entries ++ more) (Some (length entries))))
 
--- No line of the list is refused, and the text has the pairs of its entries that share an address.
-abbrev pub IsOverlapAnswer : Grammar → List ℕ → List ℕ → Type 0
-IsOverlapAnswer grammar bytes text = HoldsOfOne grammar bytes (λ entries count. IsOverlapText entries count text)
+-- No line of the list is refused, nor of the other list, if there is one, and `Holds` is true of their entries.
+abbrev pub HoldsOfLists : Grammar → List ℕ → Option (Bor (List ℕ)) → (List NumberedEntry → Option ℕ → Type 0) → Type 0
+HoldsOfLists grammar bytes None Holds = HoldsOfOne grammar bytes Holds
+HoldsOfLists grammar bytes (Some other) Holds = HoldsOfTwo grammar bytes other.now Holds
 
--- No line of the two lists is refused, and the text has the pairs of an entry of one list and an entry of the other.
-abbrev pub IsOverlapAnswerOfTwo : Grammar → List ℕ → List ℕ → List ℕ → Type 0
-IsOverlapAnswerOfTwo grammar bytes other text =
-    HoldsOfTwo grammar bytes other (λ entries count. IsOverlapText entries count text)
+-- Whether no two entries share an address.
+abbrev pub IsOverlapOutcome : Bool → List NumberedEntry → Option ℕ → Type 0
+IsOverlapOutcome true = HasNoOverlap
+IsOverlapOutcome false = HasOverlap

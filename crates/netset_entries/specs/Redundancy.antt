@@ -1,5 +1,5 @@
 -- The entries of a list that the other entries make unnecessary, and the fewest kept entries that cover each of them.
-use Rattle.std.specs.Prelude.{◌≡◌, ◌↔◌, ◌<◌, ◌≤◌, ℕ, Bool, List, [], ◌∷◌, ◌++◌, length, codes}
+use Rattle.std.specs.Prelude.{◌≡◌, ◌↔◌, ◌<◌, ◌≤◌, ℕ, Bool, true, false, List, [], ◌∷◌, ◌++◌, length, codes}
 use Rattle.std.specs.Prelude.{Any, All, AllPairs}
 use Rattle.ipnet_base.specs.Address.{Address}
 use Rattle.ipnet_rules.specs.KeptRules.{IsKept, AreKept}
@@ -73,3 +73,8 @@ pub record AreAllKept (entries : List NumberedEntry) : Type 0 where
 -- No line of the list is refused, and the text has its dropped entries.
 abbrev pub IsRedundantAnswer : Grammar → List ℕ → List ℕ → Type 0
 IsRedundantAnswer grammar bytes text = HoldsOfEntries grammar bytes (λ entries. IsRedundantText entries text)
+
+-- Whether all entries are kept.
+abbrev pub IsRedundantOutcome : Bool → List NumberedEntry → Type 0
+IsRedundantOutcome true = AreAllKept
+IsRedundantOutcome false = HasDropped

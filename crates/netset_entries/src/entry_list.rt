@@ -2,10 +2,10 @@
 ghost use Rattle.std.specs.Prelude.{IfOk, IfErr};
 ghost use Rattle.netset_entries.specs.EntryLineOf.{numbered, IsReadOf};
 ghost use Rattle.netset_entries.specs.NumberedEntries.{IsEntryOfLine, IsRefusedFor};
-ghost use Rattle.netset_lib.specs.ContentLineOf.{line_of};
+ghost use Rattle.ipnet_lists.specs.ContentLineOf.{line_of};
 
 use ipnet::Grammar;
-use netset_lib::{
+use ipnet_lists::{
     Cause, ContentLine, Entry, RefusedText, cause_of, content_lines, keep_read, read_text,
 };
 use std::alloc::{AllocError, Global};
@@ -55,7 +55,7 @@ pub(crate) fn entry_list<'a>(
 ) -> Result<EntryList<'a>, AllocError>
     ensures { IfOk result (IsReadOf grammar bytes.now) }
 {
-    let lines = content_lines(alloc, bytes, grammar)?;
+    let lines = content_lines(alloc, bytes)?;
     let mut entries = Vec::new(alloc);
     let mut refused = Vec::new(alloc);
     for line in lines.as_slice() {

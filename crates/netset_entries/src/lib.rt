@@ -18,8 +18,9 @@ pub mod supernet;
 pub mod supernet_program;
 
 pub use largest::NotedEntry;
+pub use lines::WriteFailure;
 pub use noted::EntryNotes;
-pub use overlaps_program::{run_overlaps, run_overlaps_of_two};
-pub use redundant_program::run_redundant;
+pub use overlaps_program::OverlapsCommand;
+pub use redundant_program::RedundantCommand;
 pub use supernet::supernet_text;
-pub use supernet_program::run_supernet;
+pub use supernet_program::SupernetCommand;

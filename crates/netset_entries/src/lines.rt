@@ -1,20 +1,25 @@
 //! Lines about entries, written piece by piece, so that an answer of any length takes little memory.
-ghost use Rattle.std.specs.Prelude.{◌≡◌, ◌++◌, OnOk, OnErr, map};
+ghost use Rattle.std.specs.Prelude.{◌≡◌, ◌++◌, OnOk, OnErr, map, None};
 ghost use Rattle.ipnet_text.specs.Pieces.{IsInPieces};
 ghost use Rattle.netset_entries.specs.EntryTexts.{entry_line, entry_line_at, IsFront};
 ghost use Rattle.netset_entries.specs.EntryLineOf.{numbered};
 
 use crate::entry_list::EntryLine;
+use ipnet_lists::{Cause, RefusedText, report_refused};
 use ipnet_text::pieces::PIECE;
 use ipnet_text::write_whole;
+use netset_lib::program::name_of;
 use netset_lib::rule_answer::push_numbered;
+use netset_lib::runs::Report;
 use std::alloc::AllocError;
 use std::io;
 use std::io::Write;
 
 /// Why an answer was not written.
-#[derive(Clone, Copy, Debug, PartialEq, Eq, Drop)]
-pub(crate) enum WriteFailure {
+#[derive(Debug, Drop)]
+pub enum WriteFailure {
+    /// These lines of the list are refused, and these of the other list.
+    Refused(Vec<RefusedText<Option<Cause>>>, Vec<RefusedText<Option<Cause>>>),
     /// Memory ran out.
     Memory,
     /// A write failed.
@@ -69,10 +74,20 @@ pub(crate) fn write_if_long<W: Write>(out: &mut W, piece: &mut Vec<u8>) -> io::R
     Ok(())
 }
 
-/// Reports why an answer was not written.
-pub(crate) fn report_unwritten<X: Write>(faults: &mut X, failure: WriteFailure) -> io::Result<()> {
-    match failure {
-        WriteFailure::Memory => writeln!(faults, "netset: out of memory"),
-        WriteFailure::Unwritable => writeln!(faults, "netset: output cannot be written"),
+impl Report for WriteFailure {
+    ghost exit = { λ _. 2 };
+
+    ghost told = { λ _ _. None };
+
+    fn tell<X: Write>(self, names: &[&str], faults: &mut X) -> u8 {
+        let _ = match self {
+            WriteFailure::Refused(first, second) => {
+                let _ = report_refused(faults, name_of(names, 0), first.as_slice());
+                report_refused(faults, name_of(names, 1), second.as_slice())
+            }
+            WriteFailure::Memory => writeln!(faults, "netset: out of memory"),
+            WriteFailure::Unwritable => writeln!(faults, "netset: output cannot be written"),
+        };
+        2
     }
 }

@@ -1,24 +1,24 @@
 //! The largest entries of lists with their comments, noted while the lists are read.
 ghost use Rattle.std.specs.Prelude.{◌≡◌, ◌≤◌, ◌↔◌, ◌∷◌, ◌++◌, [], List, ℕ, Option, IsTrue, IfOk, IfSome, OnOk};
-ghost use Rattle.std.specs.Prelude.{string_bytes};
+ghost use Rattle.std.specs.Prelude.{string_bytes, OnErr, IsErr};
 ghost use Rattle.ipnet_base.specs.Blocks.{IsMaximal};
 ghost use Rattle.ipnet_base.specs.Network.{Network};
 ghost use Rattle.ipnet_sets.specs.SetRanges.{IsInRange};
-ghost use Rattle.netset_lib.specs.EntryOf.{entry_range};
+ghost use Rattle.ipnet_lists.specs.EntryOf.{entry_range};
 ghost use Rattle.ipnet.specs.NetworkOf.{ip_network};
 ghost use Rattle.ipnet.specs.declared.net.IpNet.{IpNet};
 ghost use Rattle.ipnet.specs.declared.parser.Grammar.{Grammar};
 ghost use Rattle.netset_entries.specs.NotedEntries.{AreNoted, IsCommentOf, IsTitleOf, MeetsFrame};
 ghost use Rattle.netset_entries.specs.NoteSteps.{AreKept, IsSmallLine, KeepsBlock, ReadsLine, first_text};
-ghost use Rattle.netset_entries.specs.NoteSteps.{HaveNoted, IsAtEnd, ReadsNext, ReadsBegun, EndsLine};
+ghost use Rattle.netset_entries.specs.NoteSteps.{HaveNoted, IsBroken, IsAtEnd, ReadsNext, ReadsBegun, EndsLine};
 ghost use Rattle.netset_entries.specs.NoteSteps.{family_if, largest_of};
 
 use crate::largest::{Largest, NotedEntry};
 use crate::plain::{PlainNetwork, plain_network};
 use ipnet::{Grammar, IpNet};
-use ipnet_pictures::shorten;
+use ipnet_bars::shorten;
+use ipnet_lists::{Entry, comment_start, contents_of, read_text, skip_mark};
 use memchr::memchr;
-use netset_lib::{Entry, comment_start, contents_of, read_text, skip_mark};
 use std::alloc::{AllocError, Global};
 use std::mem;
 
@@ -107,7 +107,7 @@ impl NotedBlocks {
         if let Some(network) = plain_network(line) {
             return self.is_past(network);
         }
-        let text = contents_of(line, self.grammar);
+        let text = contents_of(line);
         if text.len() == line.len() {
             return false;
         }
@@ -169,7 +169,7 @@ impl NotedBlocks {
     fn note_entry(&mut self, line: &[u8]) -> Result<(), AllocError>
         ensures { OnOk result (ReadsLine self.old self.new line.now) }
     {
-        let text = contents_of(line, self.grammar);
+        let text = contents_of(line);
         let Some(found) = read_text(text, self.grammar) else {
             return Ok(());
         };
@@ -205,7 +205,8 @@ fn after_start(line: &[u8], is_start: bool) -> &[u8]
 
 /// The largest entries of lists, with their comments.
 ///
-/// The bytes of a list are handed over as they come, in any pieces; lines that are not entries are skipped.
+/// The bytes of a list are handed over as they come, in any pieces; lines that are not entries are skipped. After a
+/// call of `take` or `end_list` has failed, every later call of these and `into_entries` fails.
 #[derive(Drop)]
 pub struct EntryNotes {
     blocks: NotedBlocks,
@@ -213,6 +214,8 @@ pub struct EntryNotes {
     line: Vec<u8>,
     /// Whether no line of the list was read.
     is_start: bool,
+    /// Whether a call has failed.
+    is_broken: bool,
 }
 
 impl EntryNotes {
@@ -229,6 +232,7 @@ impl EntryNotes {
             blocks: NotedBlocks::new(alloc, grammar, frame)?,
             line: Vec::new(alloc),
             is_start: true,
+            is_broken: false,
         })
     }
 
@@ -261,13 +265,8 @@ impl EntryNotes {
         self.note_begun()
     }
 
-    /// Notes the entries of the next bytes of a list. The start of a line whose end does not come is kept. Fails only
-    /// if memory runs out.
-    ///
-    /// ```text
-    /// "10.0.0.0/8 # a\n10.1", and then ".0.0/16\n": 10.0.0.0/8 with "10.0.0.0/8: a", 10.1.0.0/16 with "10.1.0.0/16"
-    /// ```
-    pub fn take(&mut self, bytes: &[u8]) -> Result<(), AllocError>
+    /// Notes the entries of the next bytes of a list. The start of a line whose end does not come is kept.
+    fn take_lines(&mut self, bytes: &[u8]) -> Result<(), AllocError>
         ensures { OnOk result ((grammar : Grammar) → (frame : Option IpNet) → (lists : List (List ℕ))
             → (begun : List ℕ) → HaveNoted grammar frame lists begun self.old
             → HaveNoted grammar frame lists (begun ++ bytes.now) self.new) }
@@ -279,6 +278,31 @@ impl EntryNotes {
         }
         self.line.extend_from_slice(rest)?;
         Ok(())
+    }
+
+    /// Notes the entries of the next bytes of a list. The start of a line whose end does not come is kept. Fails only
+    /// if memory runs out, or if a call before failed.
+    ///
+    /// ```text
+    /// "10.0.0.0/8 # a\n10.1", and then ".0.0/16\n": 10.0.0.0/8 with "10.0.0.0/8: a", 10.1.0.0/16 with "10.1.0.0/16"
+    /// ```
+    pub fn take(&mut self, bytes: &[u8]) -> Result<(), AllocError>
+        ensures noted { OnOk result ((grammar : Grammar) → (frame : Option IpNet) → (lists : List (List ℕ))
+            → (begun : List ℕ) → HaveNoted grammar frame lists begun self.old
+            → HaveNoted grammar frame lists (begun ++ bytes.now) self.new) }
+        ensures broken { OnErr result (IsBroken self.new) }
+        ensures fails { IsBroken self.old → IsErr result }
+    {
+        if self.is_broken {
+            return Err(AllocError);
+        }
+        match self.take_lines(bytes) {
+            Ok(()) => Ok(()),
+            Err(error) => {
+                self.is_broken = true;
+                Err(error)
+            }
+        }
     }
 
     /// Notes the entry of the last line of a list, if that line does not end.
@@ -293,29 +317,47 @@ impl EntryNotes {
         self.note_begun()
     }
 
-    /// Notes that the list ends. The next bytes are of the next list. Fails only if memory runs out.
+    /// Notes that the list ends. The next bytes are of the next list. Fails only if memory runs out, or if a call
+    /// before failed.
     pub fn end_list(&mut self) -> Result<(), AllocError>
-        ensures { OnOk result ((grammar : Grammar) → (frame : Option IpNet) → (lists : List (List ℕ))
+        ensures noted { OnOk result ((grammar : Grammar) → (frame : Option IpNet) → (lists : List (List ℕ))
             → (begun : List ℕ) → HaveNoted grammar frame lists begun self.old
             → HaveNoted grammar frame (lists ++ begun ∷ []) [] self.new) }
+        ensures broken { OnErr result (IsBroken self.new) }
+        ensures fails { IsBroken self.old → IsErr result }
     {
-        self.end_last()?;
-        self.is_start = true;
-        Ok(())
+        if self.is_broken {
+            return Err(AllocError);
+        }
+        match self.end_last() {
+            Ok(()) => {
+                self.is_start = true;
+                Ok(())
+            }
+            Err(error) => {
+                self.is_broken = true;
+                Err(error)
+            }
+        }
     }
 
-    /// How many blocks the entries of the lists have, noted or not. A refused line may count as one.
+    /// Returns how many blocks the entries of the lists have, noted or not. A refused line may count as one.
     pub fn count(&self) -> usize {
         self.blocks.count
     }
 
     /// Returns the blocks that were noted: of each family all blocks of the entries, or the largest 1,500. IPv4 comes
-    /// first, then the larger. Blocks of one size are in the order of the lists. Fails only if memory runs out.
+    /// first, then the larger. Blocks of one size are in the order of the lists. Fails only if memory runs out, or if a
+    /// call before failed.
     pub fn into_entries(self) -> Result<Vec<NotedEntry>, AllocError>
-        ensures { IfOk result (λ entries. (grammar : Grammar) → (frame : Option IpNet)
+        ensures noted { IfOk result (λ entries. (grammar : Grammar) → (frame : Option IpNet)
             → (lists : List (List ℕ)) → HaveNoted grammar frame lists [] self
             → AreNoted grammar frame lists entries.items) }
+        ensures fails { IsBroken self → IsErr result }
     {
+        if self.is_broken {
+            return Err(AllocError);
+        }
         let blocks = self.blocks;
         let mut entries = blocks.ipv4.into_blocks(blocks.alloc)?;
         let mut more = blocks.ipv6.into_blocks(blocks.alloc)?;

@@ -14,8 +14,8 @@ ghost use Rattle.netset_entries.specs.Overlaps.{shared, both_of, pair_text, pair
 ghost use Rattle.netset_entries.specs.Spans.{family_of};
 ghost use Rattle.netset_entries.specs.Sweeps.{pair_of, met, asked_pairs, pairs_of, has_some, IsPlaced, AreAllSpans};
 ghost use Rattle.netset_entries.specs.Sweeps.{AreRuns};
-ghost use Rattle.netset_lib.specs.Answers.{range_text};
-ghost use Rattle.netset_lib.specs.EntryOf.{entry_range};
+ghost use Rattle.ipnet_lists.specs.SetLines.{range_text};
+ghost use Rattle.ipnet_lists.specs.EntryOf.{entry_range};
 ghost use Rattle.ipnet_text.specs.Outputs.{IsWritten, IsFrontWritten};
 
 use crate::entry_list::EntryLine;
@@ -23,9 +23,9 @@ use crate::lines::{WriteFailure, write_if_long};
 use crate::runs::runs_of;
 use crate::span::{Family, Span, span_of, spans_of};
 use ipnet::IpAddr;
+use ipnet_lists::{Entry, ip_addr_text};
 use ipnet_text::write_whole;
 use netset_lib::rule_answer::push_numbered;
-use netset_lib::{Entry, ip_addr_text};
 use std::alloc::{AllocError, Global};
 use std::io::Write;
 

@@ -1,23 +1,19 @@
-//! The command `redundant` of the program, over any writers.
-ghost use Rattle.std.specs.Prelude.{◌≡◌, ◌≤◌, ◌⊎◌};
-ghost use Rattle.std.specs.Io.KnownBytes.{Keeps};
+//! The command `redundant` of the program.
+ghost use Rattle.std.specs.Prelude.{⊤};
 ghost use Rattle.netset_entries.specs.NumberedEntries.{HoldsOfEntries};
-ghost use Rattle.netset_entries.specs.Redundancy.{IsRedundantAnswer, HasDropped, AreAllKept};
-ghost use Rattle.ipnet_text.specs.Outputs.{IsWritten, IsFrontWritten};
+ghost use Rattle.netset_entries.specs.Redundancy.{IsRedundantAnswer, IsRedundantOutcome};
 
 use crate::entry_list::entry_list;
-use crate::lines::{WriteFailure, report_unwritten};
+use crate::lines::WriteFailure;
 use crate::redundant::write_redundant;
 use ipnet::Grammar;
-use netset_lib::report_refused;
+use netset_lib::Command;
 use std::alloc::Global;
 use std::io::Write;
 
-/// Writes the entries of the list that the other entries make unnecessary to `out`, and returns the exit status. From
-/// the last entry to the first, an entry is dropped if the other entries that are still there cover it. Below the line
-/// of each dropped entry are the lines of the fewest kept entries that cover it.
-///
-/// `list` is the name of the list and its bytes. If a report cannot be written, the status is the same.
+/// The entries of the list that the other entries make unnecessary. From the last entry to the first, an entry is
+/// dropped if the other entries that are still there cover it. Below the line of each dropped entry are the lines of
+/// the fewest kept entries that cover it.
 ///
 /// | Status | On `faults` | When |
 /// |---|---|---|
@@ -33,37 +29,34 @@ use std::io::Write;
 /// "10.0.0.0/9\n10.128.0.0/9\n10.0.0.0/8\n":    status 1, and out gets
 ///     "line 3: 10.0.0.0/8\n  line 1: 10.0.0.0/9\n  line 2: 10.128.0.0/9\n"
 /// ```
-pub fn run_redundant<W: Write, X: Write>(
-    alloc: Global,
-    list: (&str, &[u8]),
-    grammar: Grammar,
-    out: &mut W,
-    faults: &mut X,
-) -> u8
-    ensures status { result ≤ 2 }
-    ensures answered { result ≤ 1
-        → IsWritten (IsRedundantAnswer grammar list.entry.1.now) (W.contents out.old) (W.contents out.new) }
-    ensures dropped { result ≡ 1 → HoldsOfEntries grammar list.entry.1.now HasDropped }
-    ensures kept { result ≡ 0 → HoldsOfEntries grammar list.entry.1.now AreAllKept }
-    ensures cut_short { result ≡ 2 → Keeps (W.contents out.old) (W.contents out.new)
-        ⊎ IsFrontWritten (IsRedundantAnswer grammar list.entry.1.now) (W.contents out.old) (W.contents out.new) }
-    ensures faultless { result ≤ 1 → Keeps (X.contents faults.old) (X.contents faults.new) }
-{
-    let (name, bytes) = list;
-    let Ok(read) = entry_list(alloc, bytes, grammar) else {
-        let _ = report_unwritten(faults, WriteFailure::Memory);
-        return 2;
-    };
-    if !read.refused.is_empty() {
-        let _ = report_refused(faults, name, read.refused.as_slice());
-        return 2;
-    }
-    match write_redundant(out, alloc, read.entries.as_slice()) {
-        Ok(true) => 1,
-        Ok(false) => 0,
-        Err(failure) => {
-            let _ = report_unwritten(faults, failure);
-            2
+#[derive(Drop)]
+pub struct RedundantCommand<'a> {
+    /// The allocator.
+    pub alloc: Global,
+    /// The list.
+    pub list: &'a [u8],
+    /// The grammar of its entries.
+    pub grammar: Grammar,
+}
+
+impl<'a> Command for RedundantCommand<'a> {
+    type Failure = WriteFailure;
+
+    ghost is_answer = { λ c. IsRedundantAnswer c.grammar c.list.now };
+
+    ghost is_outcome = { λ c none. HoldsOfEntries c.grammar c.list.now (IsRedundantOutcome none) };
+
+    ghost is_failure = { λ _ _. ⊤ };
+
+    fn write<W: Write>(self, out: &mut W) -> Result<bool, WriteFailure> {
+        let read = entry_list(self.alloc, self.list, self.grammar)?;
+        if !read.refused.is_empty() {
+            return Err(WriteFailure::Refused(read.refused, Vec::new(self.alloc)));
+        }
+        match write_redundant(out, self.alloc, read.entries.as_slice()) {
+            Ok(true) => Ok(false),
+            Ok(false) => Ok(true),
+            Err(failure) => Err(failure),
         }
     }
 }

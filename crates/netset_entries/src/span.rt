@@ -3,11 +3,11 @@ ghost use Rattle.std.specs.Prelude.{◌≡◌, ◌↔◌, IsTrue, IfSome, IfNone
 ghost use Rattle.ipnet_sets.specs.SetRanges.{range_of};
 ghost use Rattle.netset_entries.specs.Spans.{family_of, IsSpanFor, HasNoSpan, AreSpans};
 ghost use Rattle.netset_entries.specs.EntryLineOf.{numbered};
-ghost use Rattle.netset_lib.specs.EntryOf.{entry_range};
+ghost use Rattle.ipnet_lists.specs.EntryOf.{entry_range};
 
 use crate::entry_list::EntryLine;
 use ipnet::IpAddr;
-use netset_lib::Entry;
+use ipnet_lists::Entry;
 use std::alloc::{AllocError, Global};
 
 /// A family of addresses.

@@ -1,22 +1,16 @@
-//! The command `supernet` of the program, over any writers.
-ghost use Rattle.std.specs.Prelude.{◌≡◌, ◌⊎◌};
-ghost use Rattle.std.specs.Io.KnownBytes.{Keeps};
+//! The command `supernet` of the program.
+ghost use Rattle.std.specs.Prelude.{IsTrue};
 ghost use Rattle.netset_entries.specs.Supernets.{IsSupernetAnswer};
-ghost use Rattle.netset_lib.specs.Runs.{WritesAnswer, WritesFront};
+ghost use Rattle.netset_lib.specs.Runs.{OfCombined, HasNoResult};
 
 use crate::supernet::supernet_text;
-use netset_lib::{Failure, Session, report_failure, set_or_report, write_answer};
-use std::io::Write;
+use netset_lib::{Failure, Session, TextCommand};
 
-/// Writes the smallest networks around the addresses of the session's lists to `out`, as `supernet_text` makes them,
-/// and returns the exit status.
-///
-/// `names` are the names of the lists, in order, for the reports on `faults`. If a report cannot be written, the status
-/// is the same.
+/// The smallest networks around the addresses of the session's lists, as `supernet_text` makes them.
 ///
 /// | Status | On `faults` | When |
 /// |---|---|---|
-/// | 2 | as `run` reports it | the lists have no set |
+/// | 2 | as `AnswerCommand` says | the lists have no set |
 /// | 2 | `netset: out of memory` | memory runs out |
 /// | 2 | `netset: output cannot be written` | a write fails, or the flush after it; the lines may be out in part |
 /// | 0 | nothing | otherwise |
@@ -25,23 +19,28 @@ use std::io::Write;
 /// Union of "10.20.3.0-10.20.4.9\nfd00::1\n":  status 0, and out gets "10.20.0.0/21\nfd00::1/128\n"
 /// Union of "# nothing\n":                     status 0, and out gets nothing
 /// ```
-pub fn run_supernet<W: Write, X: Write>(
-    session: Session,
-    names: &[&str],
-    out: &mut W,
-    faults: &mut X,
-) -> u8
-    ensures status { (result ≡ 0) ⊎ (result ≡ 2) }
-    ensures answered { result ≡ 0 → WritesAnswer IsSupernetAnswer session (W.contents out.old) (W.contents out.new) }
-    ensures cut_short { result ≡ 2 → WritesFront IsSupernetAnswer session (W.contents out.old) (W.contents out.new) }
-    ensures faultless { result ≡ 0 → Keeps (X.contents faults.old) (X.contents faults.new) }
-{
-    let Some((alloc, set)) = set_or_report(session, names, faults) else {
-        return 2;
-    };
-    let Ok(text) = supernet_text(alloc, &set) else {
-        let _ = report_failure(faults, names, &Failure::Memory);
-        return 2;
-    };
-    write_answer(out, faults, text.as_bytes())
+#[derive(Drop)]
+pub struct SupernetCommand {
+    /// The session.
+    pub session: Session,
+}
+
+impl TextCommand for SupernetCommand {
+    type Text = String;
+
+    type Failure = Failure;
+
+    ghost is_answer = { λ c text. OfCombined (λ r lists. IsSupernetAnswer r lists text) c.session };
+
+    ghost is_outcome = { λ _ succeeded. IsTrue succeeded };
+
+    ghost is_failure = { λ c. HasNoResult c.session };
+
+    fn answer(self) -> Result<(String, bool), Failure> {
+        let session = self.session;
+        let alloc = session.alloc();
+        let set = session.into_set()?;
+        let text = supernet_text(alloc, &set)?;
+        Ok((text, true))
+    }
 }

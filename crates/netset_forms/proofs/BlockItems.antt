@@ -20,7 +20,7 @@ use Rattle.ipnet_sets.specs.SetRanges.{IsInRange, LiesApart, AreRangesOf}
 use Rattle.ipnet_sets.proofs.NetworkListLaws.{blocks_of_first, blocks_of_none}
 use Rattle.ipnet_sets.proofs.SetRangeLaws.{IsInRanges, ranges_of_set}
 use Rattle.ipnet_text.specs.Pieces.{IsInPieces}
-use Rattle.netset_lib.specs.Answers.{range_text}
+use Rattle.ipnet_lists.specs.SetLines.{range_text}
 use Rattle.netset_forms.specs.declared.parts.Item.{Item}
 use Rattle.netset_forms.specs.declared.parts.Item.TheVariants as Items
 use Rattle.netset_forms.specs.declared.parts.Part.{Part}

@@ -10,10 +10,9 @@ use Rattle.ipnet_rules.specs.declared.rules.Action.{Action}
 use Rattle.ipnet_sets.specs.declared.set.IpSet.{IpSet}
 use Rattle.ipnet_sets.specs.Members.{IsMember}
 use Rattle.netset_lib.specs.declared.answer.Request.{Request}
-use Rattle.netset_lib.specs.Lists.{IsInEntries}
+use Rattle.ipnet_lists.specs.Lists.{IsInEntries}
 use Rattle.netset_lib.specs.Operations.{IsInResult}
 use Rattle.netset_lib.specs.PlanAnswers.{IsResultSet}
-use Rattle.ipnet_text.specs.Outputs.{IsWritten, IsFrontWritten}
 use Rattle.netset_lib.specs.RuleAnswers.{IsPermittedBy, IsPermittedSet}
 use Rattle.netset_lib.specs.RuleLines.{RuleContents, IsRuleList}
 use Rattle.netset_forms.specs.declared.form.AnswerForm.{AnswerForm}
@@ -77,13 +76,14 @@ form_same A B same (Forms.Ranges prefix) least text h = ranges_same A B same (li
 form_same A B same Forms.Json least text h = blocks_same A B same json_layout canonical_text least text h
 form_same A B same Forms.Csv least text h = blocks_same A B same csv_layout network_row least text h
 form_same A B same (Forms.Nft names) least text h = families_same A B same nft_layout nft_layout names least text h
-form_same A B same (Forms.Ipset names) least text h =
-    families_same A B same (ipset_layout (ipset_kind IPv4)) (ipset_layout (ipset_kind IPv6)) names (max least 1) text h
+form_same A B same (Forms.Ipset names most) least text h =
+    families_same A B same (ipset_layout (ipset_kind most IPv4)) (ipset_layout (ipset_kind most IPv6)) names
+    (max least 1) text h
 
 -- ---- the set of a session
 
 module _ (r : Request) (form : FormRequest) (lists : List (List ℕ)) (set : IpSet) (of : IsResultSet r lists set) where
-  text_of_lists : (text : List ℕ) → IsAskedText form (IsMember set) text → IsFormAnswer r form lists text
+  pub text_of_lists : (text : List ℕ) → IsAskedText form (IsMember set) text → IsFormAnswer r form lists text
   text_of_lists text right = record {
     entries = of.entries;
     read = of.read;
@@ -91,25 +91,11 @@ module _ (r : Request) (form : FormRequest) (lists : List (List ℕ)) (set : IpS
         text right;
   }
 
-  pub whole_of_lists : (a b : Option (List ℕ)) → IsWritten (IsAskedText form (IsMember set)) a b
-      → IsWritten (IsFormAnswer r form lists) a b
-  whole_of_lists a b h = record { text = h.text; right = text_of_lists h.text h.right; written = h.written }
-
-  pub front_of_lists : (a b : Option (List ℕ)) → IsFrontWritten (IsAskedText form (IsMember set)) a b
-      → IsFrontWritten (IsFormAnswer r form lists) a b
-  front_of_lists a b h = record {
-    text = h.text;
-    right = text_of_lists h.text h.right;
-    front = h.front;
-    begins = h.begins;
-    written = h.written;
-  }
-
 -- ---- the set that a list of rules permits
 
 module _ (default : Action) (form : FormRequest) (grammar : Grammar) (bytes : List ℕ) (contents : RuleContents)
     (read : IsRuleList grammar bytes contents) (set : IpSet) (of : IsPermittedSet default contents set) where
-  text_of_rules : (text : List ℕ) → IsAskedText form (IsMember set) text
+  pub text_of_rules : (text : List ℕ) → IsAskedText form (IsMember set) text
       → IsPermittedForm default form grammar bytes text
   text_of_rules text right = record {
     contents = contents;
@@ -117,18 +103,4 @@ module _ (default : Action) (form : FormRequest) (grammar : Grammar) (bytes : Li
     none = of.none;
     right = form_same (IsMember set) (IsPermittedBy contents.rules default) of.right form.form form.min_length text
         right;
-  }
-
-  pub whole_of_rules : (a b : Option (List ℕ)) → IsWritten (IsAskedText form (IsMember set)) a b
-      → IsWritten (IsPermittedForm default form grammar bytes) a b
-  whole_of_rules a b h = record { text = h.text; right = text_of_rules h.text h.right; written = h.written }
-
-  pub front_of_rules : (a b : Option (List ℕ)) → IsFrontWritten (IsAskedText form (IsMember set)) a b
-      → IsFrontWritten (IsPermittedForm default form grammar bytes) a b
-  front_of_rules a b h = record {
-    text = h.text;
-    right = text_of_rules h.text h.right;
-    front = h.front;
-    begins = h.begins;
-    written = h.written;
   }

@@ -14,7 +14,7 @@ use Rattle.ipnet_text.specs.Pieces.{IsInPieces}
 use Rattle.ipnet_text.proofs.WritingLaws.{front_written}
 use Rattle.netset_forms.specs.FormSteps.{IsCut, IsPutUpTo, text_of_all, lead_of, end_of, rest_in, front_in, none_after}
 use Rattle.netset_forms.specs.Layouts.{Layout}
-use Rattle.netset_lib.proofs.RouteLaws.{least_is_first, greatest_is_last}
+use Rattle.ipnet_lists.proofs.EndLaws.{least_is_first, greatest_is_last}
 
 -- ---- one text after another
 

@@ -6,7 +6,7 @@ use Rattle.ipnet_base.specs.Address.{Address}
 use Rattle.ipnet_base.specs.Ranges.{AddressRange}
 use Rattle.ipnet_sets.specs.SetRanges.{AreRangesOf}
 use Rattle.ipnet_text.specs.Pieces.{IsInPieces}
-use Rattle.netset_lib.specs.Answers.{range_text}
+use Rattle.ipnet_lists.specs.SetLines.{range_text}
 use Rattle.netset_forms.specs.Forms.{AreRangesIn}
 use Rattle.netset_forms.specs.FormSteps.{IsCut, IsPutUpTo, PutsSome, CutsSome, rest_in, lead_of, end_of}
 use Rattle.netset_forms.specs.Layouts.{Layout, text_in}

@@ -158,4 +158,4 @@ least_in (Forms.Ranges prefix) min_length = 0
 least_in Forms.Json min_length = min_length
 least_in Forms.Csv min_length = min_length
 least_in (Forms.Nft names) min_length = min_length
-least_in (Forms.Ipset names) min_length = min_length
+least_in (Forms.Ipset names most) min_length = min_length

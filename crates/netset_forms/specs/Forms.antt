@@ -1,5 +1,5 @@
 -- The text of a set of addresses in each form.
-use Rattle.std.specs.Prelude.{◌≡◌, ◌<◌, ◌≤◌, ℕ, List, [], ◌++◌, codes, map, Option, Some, None, max}
+use Rattle.std.specs.Prelude.{◌≡◌, ◌<◌, ◌≤◌, ℕ, List, [], ◌++◌, codes, decimal, map, Option, Some, None, max}
 use Rattle.std.specs.Borrow.{Bor}
 use Rattle.ipnet_base.specs.Address.{Family, IPv4, IPv6, width, Address}
 use Rattle.ipnet_base.specs.Network.{Network, first_of, last_of}
@@ -13,7 +13,7 @@ use Rattle.netset_forms.specs.declared.form.FormFailure.{FormFailure}
 use Rattle.netset_forms.specs.declared.form.FormFailure.TheVariants as Failures
 use Rattle.netset_forms.specs.declared.form.SetNames.{SetNames}
 use Rattle.netset_forms.specs.Layouts.{Layout, text_in, line_layout, json_layout, csv_layout, nft_layout, ipset_layout}
-use Rattle.netset_lib.specs.Answers.{range_text}
+use Rattle.ipnet_lists.specs.SetLines.{range_text}
 
 -- The row of a network: its canonical text, its first and its last address, with commas between.
 -- Example: `10.0.0.0/31,10.0.0.0,10.0.0.1`.
@@ -61,10 +61,10 @@ pub record AreFamilyTexts (layout4 layout6 : List ℕ → Layout) (names : SetNa
   pub ipv6_part : IsFamilyText layout6 names.ipv6 IPv6 min_length InSet ipv6
   pub spelled : text ≡ ipv4 ++ ipv6
 
--- The kind of a set of `ipset`. Without `maxelem` it holds at most 65536 networks.
-abbrev pub ipset_kind : Family → List ℕ
-ipset_kind IPv4 = codes "hash:net family inet maxelem 4294967295"
-ipset_kind IPv6 = codes "hash:net family inet6 maxelem 4294967295"
+-- The kind of a set of `ipset` that holds at most this number of networks. Without `maxelem` it holds at most 65536.
+abbrev pub ipset_kind : ℕ → Family → List ℕ
+ipset_kind most IPv4 = codes "hash:net family inet maxelem " ++ decimal most
+ipset_kind most IPv6 = codes "hash:net family inet6 maxelem " ++ decimal most
 
 -- The text of the set in the form, by networks of at least this prefix length. `ipset` refuses a network of prefix
 -- length 0, so there the least length is 1.
@@ -76,8 +76,8 @@ IsFormText (Forms.Ranges prefix) min_length = AreRangesIn (line_layout prefix.no
 IsFormText Forms.Json min_length = AreBlocksIn json_layout canonical_text min_length
 IsFormText Forms.Csv min_length = AreBlocksIn csv_layout network_row min_length
 IsFormText (Forms.Nft names) min_length = AreFamilyTexts nft_layout nft_layout names min_length
-IsFormText (Forms.Ipset names) min_length =
-    AreFamilyTexts (ipset_layout (ipset_kind IPv4)) (ipset_layout (ipset_kind IPv6)) names (max min_length 1)
+IsFormText (Forms.Ipset names most) min_length =
+    AreFamilyTexts (ipset_layout (ipset_kind most IPv4)) (ipset_layout (ipset_kind most IPv6)) names (max min_length 1)
 
 -- The set has an address of this family.
 abbrev pub HasOne : (Address → Type 0) → Family → Type 0
@@ -90,7 +90,7 @@ names_in (Forms.Ranges prefix) = None
 names_in Forms.Json = None
 names_in Forms.Csv = None
 names_in (Forms.Nft names) = Some names
-names_in (Forms.Ipset names) = Some names
+names_in (Forms.Ipset names most) = Some names
 
 -- Networks of a family of the set cannot have this prefix length: it is above the family's greatest.
 abbrev pub IsTooLong : (Address → Type 0) → ℕ → ℕ → Type 0

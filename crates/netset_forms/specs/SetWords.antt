@@ -1,8 +1,9 @@
 -- The names of a firewall's sets.
-use Rattle.std.specs.Prelude.{◌≡◌, ◌≤◌, ℕ, Bool, ◌||◌, ◌==◌, true, List, [], ◌∷◌, length}
+use Rattle.std.specs.Prelude.{◌≡◌, ◌≢◌, ◌≤◌, ◌⊎◌, ℕ, Bool, ◌||◌, ◌==◌, true, List, [], ◌∷◌, length, codes}
 use Rattle.std.specs.Char.{is_ascii_alphabetic, is_ascii_alphanumeric}
 use Rattle.std.specs.List.{list_all}
-use Rattle.netset_lib.specs.Causes.{IsCutAt}
+use Rattle.ipnet_lists.specs.Causes.{IsCutAt}
+use Rattle.netset_forms.specs.Layouts.{new_name}
 
 -- A letter or "_" (95).
 abbrev pub is_name_start : ℕ → Bool
@@ -17,19 +18,35 @@ abbrev pub IsNameWord : List ℕ → Type 0
 IsNameWord [] = ⊥
 IsNameWord (b ∷ text) = (is_name_start b ≡ true) × (list_all is_name_byte text ≡ true)
 
--- Two such words.
-abbrev pub AreNameWords : List ℕ → List ℕ → Type 0
-AreNameWords first second = IsNameWord first × IsNameWord second
+-- The text is the family of a table of nft.
+abbrev pub IsNftFamily : List ℕ → Type 0
+IsNftFamily text = (text ≡ codes "ip") ⊎ (text ≡ codes "ip6") ⊎ (text ≡ codes "inet") ⊎ (text ≡ codes "arp")
+    ⊎ (text ≡ codes "bridge") ⊎ (text ≡ codes "netdev")
 
--- Such a word, and then two with a space (32) between.
-abbrev pub AreThreeWords : List ℕ → List ℕ → Type 0
-AreThreeWords first rest = IsNameWord first × IsCutAt 32 AreNameWords rest
+-- The text names a table or a set of nft. The kernel takes at most 255 bytes: NFT_NAME_MAXLEN is 256, with the zero
+-- byte at the end.
+abbrev pub IsNftWord : List ℕ → Type 0
+IsNftWord text = (length text ≤ 255) × IsNameWord text
+
+-- Two such names.
+abbrev pub AreNftWords : List ℕ → List ℕ → Type 0
+AreNftWords table set = IsNftWord table × IsNftWord set
+
+-- A family, and then two such names with a space (32) between.
+abbrev pub AreFamilyAndWords : List ℕ → List ℕ → Type 0
+AreFamilyAndWords family rest = IsNftFamily family × IsCutAt 32 AreNftWords rest
 
 -- The text names a set of nft: the family of a table, the table and the set, with a space between.
 -- Example: `inet filter allowed`.
 abbrev pub IsNftName : List ℕ → Type 0
-IsNftName text = IsCutAt 32 AreThreeWords text
+IsNftName text = IsCutAt 32 AreFamilyAndWords text
 
--- The text names a set of ipset, and still does with ".new" after it: a name has at most 31 bytes. Example: `allowed`.
+-- The text names a set of ipset, and still does with ".new" after it. The kernel takes at most 31 bytes:
+-- IPSET_MAXNAMELEN is 32, with the zero byte at the end. Example: `allowed`.
 abbrev pub IsIpsetName : List ℕ → Type 0
 IsIpsetName text = (length text ≤ 27) × IsNameWord text
+
+-- The commands of `ipset` for each of the sets leave the other as it is: the names are different, and neither is the
+-- other with ".new", the name of its new set. Example: `a` and `b`; `a` and `a.new` are not apart.
+abbrev pub AreApart : List ℕ → List ℕ → Type 0
+AreApart name other = (name ≢ other) × (name ≢ new_name other) × (other ≢ new_name name)

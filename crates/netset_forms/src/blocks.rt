@@ -5,7 +5,7 @@ ghost use Rattle.ipnet.specs.NetworkOf.{ip_network};
 ghost use Rattle.ipnet.specs.SubnetsLeft.{ip_subnets_left};
 ghost use Rattle.ipnet_sets.specs.Members.{IsMember};
 ghost use Rattle.ipnet_text.specs.Pieces.{IsInPieces};
-ghost use Rattle.netset_lib.specs.Answers.{range_text};
+ghost use Rattle.ipnet_lists.specs.SetLines.{range_text};
 ghost use Rattle.netset_forms.specs.Forms.{AreBlocksIn, AreRangesIn};
 ghost use Rattle.netset_forms.specs.FormSteps.{layout_of, IsCut, PutsSome, CutsSome, item_text, front_in, none_after};
 ghost use Rattle.netset_forms.specs.FormSteps.{IsPartText, FitsPart};

@@ -39,8 +39,9 @@ pub enum AnswerForm<'a> {
     Csv,
     /// Commands of `nft` that give sets these networks in place of all others. A name is a family, a table and a set.
     Nft(SetNames<'a>),
-    /// Commands of `ipset restore` that give sets these networks in place of all others.
-    Ipset(SetNames<'a>),
+    /// Commands of `ipset restore` that give sets these networks in place of all others. The number is the `maxelem` of
+    /// the sets: the most networks that a set can have.
+    Ipset(SetNames<'a>, u32),
 }
 
 /// A request for the form of an answer.

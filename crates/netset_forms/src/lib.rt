@@ -11,6 +11,6 @@ pub mod program;
 pub mod write;
 
 pub use form::{AnswerForm, FormFailure, FormRequest, SetNames};
-pub use names::{is_ipset_name, is_nft_name};
-pub use program::{PermittedRequest, run_form, run_permitted};
+pub use names::{are_ipset_sets, are_nft_sets, is_ipset_name, is_nft_name};
+pub use program::{FormCommand, PermittedCommand};
 pub use write::write_form;

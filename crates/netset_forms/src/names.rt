@@ -1,12 +1,17 @@
 //! The names of a firewall's sets.
-ghost use Rattle.std.specs.Prelude.{◌≡◌, ◌↔◌, IsTrue};
+ghost use Rattle.std.specs.Prelude.{◌≡◌, ◌≢◌, ◌↔◌, codes, IsTrue};
 ghost use Rattle.std.specs.List.{list_all};
-ghost use Rattle.netset_lib.specs.Causes.{IsCutAt};
-ghost use Rattle.netset_forms.specs.SetWords.{is_name_start, is_name_byte, IsNameWord, AreNameWords, AreThreeWords};
-ghost use Rattle.netset_forms.specs.SetWords.{IsNftName, IsIpsetName};
+ghost use Rattle.ipnet_lists.specs.Causes.{IsCutAt};
+ghost use Rattle.netset_forms.specs.Layouts.{new_name};
+ghost use Rattle.netset_forms.specs.SetWords.{is_name_start, is_name_byte, IsNameWord, IsNftFamily, IsNftWord};
+ghost use Rattle.netset_forms.specs.SetWords.{AreNftWords, AreFamilyAndWords, IsNftName, IsIpsetName, AreApart};
 
-/// The greatest length of a name of `ipset`, without the four bytes of ".new" after it.
-const MOST_BYTES: usize = 27;
+/// The greatest length of a name of a table or a set of nft: the kernel's NFT_NAME_MAXLEN without the zero byte.
+const MOST_NFT: usize = 255;
+
+/// The greatest length of a name of a set of ipset: the kernel's IPSET_MAXNAMELEN, without the zero byte and the four
+/// bytes of ".new".
+const MOST_IPSET: usize = 27;
 
 /// Whether the byte may be the first of a name.
 fn is_start(byte: u8) -> bool
@@ -39,42 +44,65 @@ fn is_name_word(text: &[u8]) -> bool
     }
 }
 
-/// Whether the two texts are such words.
-fn are_name_words(first: &str, second: &str) -> bool
-    ensures { IsTrue result ↔ AreNameWords first.now second.now }
+/// Whether the text is a family of tables of nft.
+fn is_nft_family(text: &str) -> bool
+    ensures { IsTrue result ↔ IsNftFamily text.now }
 {
-    is_name_word(first.as_bytes()) && is_name_word(second.as_bytes())
+    match text {
+        "ip" => true,
+        "ip6" => true,
+        "inet" => true,
+        "arp" => true,
+        "bridge" => true,
+        "netdev" => true,
+        _ => false,
+    }
 }
 
-/// Whether the text is two such words with a space between.
-fn is_pair(text: &str) -> bool
-    ensures { IsTrue result ↔ IsCutAt 32 AreNameWords text.now }
+/// Whether the text names a table or a set of nft.
+fn is_nft_word(text: &str) -> bool
+    ensures { IsTrue result ↔ IsNftWord text.now }
+{
+    text.len() <= MOST_NFT && is_name_word(text.as_bytes())
+}
+
+/// Whether the two texts are such names.
+fn are_nft_words(table: &str, set: &str) -> bool
+    ensures { IsTrue result ↔ AreNftWords table.now set.now }
+{
+    is_nft_word(table) && is_nft_word(set)
+}
+
+/// Whether the text is two such names with a space between.
+fn is_table_and_set(text: &str) -> bool
+    ensures { IsTrue result ↔ IsCutAt 32 AreNftWords text.now }
 {
     match text.split_once(' ') {
-        Some((first, second)) => are_name_words(first, second),
+        Some((table, set)) => are_nft_words(table, set),
         None => false,
     }
 }
 
-/// Whether the first text is such a word, and the rest two of them.
-fn are_three_words(first: &str, rest: &str) -> bool
-    ensures { IsTrue result ↔ AreThreeWords first.now rest.now }
+/// Whether the first text is a family, and the rest two such names.
+fn are_family_and_words(family: &str, rest: &str) -> bool
+    ensures { IsTrue result ↔ AreFamilyAndWords family.now rest.now }
 {
-    is_name_word(first.as_bytes()) && is_pair(rest)
+    is_nft_family(family) && is_table_and_set(rest)
 }
 
 /// Returns whether the text names a set of nft: the family of its table, the table and the set, with a space between.
-/// A word is a letter or "_", and then letters, digits, "_", "-" and ".".
+/// The family is `ip`, `ip6`, `inet`, `arp`, `bridge` or `netdev`. The table and the set have at most 255 bytes each: a
+/// letter or "_", and then letters, digits, "_", "-" and ".".
 ///
 /// ```text
-/// "inet filter allowed":                          true
-/// "allowed", "inet filter", "inet filter a;b":    false
+/// "inet filter allowed":                                              true
+/// "allowed", "inet filter", "inet filter a;b", "ip4 filter allowed":  false
 /// ```
 pub fn is_nft_name(name: &str) -> bool
     ensures { IsTrue result ↔ IsNftName name.now }
 {
     match name.split_once(' ') {
-        Some((family, rest)) => are_three_words(family, rest),
+        Some((family, rest)) => are_family_and_words(family, rest),
         None => false,
     }
 }
@@ -89,5 +117,50 @@ pub fn is_nft_name(name: &str) -> bool
 pub fn is_ipset_name(name: &str) -> bool
     ensures { IsTrue result ↔ IsIpsetName name.now }
 {
-    name.len() <= MOST_BYTES && is_name_word(name.as_bytes())
+    name.len() <= MOST_IPSET && is_name_word(name.as_bytes())
+}
+
+/// Returns whether the two names are of two sets of nft: whether they are different.
+///
+/// ```text
+/// "inet f a" and "inet f b":  true
+/// "inet f a" and "inet f a":  false
+/// ```
+pub fn are_nft_sets(ipv4: &str, ipv6: &str) -> bool
+    ensures { IsTrue result ↔ (ipv4.now ≢ ipv6.now) }
+{
+    ipv4 != ipv6
+}
+
+/// Whether the bytes are ".new".
+fn is_new(bytes: &[u8]) -> bool
+    ensures { IsTrue result ↔ (bytes.now ≡ codes ".new") }
+{
+    bytes == b".new".as_slice()
+}
+
+/// Whether the first name is the other with ".new", the name of its new set.
+fn is_new_of(name: &str, other: &str) -> bool
+    ensures { IsTrue result ↔ (name.now ≡ new_name other.now) }
+{
+    let whole = name.as_bytes();
+    let front = other.as_bytes();
+    match whole.strip_prefix(front) {
+        Some(rest) => is_new(rest),
+        None => false,
+    }
+}
+
+/// Returns whether the commands of ipset for each of the two sets leave the other as it is. The commands for a set also
+/// make and remove a set with this name and ".new" after it.
+///
+/// ```text
+/// "a" and "b":            true
+/// "a" and "a":            false
+/// "a" and "a.new":        false
+/// ```
+pub fn are_ipset_sets(name: &str, other: &str) -> bool
+    ensures { IsTrue result ↔ AreApart name.now other.now }
+{
+    name != other && !is_new_of(name, other) && !is_new_of(other, name)
 }

@@ -1,5 +1,5 @@
 //! The parts of an answer: one, or one for each family.
-ghost use Rattle.std.specs.Prelude.{◌≡◌, ◌↔◌, IfOk, IfErr, OnOk, ℕ, None, max};
+ghost use Rattle.std.specs.Prelude.{◌≡◌, ◌↔◌, ◌++◌, IfOk, IfErr, OnOk, ℕ, None, max, decimal, string_bytes};
 ghost use Rattle.ipnet_base.specs.Address.{IPv4, IPv6, Address};
 ghost use Rattle.ipnet_sets.specs.Members.{IsMember};
 ghost use Rattle.netset_forms.specs.Forms.{ipset_kind, FitsFamilies, IsOfFamily, IsFormText, IsFormFailure, IsTooLong};
@@ -169,26 +169,36 @@ fn nft_parts(
     Ok(Parts { first, second })
 }
 
-/// The parts of an answer for ipset, which refuses a network of prefix length 0.
+/// The kind of a set of ipset: the text, and then the number.
+fn kind_of(alloc: Global, front: &str, most: u32) -> Result<String, AllocError>
+    ensures { IfOk result (λ text. string_bytes text ≡ front.now ++ decimal most) }
+{
+    let mut text = String::new(alloc);
+    write!(text, "{front}{most}")?;
+    Ok(text)
+}
+
+/// The parts of an answer for ipset, which refuses a network of prefix length 0. `most` is the `maxelem` of the sets.
 fn ipset_parts(
     alloc: Global,
     set: &IpSet,
     names: SetNames<'_>,
     min_length: u8,
+    most: u32,
 ) -> Result<Parts, AllocError>
     requires fits { FitsFamilies (IsMember set.now) min_length }
     requires ipv4 { names.ipv4 ≡ None → ¬ (HasOne (IsMember set.now) IPv4) }
     requires ipv6 { names.ipv6 ≡ None → ¬ (HasOne (IsMember set.now) IPv6) }
-    ensures { IfOk result (MakeParts (AreFamilyTexts (ipset_layout (ipset_kind IPv4)) (ipset_layout (ipset_kind IPv6))
-        names.entry (max min_length 1) (IsMember set.now))) }
+    ensures { IfOk result (MakeParts (AreFamilyTexts (ipset_layout (ipset_kind most IPv4))
+        (ipset_layout (ipset_kind most IPv6)) names.entry (max min_length 1) (IsMember set.now))) }
 {
     let least = min_length.max(1);
     let ipv4 = ipv4_of(alloc, set)?;
     let ipv6 = ipv6_of(alloc, set)?;
-    let ipv4_kind = "hash:net family inet maxelem 4294967295";
-    let ipv6_kind = "hash:net family inet6 maxelem 4294967295";
-    let first = ipset_part(alloc, ipv4_kind, names.ipv4, least, ipv4)?;
-    let second = ipset_part(alloc, ipv6_kind, names.ipv6, least, ipv6)?;
+    let ipv4_kind = kind_of(alloc, "hash:net family inet maxelem ", most)?;
+    let ipv6_kind = kind_of(alloc, "hash:net family inet6 maxelem ", most)?;
+    let first = ipset_part(alloc, ipv4_kind.as_str(), names.ipv4, least, ipv4)?;
+    let second = ipset_part(alloc, ipv6_kind.as_str(), names.ipv6, least, ipv6)?;
     Ok(Parts { first, second })
 }
 
@@ -228,9 +238,9 @@ pub(crate) fn parts_of(
             check_names(&set, names)?;
             Ok(nft_parts(alloc, &set, names, least)?)
         }
-        AnswerForm::Ipset(names) => {
+        AnswerForm::Ipset(names, most) => {
             check_names(&set, names)?;
-            Ok(ipset_parts(alloc, &set, names, least)?)
+            Ok(ipset_parts(alloc, &set, names, least, most)?)
         }
     }
 }

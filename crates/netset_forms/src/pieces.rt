@@ -9,9 +9,9 @@ ghost use Rattle.netset_forms.specs.FormSteps.{IsCut};
 
 use arrayvec::ArrayString;
 use ipnet::{IpAddr, IpNet};
+use ipnet_lists::ip_addr_text;
 use ipnet_text::pieces::{PIECE, make_room};
 use ipnet_text::write_whole;
-use netset_lib::ip_addr_text;
 use std::io;
 use std::io::Write;
 

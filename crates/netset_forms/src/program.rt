@@ -1,65 +1,36 @@
-//! The commands of the program whose answer is a set, in any form, over any writers.
-ghost use Rattle.std.specs.Prelude.{◌≡◌, ◌⊎◌, List, ℕ};
-ghost use Rattle.std.specs.Io.KnownBytes.{Keeps};
+//! The commands of the program whose answer is a set, in any form.
+ghost use Rattle.std.specs.Prelude.{◌≡◌, IsTrue, List, ℕ, None, ⊤};
 ghost use Rattle.ipnet.specs.declared.parser.Grammar.{Grammar};
-ghost use Rattle.ipnet_sets.specs.Members.{IsMember};
-ghost use Rattle.ipnet_text.specs.Outputs.{IsWritten, IsFrontWritten};
+ghost use Rattle.netset_lib.specs.RuleAnswers.{IsRuleFailure};
 ghost use Rattle.netset_lib.specs.RuleContentsOf.{contents_of};
 ghost use Rattle.netset_lib.specs.RuleLines.{IsRuleList};
-ghost use Rattle.netset_lib.specs.Sessions.{WereRead};
-ghost use Rattle.netset_lib.specs.declared.answer.Request.{Request};
-ghost use Rattle.netset_lib.specs.declared.command.Work.TheVariants.{Combine};
-ghost use Rattle.netset_forms.specs.FormAnswers.{IsAskedText, IsFormAnswer, IsPermittedForm};
+ghost use Rattle.netset_lib.specs.Runs.{OfCombined, IsFault, HasNoResult};
+ghost use Rattle.netset_forms.specs.FormAnswers.{IsFormAnswer, IsPermittedForm};
 
-use crate::form::FormRequest;
+use crate::form::{FormFailure, FormRequest};
 use crate::write::write_form;
+use ipnet_lists::ListFailure;
 use ipnet_rules::Action;
-use ipnet_sets::IpSet;
-use netset_lib::{RuleList, Session, set_or_report};
-use std::alloc::Global;
+use netset_lib::runs::Report;
+use netset_lib::{Command, Failure, Fault, RuleCause, RuleList, Session};
 use std::io::Write;
 
-/// A request for the addresses that a list of rules permits.
-#[derive(Clone, Copy, Debug, PartialEq, Eq)]
-pub struct PermittedRequest<'a> {
-    /// The action for the addresses that no rule matches.
-    pub default: Action,
-    /// The form of the answer.
-    pub form: FormRequest<'a>,
-}
+impl Report for FormFailure {
+    ghost exit = { λ _. 2 };
 
-/// Writes the set as it is asked for, reports a failure, and returns the exit status.
-fn run_set<W: Write, X: Write>(
-    alloc: Global,
-    set: IpSet,
-    form: FormRequest<'_>,
-    out: &mut W,
-    faults: &mut X,
-) -> u8
-    ensures status { (result ≡ 0) ⊎ (result ≡ 2) }
-    ensures answered { result ≡ 0
-        → IsWritten (IsAskedText form.entry (IsMember set)) (W.contents out.old) (W.contents out.new) }
-    ensures cut_short { result ≡ 2 → Keeps (W.contents out.old) (W.contents out.new)
-        ⊎ IsFrontWritten (IsAskedText form.entry (IsMember set)) (W.contents out.old) (W.contents out.new) }
-    ensures faultless { result ≡ 0 → Keeps (X.contents faults.old) (X.contents faults.new) }
-{
-    match write_form(alloc, set, form, out) {
-        Ok(()) => 0,
-        Err(failure) => {
-            let _ = writeln!(faults, "netset: {failure}");
-            2
-        }
+    ghost told = { λ _ _. None };
+
+    fn tell<X: Write>(self, _: &[&str], faults: &mut X) -> u8 {
+        let _ = writeln!(faults, "netset: {self}");
+        2
     }
 }
 
-/// Writes the result of the session's operation to `out`, in the form that is asked for, and returns the exit status.
-///
-/// `names` are the names of the lists, in order, for the reports on `faults`. If a report cannot be written, the status
-/// is the same.
+/// The result of the session's operation, in the form that is asked for.
 ///
 /// | Status | On `faults` | When |
 /// |---|---|---|
-/// | 2 | as `run` of `netset_lib` reports it | the lists have no set |
+/// | 2 | as `AnswerCommand` of `netset_lib` says | the lists have no set |
 /// | 2 | `netset: /33: the prefix length is above 32` | the least length is too long for a family of the result |
 /// | 2 | `netset: the result has IPv4 addresses: name a set for them by --ipv4-set` | a set without a name; or IPv6 |
 /// | 2 | `netset: out of memory` | memory runs out |
@@ -69,54 +40,77 @@ fn run_set<W: Write, X: Write>(
 /// ```text
 /// Union of "10.0.0.0/9\n10.128.0.0/9\n", Json:  status 0, and out gets "[\n  \"10.0.0.0/8\"\n]\n"
 /// ```
-pub fn run_form<W: Write, X: Write>(
-    session: Session,
-    form: FormRequest<'_>,
-    names: &[&str],
-    out: &mut W,
-    faults: &mut X,
-) -> u8
-    ensures status { (result ≡ 0) ⊎ (result ≡ 2) }
-    ensures answered { result ≡ 0 → (r : Request) → (lists : List (List ℕ)) → WereRead (Combine r) lists session
-        → IsWritten (IsFormAnswer r form.entry lists) (W.contents out.old) (W.contents out.new) }
-    ensures cut_short { result ≡ 2 → (r : Request) → (lists : List (List ℕ)) → WereRead (Combine r) lists session
-        → Keeps (W.contents out.old) (W.contents out.new)
-        ⊎ IsFrontWritten (IsFormAnswer r form.entry lists) (W.contents out.old) (W.contents out.new) }
-    ensures faultless { result ≡ 0 → Keeps (X.contents faults.old) (X.contents faults.new) }
-{
-    let Some((alloc, set)) = set_or_report(session, names, faults) else {
-        return 2;
-    };
-    run_set(alloc, set, form, out, faults)
+pub struct FormCommand<'a> {
+    /// The session.
+    pub session: Session,
+    /// The form of the answer.
+    pub form: FormRequest<'a>,
 }
 
-/// Writes the addresses that the rules permit to `out`, in the form that is asked for, and returns the exit status.
+impl<'a> Command for FormCommand<'a> {
+    type Failure = Fault<Failure, FormFailure>;
+
+    ghost is_answer = { λ c text. OfCombined (λ r lists. IsFormAnswer r c.form lists text) c.session };
+
+    ghost is_outcome = { λ _ succeeded. IsTrue succeeded };
+
+    ghost is_failure = { λ c. IsFault (HasNoResult c.session) (λ _. ⊤) };
+
+    fn write<W: Write>(self, out: &mut W) -> Result<bool, Fault<Failure, FormFailure>> {
+        let FormCommand { session, form } = self;
+        let alloc = session.alloc();
+        let set = session.into_set()?;
+        match write_form(alloc, set, form, out) {
+            Ok(()) => Ok(true),
+            Err(failure) => Err(Fault::Other(failure)),
+        }
+    }
+}
+
+/// The addresses that a list of rules permits, in the form that is asked for.
 ///
-/// `name` is the name of the list, for the reports on `faults`. The statuses and reports are as for `run_form`. Lines
-/// that are not rules are reported as `run_unreached` of `netset_lib` does.
+/// The statuses and reports are as `FormCommand` says. Lines that are not rules are reported as `UnreachedCommand` of
+/// `netset_lib` says.
 ///
 /// ```text
 /// of "permit 10.0.0.0/9\npermit 10.128.0.0/9\n", Deny and Json: status 0, and out gets "[\n  \"10.0.0.0/8\"\n]\n"
 /// ```
-pub fn run_permitted<W: Write, X: Write>(
-    list: RuleList,
-    request: PermittedRequest<'_>,
-    name: &str,
-    out: &mut W,
-    faults: &mut X,
-) -> u8
-    ensures status { (result ≡ 0) ⊎ (result ≡ 2) }
-    ensures answered { let r = request.entry in result ≡ 0 → (grammar : Grammar) → (bytes : List ℕ)
-        → IsRuleList grammar bytes (contents_of list)
-        → IsWritten (IsPermittedForm r.default r.form grammar bytes) (W.contents out.old) (W.contents out.new) }
-    ensures cut_short { let r = request.entry in result ≡ 2 → (grammar : Grammar) → (bytes : List ℕ)
-        → IsRuleList grammar bytes (contents_of list) → Keeps (W.contents out.old) (W.contents out.new)
-        ⊎ IsFrontWritten (IsPermittedForm r.default r.form grammar bytes) (W.contents out.old) (W.contents out.new) }
-    ensures faultless { result ≡ 0 → Keeps (X.contents faults.old) (X.contents faults.new) }
-{
-    let alloc = list.alloc();
-    match list.permitted(request.default) {
-        Ok(set) => run_set(alloc, set, request.form, out, faults),
-        Err(failure) => failure.report(faults, name),
+pub struct PermittedCommand<'a> {
+    /// The rules.
+    pub list: RuleList,
+    /// The action for the addresses that no rule matches.
+    pub default: Action,
+    /// The form of the answer.
+    pub form: FormRequest<'a>,
+}
+
+impl<'a> Command for PermittedCommand<'a> {
+    type Failure = Fault<ListFailure<RuleCause>, FormFailure>;
+
+    ghost is_answer = { λ c text. (grammar : Grammar) → (bytes : List ℕ)
+        → IsRuleList grammar bytes (contents_of c.list) → IsPermittedForm c.default c.form grammar bytes text };
+
+    ghost is_outcome = { λ _ succeeded. IsTrue succeeded };
+
+    ghost is_failure = { λ c. IsFault (IsRuleFailure (contents_of c.list)) (λ _. ⊤) };
+
+    fn write<W: Write>(
+        self,
+        out: &mut W,
+    ) -> Result<bool, Fault<ListFailure<RuleCause>, FormFailure>> {
+        let PermittedCommand {
+            list,
+            default,
+            form,
+        } = self;
+        let alloc = list.alloc();
+        let set = match list.permitted(default) {
+            Ok(set) => set,
+            Err(failure) => return Err(Fault::Lists(failure)),
+        };
+        match write_form(alloc, set, form, out) {
+            Ok(()) => Ok(true),
+            Err(failure) => Err(Fault::Other(failure)),
+        }
     }
 }

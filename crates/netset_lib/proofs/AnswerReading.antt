@@ -25,17 +25,18 @@ use Rattle.ipnet_sets.proofs.SetRangeLaws.{any_cases, any_here, any_there}
 use Rattle.ipnet_text.specs.LineTexts.{text_of_lines}
 use Rattle.netset_lib.specs.declared.answer.Form.{Form}
 use Rattle.netset_lib.specs.declared.answer.Form.TheVariants.{Networks, Ranges}
-use Rattle.netset_lib.specs.Answers.{range_text, text_of_ranges, AreNetworkLines, AreRangeLines, IsSetText}
-use Rattle.netset_lib.specs.Entries.{IsAddressText, IsEntryWord, block_range}
-use Rattle.netset_lib.specs.Lists.{ListEntry, AreContents, AreRead, IsListRead, IsInEntries, after_mark}
-use Rattle.netset_lib.specs.Lists.{byte_order_mark}
+use Rattle.ipnet_lists.specs.SetLines.{range_text, text_of_ranges, AreNetworkLines, AreRangeLines}
+use Rattle.netset_lib.specs.Answers.{IsSetText}
+use Rattle.ipnet_lists.specs.Entries.{IsAddressText, IsEntryWord, block_range}
+use Rattle.ipnet_lists.specs.Lists.{ListEntry, AreContents, AreRead, IsListRead, IsInEntries, after_mark}
+use Rattle.ipnet_lists.specs.Lists.{byte_order_mark}
 use Rattle.netset_lib.specs.Scripts.{IsListOf}
-use Rattle.netset_lib.proofs.AddressBytes.{IsPlainByte}
+use Rattle.ipnet_lists.proofs.AddressBytes.{IsPlainByte}
 use Rattle.netset_lib.proofs.CoveredLaws.{member_is_covered}
-use Rattle.netset_lib.proofs.EntryTexts.{with_32, without_length}
-use Rattle.netset_lib.proofs.ListLines.{ascii_entry}
-use Rattle.netset_lib.proofs.PlainLines.{plain_contents, plain_entry, word_is_entry}
-use Rattle.netset_lib.proofs.MarkLaws.{mark_cut}
+use Rattle.ipnet_lists.proofs.EntryTexts.{with_32, without_length}
+use Rattle.ipnet_lists.proofs.ListLines.{ascii_entry}
+use Rattle.ipnet_lists.proofs.PlainLines.{plain_contents, plain_entry, word_is_entry}
+use Rattle.ipnet_lists.proofs.MarkLaws.{mark_cut}
 
 -- ---- lines that are entries and nothing else
 
@@ -103,14 +104,14 @@ are_read grammar list line (e ∷ entries) h =
     (are_read grammar list (line + 1) entries (All-tail (IsWordEntry grammar) e entries h))
 
 are_contents : (grammar : Grammar) (entries : List ListEntry) → All (IsWordEntry grammar) entries
-    → AreContents grammar (texts_of entries) (texts_of entries)
+    → AreContents (texts_of entries) (texts_of entries)
 are_contents grammar [] h = refl
 are_contents grammar (e ∷ entries) h =
     let first = All-head (IsWordEntry grammar) e entries h in (
       e.text,
       texts_of entries,
       refl,
-      plain_contents grammar e.text (plain_entry grammar e.text e.range first.word),
+      plain_contents e.text (plain_entry grammar e.text e.range first.word),
       are_contents grammar entries (All-tail (IsWordEntry grammar) e entries h),
     )
 
@@ -139,7 +140,7 @@ entries_are_read : (grammar : Grammar) (list : ℕ) (entries : List ListEntry) �
     → IsListRead grammar list (text_of (texts_of entries)) entries []
 entries_are_read grammar list entries h = (
   texts_of entries,
-  subst (λ ls. AreContents grammar ls (texts_of entries))
+  subst (λ ls. AreContents ls (texts_of entries))
       (sym
       (ap lines_of (unmarked_text grammar entries h)
       ∙ lines_of_text (texts_of entries) (unbroken grammar entries h)))

@@ -6,7 +6,7 @@ use Rattle.std.proofs.lemmas.List.Elements.{All-nil, All-cons}
 use Rattle.ipnet_base.specs.Address.{Address}
 use Rattle.ipnet.specs.declared.net.IpNet.{IpNet}
 use Rattle.ipnet_sets.specs.Members.{IsMember}
-use Rattle.ipnet_sets.specs.declared.routes.RouteTable.{RouteTable}
+use Rattle.ipnet_routes.specs.declared.routes.RouteTable.{RouteTable}
 use Rattle.netset_lib.specs.declared.answerer.Answerer.{Answerer}
 use Rattle.netset_lib.specs.declared.answerer.Answerer.TheVariants as Answerers
 use Rattle.netset_lib.specs.declared.answerer.Answers.{Answers}
@@ -16,7 +16,7 @@ use Rattle.netset_lib.specs.Answering.{IsAnswererFor, IsAnswerBy, IsFoundBy, Are
 use Rattle.netset_lib.specs.EntryAnswers.{AreAnswers, IsFoundIn}
 use Rattle.netset_lib.specs.Filtering.{HasAddresses, IsFilterLine}
 use Rattle.netset_lib.specs.Filters.{IsOnSide, LiesIn}
-use Rattle.netset_lib.specs.Lists.{ListEntry, IsInEntries}
+use Rattle.ipnet_lists.specs.Lists.{ListEntry, IsInEntries}
 use Rattle.netset_lib.specs.Replies.{AreReplies, IsFoundFor, HasNoRoute, IsKept}
 use Rattle.netset_lib.specs.RouteAnswers.{IsTableNetwork, Holds, HaveNone, IsRouteLine}
 use Rattle.netset_lib.specs.Routing.{InTable, HoldsEnds, IsLongestIfAny, route_line}

@@ -14,15 +14,15 @@ use Rattle.netset_lib.specs.Answers.{AreListsRead, IsAnswer, IsSetText}
 use Rattle.netset_lib.specs.Changes.{ListChange, Added, Removed, AreChanges, IsChangesAnswer}
 use Rattle.netset_lib.specs.ChangeLists.{IsAnswerNetwork, IsChangeList, IsKeptOrAdded, IsInChanged}
 use Rattle.netset_lib.specs.ChangeLists.{IsChangedText, IsChangedAnswer, HaveRefusedChanges}
-use Rattle.netset_lib.specs.ContentLines.{RefusedContent}
-use Rattle.netset_lib.specs.Lists.{ListEntry, IsListRead, IsInEntries}
+use Rattle.ipnet_lists.specs.ContentLines.{RefusedContent}
+use Rattle.ipnet_lists.specs.Lists.{ListEntry, IsListRead, IsInEntries}
 use Rattle.netset_lib.specs.Operations.{IsCountFor, IsInResult}
 use Rattle.netset_lib.proofs.AnswerTexts.{text_of_same}
 use Rattle.netset_lib.proofs.ChangeLaws.{other_list_made}
 use Rattle.netset_lib.proofs.ChangeTexts.{IsGoodChange, changes_read}
 use Rattle.netset_lib.proofs.CoveredLaws.{member_is_covered}
 use Rattle.netset_lib.proofs.ScriptLaws.{one_list_read, two_lists_read, read_fits}
-use Rattle.netset_lib.proofs.OneReading.{one_reading}
+use Rattle.ipnet_lists.proofs.OneReading.{one_reading}
 
 -- the result of the union of one list
 one_union : (first : List ListEntry) (x : Address)

@@ -20,14 +20,14 @@ use Rattle.netset_lib.specs.declared.answer.Request.{Request}
 use Rattle.netset_lib.specs.declared.change_line.ChangeCause.{ChangeCause}
 use Rattle.netset_lib.specs.declared.change_line.ChangeCause.TheVariants as Causes
 use Rattle.netset_lib.specs.Changes.{ListChange, Added, Removed}
-use Rattle.netset_lib.specs.ContentLines.{RefusedContent}
-use Rattle.netset_lib.specs.Lists.{IsInEntries}
+use Rattle.ipnet_lists.specs.ContentLines.{RefusedContent}
+use Rattle.ipnet_lists.specs.Lists.{IsInEntries}
 use Rattle.netset_lib.specs.Operations.{IsInResult}
 use Rattle.netset_lib.specs.PlanAnswers.{IsResultSet}
 use Rattle.netset_lib.specs.ChangeLists.{IsAnswerNetwork, Fits, IsFittingChange, IsChangeCause, IsChangeList}
 use Rattle.netset_lib.specs.ChangeLists.{IsKeptOrAdded, IsInChanged, IsChangedText, IsChangedAnswer}
 use Rattle.netset_lib.proofs.AnswerTexts.{text_of_same}
-use Rattle.netset_lib.proofs.ContentLaws.{items_same}
+use Rattle.ipnet_lists.proofs.ContentLaws.{items_same}
 use Rattle.netset_lib.proofs.CoveredLaws.{largest_below, single, single_inside}
 use Rattle.netset_lib.specs.ApplySteps.{NetworkParts, AddsPart, AreParts}
 

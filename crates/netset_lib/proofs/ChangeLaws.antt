@@ -1,5 +1,5 @@
 -- The changes between two ascending lists of networks, by the first networks of both.
-use Rattle.std.proofs.Common.{◌≡◌, ℕ, ◌⊎◌, ◌↔◌, List, [], ◌∷◌, ◌++◌, Contains, Option, Some, None, map}
+use Rattle.std.proofs.Common.{◌≡◌, ℕ, ◌⊎◌, ◌↔◌, List, [], ◌∷◌, ◌++◌, Bool, true, Contains, Option, Some, None, map}
 use Rattle.std.proofs.Common.{refl, sym, ap, ◌∙◌, subst, arith, inl, inr}
 use Rattle.std.proofs.lemmas.List.{append_assoc, append-nil}
 use Rattle.ipnet_base.specs.Network.{Network, IsBefore}
@@ -19,8 +19,8 @@ use Rattle.netset_lib.specs.ChangeSteps.{change_of, IsBeforeFirst, IsFirstStep, 
 use Rattle.netset_lib.specs.declared.changes.Change.{Change}
 use Rattle.netset_lib.specs.declared.changes.Change.TheVariants as Variants
 use Rattle.netset_lib.specs.PairSets.{ArePairSets}
-use Rattle.netset_lib.specs.Lists.{IsInEntries}
-use Rattle.netset_lib.specs.Replies.{AreSameLists, AreOtherLists}
+use Rattle.ipnet_lists.specs.Lists.{IsInEntries}
+use Rattle.netset_lib.specs.Replies.{AreCompared}
 
 -- ---- the order
 
@@ -270,26 +270,21 @@ changes_of_lists grammar lists one other text pair h = record {
 
 module _ (grammar : Grammar) (lists : List (List ℕ)) (one other : IpSet) (pair : ArePairSets grammar lists one other)
   where
-    pub same_of_sets : HaveSameAddresses one other → AreSameLists grammar lists
-    same_of_sets same = record {
+    pub compared_of_sets : (same : Bool) → (same ≡ true ↔ HaveSameAddresses one other) → AreCompared grammar lists same
+    compared_of_sets same h = record {
       first = pair.first;
       second = pair.second;
       read = pair.read;
-      same = λ x. (
-        λ a. (pair.of_second x).0 ((same x).0 ((pair.of_first x).1 a)),
-        λ b. (pair.of_first x).0 ((same x).1 ((pair.of_second x).1 b)),
+      is_same = (
+        λ yes x. (
+          λ a. (pair.of_second x).0 ((h.0 yes x).0 ((pair.of_first x).1 a)),
+          λ b. (pair.of_first x).0 ((h.0 yes x).1 ((pair.of_second x).1 b)),
+        ),
+        λ have. h.1 (λ x. (
+          λ a. (pair.of_second x).1 ((have x).0 ((pair.of_first x).0 a)),
+          λ b. (pair.of_first x).1 ((have x).1 ((pair.of_second x).0 b)),
+        )),
       );
-    }
-
-    pub other_of_sets : (HaveSameAddresses one other → ⊥) → AreOtherLists grammar lists
-    other_of_sets clash = record {
-      first = pair.first;
-      second = pair.second;
-      read = pair.read;
-      differ = λ same. clash (λ x. (
-        λ a. (pair.of_second x).1 ((same x).0 ((pair.of_first x).0 a)),
-        λ b. (pair.of_first x).1 ((same x).1 ((pair.of_second x).0 b)),
-      ));
     }
 
 -- ---- what changes make

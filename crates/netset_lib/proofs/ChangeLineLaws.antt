@@ -13,7 +13,7 @@ use Rattle.netset_lib.specs.ApplySteps.{signed, IsMisfit}
 use Rattle.netset_lib.specs.ChangeLists.{sign_of, IsChangeText, Fits, IsFittingChange, IsChangeCause}
 use Rattle.netset_lib.specs.ChangeSteps.{change_of}
 use Rattle.netset_lib.specs.NetworkEntries.{IsNetworkWord, IsNoNetworkWord, IsNetworkCause}
-use Rattle.netset_lib.specs.RuleLines.{leading_word, after_word}
+use Rattle.ipnet_lists.specs.Words.{leading_word, after_word}
 
 pub signed_text : (grammar : Grammar) (text word rest : List ℕ) (sign : Sign) (n : Network) → word ≡ leading_word text
     → rest ≡ after_word text → word ≡ sign_of (signed sign n) → IsNetworkWord grammar rest n

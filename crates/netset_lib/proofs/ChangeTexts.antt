@@ -19,16 +19,16 @@ use Rattle.netset_lib.specs.declared.change_line.ChangeCause.TheVariants as Caus
 use Rattle.netset_lib.specs.Changes.{ListChange, Added, Removed, changed_network, change_line, text_of_changes}
 use Rattle.netset_lib.specs.ChangeLists.{sign_of, IsChangeText, Fits, IsFittingChange, IsChangeCause}
 use Rattle.netset_lib.specs.ChangeLists.{IsChangeList}
-use Rattle.netset_lib.specs.ContentLines.{ContentLine, RefusedContent, AreNumbered, AreItems}
-use Rattle.netset_lib.specs.Entries.{block_range}
-use Rattle.netset_lib.specs.Lists.{IsContents, AreContents, without_blanks, after_mark}
+use Rattle.ipnet_lists.specs.ContentLines.{ContentLine, RefusedContent, AreNumbered, AreItems}
+use Rattle.ipnet_lists.specs.Entries.{block_range}
+use Rattle.ipnet_lists.specs.Lists.{IsContents, AreContents, without_blanks, after_mark}
 use Rattle.netset_lib.specs.NetworkEntries.{IsNetworkWord}
-use Rattle.netset_lib.specs.RuleLines.{leading_word, after_word}
-use Rattle.netset_lib.proofs.AddressBytes.{IsPlainByte}
+use Rattle.ipnet_lists.specs.Words.{leading_word, after_word}
+use Rattle.ipnet_lists.proofs.AddressBytes.{IsPlainByte}
 use Rattle.netset_lib.proofs.AnswerReading.{text_of, lines_of_text, no_mark, no_newline, canonical_some}
-use Rattle.netset_lib.proofs.BlankTexts.{first_fails, last_one_fails}
-use Rattle.netset_lib.proofs.OneReading.{all_contents, one_plain}
-use Rattle.netset_lib.proofs.PlainLines.{IsSober, plain_entry, sober_contents, untrimmed}
+use Rattle.ipnet_lists.proofs.BlankTexts.{first_fails, last_one_fails}
+use Rattle.ipnet_lists.proofs.OneReading.{all_contents, one_plain}
+use Rattle.ipnet_lists.proofs.PlainLines.{IsSober, plain_entry, sober_contents, untrimmed}
 
 -- ---- a network word is one network
 
@@ -121,10 +121,10 @@ sober_line change u =
     (All-weaker IsPlainByte IsSober (λ b is. record { no_hash = is.no_hash; no_semicolon = is.no_semicolon })
     (canonical_text (changed_network change)) (canonical_plain (changed_network change) u)))
 
-line_contents : (grammar : Grammar) (change : ListChange) → IsNetwork (changed_network change)
-    → IsContents grammar (change_text change) (change_text change)
-line_contents grammar change u =
-    sober_contents grammar (change_text change) (sober_line change u)
+line_contents : (change : ListChange) → IsNetwork (changed_network change)
+    → IsContents (change_text change) (change_text change)
+line_contents change u =
+    sober_contents (change_text change) (sober_line change u)
     (bare_line (sign_byte change) (canonical_text (changed_network change)) (sign_is_bare change)
     (canonical_plain (changed_network change) u) (canonical_some (changed_network change)))
 
@@ -173,13 +173,13 @@ pub record IsGoodChange (Has : Network → Type 0) (change : ListChange) : Type 
 
 module _ (grammar : Grammar) (Has : Network → Type 0) where
   contents_of_lines : (changes : List ListChange) → All (IsGoodChange Has) changes
-      → AreContents grammar (map change_text changes) (map change_text changes)
+      → AreContents (map change_text changes) (map change_text changes)
   contents_of_lines [] h = refl
   contents_of_lines (c ∷ changes) h = (
     change_text c,
     map change_text changes,
     refl,
-    line_contents grammar c (All-head (IsGoodChange Has) c changes h).plain.network,
+    line_contents c (All-head (IsGoodChange Has) c changes h).plain.network,
     contents_of_lines changes (All-tail (IsGoodChange Has) c changes h),
   )
 
@@ -246,6 +246,6 @@ module _ (grammar : Grammar) (Has : Network → Type 0) where
       ∙ ap lines_of (unmarked_lines changes)
       ∙ lines_of_text (map change_text changes) (unbroken_lines changes good) in
       let same : texts ≡ map change_text changes =
-      all_contents grammar (lines_of (after_mark (text_of_changes changes))) texts (map change_text changes) are
-      (subst (λ ls. AreContents grammar ls (map change_text changes)) (sym lines) (contents_of_lines changes good)) in
+      all_contents (lines_of (after_mark (text_of_changes changes))) texts (map change_text changes) are
+      (subst (λ ls. AreContents ls (map change_text changes)) (sym lines) (contents_of_lines changes good)) in
       lines_read changes 1 h.lines read refused good (subst (λ ts. AreNumbered 1 ts h.lines) same numbered) h.items

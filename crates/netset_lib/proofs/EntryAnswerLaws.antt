@@ -5,7 +5,7 @@ use Rattle.std.proofs.lemmas.List.Elements.{All-nil, All-cons, All-head, All-tai
 use Rattle.ipnet_base.proofs.ListLaws.{contains_nil}
 use Rattle.ipnet_sets.proofs.SetRangeLaws.{any_cases, any_here, any_there}
 use Rattle.netset_lib.specs.EntryAnswers.{AreAnswers, IsFoundIn}
-use Rattle.netset_lib.specs.Lists.{ListEntry}
+use Rattle.ipnet_lists.specs.Lists.{ListEntry}
 
 pub answers_append : (Is : ListEntry → List ℕ → Type 0) (first second : List ListEntry) (text more : List ℕ)
     → AreAnswers Is first text → AreAnswers Is second more → AreAnswers Is (first ++ second) (text ++ more)

@@ -10,7 +10,7 @@ use Rattle.netset_lib.specs.declared.filter.Side.TheVariants.{Inside, Outside}
 use Rattle.netset_lib.specs.EntryAnswers.{AreAnswers}
 use Rattle.netset_lib.specs.Filtering.{HasAddresses, IsFilterLine}
 use Rattle.netset_lib.specs.Filters.{IsOnSide, LiesIn, AreKept, text_of_entries}
-use Rattle.netset_lib.specs.Lists.{ListEntry}
+use Rattle.ipnet_lists.specs.Lists.{ListEntry}
 
 -- ---- entries that are kept
 

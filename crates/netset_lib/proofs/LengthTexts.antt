@@ -7,7 +7,7 @@ use Rattle.std.specs.Option.{MatchOption}
 use Rattle.ipnet.specs.Numerals.{IsDecimal}
 use Rattle.ipnet.specs.declared.parser.Grammar.TheVariants.{Strict}
 use Rattle.netset_lib.specs.PlanAnswers.{IsLengthText}
-use Rattle.netset_lib.proofs.CauseTexts.{same_digits, digits_model}
+use Rattle.ipnet_lists.proofs.CauseTexts.{same_digits, digits_model}
 
 -- a number has only decimal digits
 pub number_digits : (text : List ℕ) (n : ℕ) → IsDecimal Strict 3 128 text n → list_all is_ascii_digit text ≡ true

@@ -6,40 +6,13 @@ use Rattle.ipnet_sets.specs.declared.set.IpSet.{IpSet}
 use Rattle.ipnet_sets.specs.Members.{IsMember}
 use Rattle.ipnet_text.specs.Inputs.{GaveWhole}
 use Rattle.netset_lib.specs.declared.command.Work.{Work}
-use Rattle.netset_lib.specs.declared.reading.Reading.{Reading}
 use Rattle.netset_lib.specs.declared.session.Session.{Session}
 use Rattle.netset_lib.specs.Answers.{AreListsRead}
-use Rattle.netset_lib.specs.Lists.{ListEntry, Refusal, IsListRead, HaveAddresses}
+use Rattle.ipnet_lists.specs.Lists.{ListEntry, Refusal, IsListRead, HaveAddresses}
 use Rattle.netset_lib.specs.ListSets.{HaveMembers}
-use Rattle.netset_lib.specs.Reading.{Adds, WasMadeOf}
 use Rattle.netset_lib.specs.Replies.{work_grammar}
 use Rattle.netset_lib.specs.Sessions.{ReadsNext, WereRead, IsState, IsNoted, has_entry}
-use Rattle.netset_lib.proofs.RefusalLaws.{more_refused}
-
--- ---- one list
-
-pub made_weaker : (left left_after : Option (List ℕ)) (old new : Reading) (IsMade Other : List ListEntry → Type 0)
-    → WasMadeOf left left_after old new IsMade → ((entries : List ListEntry) → IsMade entries → Other entries)
-    → WasMadeOf left left_after old new Other
-made_weaker left left_after old new IsMade Other h weaker = record {
-  bytes = h.bytes;
-  given = h.given;
-  entries = h.entries;
-  refusals = h.refusals;
-  read = h.read;
-  added = h.added;
-  same_grammar = h.same_grammar;
-  next = h.next;
-  made = weaker h.entries h.made;
-  noted = h.noted;
-}
-
--- what was made of no entry before the list is made of the list
-pub made_of : (left left_after : Option (List ℕ)) (old new : Reading) (IsMade IsMadeNow : List ListEntry → Type 0)
-    → WasMadeOf left left_after old new (Adds IsMade IsMadeNow) → IsMade []
-    → WasMadeOf left left_after old new IsMadeNow
-made_of left left_after old new IsMade IsMadeNow h start =
-    made_weaker left left_after old new (Adds IsMade IsMadeNow) IsMadeNow h (λ entries adds. adds [] start)
+use Rattle.ipnet_lists.proofs.RefusalLaws.{more_refused}
 
 -- ---- one list more
 

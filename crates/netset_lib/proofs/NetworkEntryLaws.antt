@@ -7,17 +7,17 @@ use Rattle.ipnet_base.proofs.NetworkLaws.{truncation_from_relation, truncation_t
 use Rattle.ipnet.specs.declared.parser.Grammar.{Grammar}
 use Rattle.ipnet.specs.NetworkParts.{network_at}
 use Rattle.ipnet_sets.specs.SetRanges.{range_of}
-use Rattle.netset_lib.specs.declared.entry.Entry.{Entry}
-use Rattle.netset_lib.specs.declared.entry.Entry.TheVariants as Entries
+use Rattle.ipnet_lists.specs.declared.entry.Entry.{Entry}
+use Rattle.ipnet_lists.specs.declared.entry.Entry.TheVariants as Entries
 use Rattle.netset_lib.specs.declared.network_entry.NetworkCause.{NetworkCause}
 use Rattle.netset_lib.specs.declared.network_entry.NetworkCause.TheVariants as Causes
-use Rattle.netset_lib.specs.Entries.{block_range, IsNetworkOrMasked, IsAddressText, IsEntryText, IsNoEntry}
-use Rattle.netset_lib.specs.EntryOf.{entry_range, IsWrittenAs}
+use Rattle.ipnet_lists.specs.Entries.{block_range, IsNetworkOrMasked, IsAddressText, IsEntryText, IsNoEntry}
+use Rattle.ipnet_lists.specs.EntryOf.{entry_range, IsWrittenAs}
 use Rattle.netset_lib.specs.NetworkEntries.{IsNetworkWord, IsNoNetworkWord, IsSomeRange, IsNetworkCause}
 use Rattle.netset_lib.specs.NetworkSteps.{IsRange}
-use Rattle.netset_lib.proofs.AddressBytes.{middle}
-use Rattle.netset_lib.proofs.EntryTexts.{plain_no_dash}
-use Rattle.netset_lib.proofs.RangeCovers.{whole_block}
+use Rattle.ipnet_lists.proofs.AddressBytes.{middle}
+use Rattle.ipnet_lists.proofs.EntryTexts.{plain_no_dash}
+use Rattle.ipnet_lists.proofs.RangeCovers.{whole_block}
 
 -- a network and its truncation have one block
 same_range : (t n : Network) → IsTruncationOf t n → block_range t ≡ block_range n

@@ -1,19 +1,22 @@
 -- Plans in two sets with the same addresses, and in the addresses of lists.
-use Rattle.std.proofs.Common.{◌↔◌, ℕ, List}
+use Rattle.std.proofs.Common.{◌↔◌, ℕ, List, ◌++◌}
 use Rattle.std.proofs.lemmas.List.Elements.{All-weaker}
 use Rattle.ipnet_base.specs.Address.{Family, Address}
 use Rattle.ipnet_base.specs.Blocks.{IsInside}
 use Rattle.ipnet_base.specs.Network.{Network}
-use Rattle.ipnet_pools.specs.Plans.{requests_of}
+use Rattle.ipnet_pools.specs.Fits.{WithoutAll}
+use Rattle.ipnet_pools.specs.Plans.{requests_of, IsPlan}
 use Rattle.ipnet_pools.proofs.PlacementLaws.{CanPlace-more}
+use Rattle.ipnet_pools.proofs.PlanLaws.{plan_places}
+use Rattle.ipnet_pools.proofs.RoomLaws.{room_for_placed}
 use Rattle.ipnet_sets.specs.declared.set.IpSet.{IpSet}
 use Rattle.ipnet_sets.specs.Members.{IsMember}
 use Rattle.netset_lib.specs.declared.operation.Families.{Families}
 use Rattle.netset_lib.specs.declared.operation.Families.TheVariants.{Named, Ipv4, Ipv6, Both}
 use Rattle.netset_lib.specs.declared.answer.Request.{Request}
-use Rattle.netset_lib.specs.Lists.{IsInEntries}
+use Rattle.ipnet_lists.specs.Lists.{IsInEntries}
 use Rattle.netset_lib.specs.Operations.{IsInResult}
-use Rattle.netset_lib.specs.PlanAnswers.{IsPlanFamily, IsPlanText, HasNoPlacement}
+use Rattle.netset_lib.specs.PlanAnswers.{IsPlanFamily, IsPlanText, HasNoPlacement, HasRoomForEach}
 use Rattle.netset_lib.specs.PlanAnswers.{IsResultSet, HoldsOfResult}
 
 -- ---- two sets with the same addresses
@@ -40,6 +43,9 @@ text_same A B same families lengths text h = record {
     inside = All-weaker (IsInside A 0) (IsInside B 0) inside h.networks h.plan.inside;
     disjoint = h.plan.disjoint;
   };
+  keeps = λ more place.
+      CanPlace-more more (WithoutAll A h.networks) (WithoutAll B h.networks) (λ x r. ((same x).0 r.0, r.1))
+      (h.keeps more (CanPlace-more (requests_of h.family lengths ++ more) B A (λ x b. (same x).1 b) place));
   spelled = h.spelled;
 }
   where
@@ -58,6 +64,16 @@ none_same A B same families lengths h = record {
   chosen = family_same A B same families h.family h.chosen;
   fits = h.fits;
   none = λ place. h.none (CanPlace-more (requests_of h.family lengths) B A (λ x b. (same x).1 b) place);
+}
+
+-- a set with a plan has room for each of the lengths by itself
+pub room_of_plan : (S : Address → Type 0) (families : Families) (f : Family) (lengths : List ℕ)
+    (networks : List Network) → IsPlanFamily families S f → IsPlan S f lengths networks
+    → HasRoomForEach S families lengths
+room_of_plan S families f lengths networks chosen plan = record {
+  family = f;
+  chosen = chosen;
+  room = room_for_placed S f lengths (plan_places S f lengths networks plan);
 }
 
 -- ---- plans in the addresses of lists

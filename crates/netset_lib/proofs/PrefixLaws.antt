@@ -22,13 +22,14 @@ use Rattle.ipnet_rules.specs.PrefixLists.{IsBound, MatchesRoute, IsRouteVerdict}
 use Rattle.ipnet_rules.proofs.VerdictLaws.{any_push, one_verdict}
 use Rattle.netset_lib.specs.declared.prefix_line.PrefixCause.{PrefixCause}
 use Rattle.netset_lib.specs.declared.prefix_line.PrefixCause.TheVariants as Causes
-use Rattle.netset_lib.proofs.AddressBytes.{IsAddressByte, decimal_bytes}
+use Rattle.ipnet_lists.proofs.AddressBytes.{IsAddressByte, decimal_bytes}
 use Rattle.netset_lib.specs.NetworkEntries.{IsNetworkWord}
 use Rattle.netset_lib.specs.PrefixAnswers.{ListNetwork, verdict_line, AreVerdicts, IsOneDenied}
 use Rattle.netset_lib.specs.PrefixLines.{IsBoundsText, IsPrefixText, IsPrefixCause, network_word}
 use Rattle.netset_lib.specs.PrefixLines.{bounds_text}
 use Rattle.netset_lib.specs.PrefixSteps.{HasPair, IsRuleOf, IsBoundsCause}
-use Rattle.netset_lib.specs.RuleLines.{word_of, leading_word, after_word, HasRuleWord}
+use Rattle.netset_lib.specs.RuleLines.{word_of, HasRuleWord}
+use Rattle.ipnet_lists.specs.Words.{leading_word, after_word}
 
 -- ---- numbers
 

@@ -5,22 +5,22 @@ use Rattle.std.proofs.Common.{◌≡◌, ℕ, ◌<◌, ◌≤◌, ◌+◌, ◌�
 use Rattle.std.proofs.Common.{Bool, IsTrue, false, refl, sym, ap, ◌∙◌, subst, arith, inl, inr}
 use Rattle.std.proofs.lemmas.Bool.{cases_order, true≢false}
 use Rattle.std.proofs.lemmas.List.Elements.{All-nil, All-cons}
-use Rattle.ipnet_base.specs.Address.{Family, Address, address_at, width}
+use Rattle.ipnet_base.specs.Address.{Address, address_at, width}
 use Rattle.ipnet_base.specs.Network.{Network, IsNetwork, InBlock, IsTruncated, IsSupernetOf, host_bits}
-use Rattle.ipnet_base.specs.Network.{IsLeastOf, IsGreatestOf, first_of, last_of, truncation}
+use Rattle.ipnet_base.specs.Network.{truncation}
 use Rattle.ipnet_base.specs.Ranges.{AddressRange}
-use Rattle.ipnet_base.proofs.BlockLaws.{between_from_block, block_from_between, first_from_least, last_from_greatest}
+use Rattle.ipnet_base.proofs.BlockLaws.{between_from_block, block_from_between}
 use Rattle.ipnet_base.proofs.NestingLaws.{nested}
 use Rattle.ipnet_base.proofs.NetworkLaws.{same_from_block, truncation_of_truncated}
 use Rattle.ipnet.specs.NetworkOf.{ip_network}
 use Rattle.ipnet.specs.declared.net.IpNet.{IpNet}
 use Rattle.ipnet.specs.declared.parser.Grammar.{Grammar}
-use Rattle.ipnet_sets.specs.Routes.{Route, IsLongestMatch}
-use Rattle.ipnet_sets.specs.RoutesOf.{routes_of}
+use Rattle.ipnet_routes.specs.Routes.{Route, IsLongestMatch}
+use Rattle.ipnet_routes.specs.RoutesOf.{routes_of}
 use Rattle.ipnet_sets.specs.SetRanges.{IsInRange}
-use Rattle.ipnet_sets.specs.declared.routes.RouteTable.{RouteTable}
-use Rattle.netset_lib.specs.Entries.{IsEntryText}
-use Rattle.netset_lib.specs.Lists.{ListEntry, Refusal, AreRead}
+use Rattle.ipnet_routes.specs.declared.routes.RouteTable.{RouteTable}
+use Rattle.ipnet_lists.specs.Entries.{IsEntryText}
+use Rattle.ipnet_lists.specs.Lists.{ListEntry, Refusal, AreRead}
 use Rattle.netset_lib.specs.RouteAnswers.{Holds, HaveNone, IsRouteLine}
 use Rattle.netset_lib.specs.Routing.{InTable, HasEnds, HoldsEnds, IsLongestIfAny, route_line}
 use Rattle.netset_lib.proofs.TableLaws.{network_of_route, some_route, table_good}
@@ -89,17 +89,6 @@ module _ {V : Type 0} (table : RouteTable V) (range : AddressRange) (n : Network
   none_above top k one ends = omega (arith, top, shorter k one ends)
 
 -- ---- ranges with an address
-
--- the ends of a network's range are its least and its greatest address
-address_from_parts : (x : Address) (family : Family) (number : ℕ) → x.family ≡ family → x.number ≡ number
-    → x ≡ address_at family number
-address_from_parts x family number f a = λ i. record { family = f i; number = a i }
-
-pub least_is_first : (n : Network) (x : Address) → IsLeastOf n x → x ≡ address_at n.family (first_of n)
-least_is_first n x h = address_from_parts x n.family (first_of n) h.inside.same_family (first_from_least n x h)
-
-pub greatest_is_last : (n : Network) (x : Address) → IsGreatestOf n x → x ≡ address_at n.family (last_of n)
-greatest_is_last n x h = address_from_parts x n.family (last_of n) h.inside.same_family (last_from_greatest n x h)
 
 -- a network has all of a range with an address where it has its two ends
 pub ends_hold : (range : AddressRange) (n : Network) → range.start ≤ range.end

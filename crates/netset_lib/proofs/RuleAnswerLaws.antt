@@ -1,14 +1,15 @@
 -- The lines of an answer over a list of rules, and what an empty answer means.
 use Rattle.std.proofs.Common.{◌≡◌, ◌≢◌, ◌<◌, ℕ, ◌+◌, zero, suc, List, [], ◌∷◌, ◌++◌, length, map, drop, refl}
 use Rattle.std.proofs.Common.{sym, ap, ◌∙◌, arith, inl, inr, subst, append_assoc, append-nil, codes, decimal, get_or}
-use Rattle.std.proofs.Common.{◌≤◌, Any, Result, OnOk}
-use Rattle.std.proofs.lemmas.List.{length-append, drop_more, drop_all}
+use Rattle.std.proofs.Common.{◌≤◌, ◌==◌, Any, Result, OnOk, Bool, true, false, eq-eqb}
+use Rattle.std.proofs.lemmas.Bool.{eqb-true, false≢true}
+use Rattle.std.proofs.lemmas.List.{length-append, drop_more, drop_all, nil_from_length}
 use Rattle.ipnet.specs.declared.parser.Grammar.{Grammar}
 use Rattle.ipnet_rules.specs.declared.unreached.Unreached.{Unreached}
 use Rattle.ipnet_text.proofs.ListsLaws.{OnOk_then}
 use Rattle.ipnet_rules.proofs.VerdictLaws.{any_cons, any_nil}
 use Rattle.netset_lib.specs.RuleAnswers.{text_at, line_at, covering_lines, unreached_lines, IsUnreachedAnswer}
-use Rattle.netset_lib.specs.RuleAnswers.{AreAllReached, IsOneUnreached}
+use Rattle.netset_lib.specs.RuleAnswers.{AreAllReached, IsOneUnreached, IsReachedOutcome}
 use Rattle.netset_lib.specs.RuleLines.{LineOfRule, RuleContents, AreRulesRead}
 
 -- the text of the item at an index of values
@@ -61,7 +62,7 @@ line_some (l ∷ lines) zero less =
 line_some (l ∷ lines) (suc i) less = line_some lines i (omega (arith, less))
 
 -- a text with a line is of an unreached rule
-pub one_unreached : (grammar : Grammar) (bytes text : List ℕ) → IsUnreachedAnswer grammar bytes text
+one_unreached : (grammar : Grammar) (bytes text : List ℕ) → IsUnreachedAnswer grammar bytes text
     → text ≢ [] → IsOneUnreached grammar bytes
 one_unreached grammar bytes text h some = of h.answer.right.found refl
   where
@@ -78,7 +79,7 @@ one_unreached grammar bytes text h some = of h.answer.right.found refl
     }
 
 -- an empty text is of a list whose rules all decide on some address
-pub all_reached : (grammar : Grammar) (bytes text : List ℕ) → IsUnreachedAnswer grammar bytes text
+all_reached : (grammar : Grammar) (bytes text : List ℕ) → IsUnreachedAnswer grammar bytes text
     → text ≡ [] → AreAllReached grammar bytes
 all_reached grammar bytes text h none = of h.answer.right.found refl
   where
@@ -150,7 +151,11 @@ pub unreached_all : (lines : List LineOfRule) (found : List Unreached) (i : ℕ)
 unreached_all lines found i old text past h =
     sym (ap (λ z. text ++ unreached_lines lines z) (drop_all i found past) ∙ append-nil text) ∙ h
 
--- a text for which the status is not 1 is empty
-pub none_or_some : (text : List ℕ) (status : ℕ) → status ≡ 0 → ((text ≡ [] → ⊥) → status ≡ 1) → text ≡ []
-none_or_some [] status none some = refl
-none_or_some (b ∷ text) status none some = absurd (omega (arith, none, some (λ e. absurd (omega (arith, ap length e)))))
+-- if and only if the text is empty, each rule decides on some address
+pub reached_outcome : (grammar : Grammar) (bytes text : List ℕ) (len : ℕ) (empty : Bool) → len ≡ length text
+    → empty ≡ (len == 0) → IsUnreachedAnswer grammar bytes text → IsReachedOutcome grammar bytes empty
+reached_outcome grammar bytes text len true long is h =
+    let none = eqb-true len 0 (sym is) in
+    all_reached grammar bytes text h (nil_from_length text (omega (arith, none, long)))
+reached_outcome grammar bytes text len false long is h =
+    one_unreached grammar bytes text h (λ none. false≢true (is ∙ eq-eqb len 0 (long ∙ ap length none)))

@@ -1,27 +1,22 @@
 -- Lists of rules that are read line by line, and the lines of an answer.
-use Rattle.std.proofs.Common.{◌≡◌, ℕ, ◌+◌, ◌-◌, ◌<◌, ◌≤◌, ◌⊎◌, List, [], ◌∷◌, ◌++◌, length, map, take, drop, get_or}
-use Rattle.std.proofs.Common.{refl, sym, ap, ◌∙◌, arith, inl, inr, subst, take_all, true, false}
-use Rattle.std.specs.Char.{is_ascii_whitespace}
-use Rattle.std.specs.List.{position_or_len, prefix_len}
-use Rattle.std.specs.Str.{IsTrimAsciiStart}
+use Rattle.std.proofs.Common.{◌≡◌, ℕ, ◌+◌, ◌<◌, ◌≤◌, ◌⊎◌, List, [], ◌∷◌, ◌++◌, length, map, take, get_or}
+use Rattle.std.proofs.Common.{refl, sym, ap, ◌∙◌, inl, inr, subst, take_all}
 use Rattle.std.proofs.lemmas.List.{map_more}
-use Rattle.std.proofs.lemmas.List.Sums.{position_or_len_is}
-use Rattle.std.proofs.lemmas.Str.Ascii.{trim_ascii_start_is}
 use Rattle.ipnet.specs.declared.parser.Grammar.{Grammar}
 use Rattle.ipnet_rules.specs.declared.rules.Rule.{Rule}
-use Rattle.netset_lib.specs.declared.content_line.ContentLine.{ContentLine}
+use Rattle.ipnet_lists.specs.declared.content_line.ContentLine.{ContentLine}
 use Rattle.netset_lib.specs.declared.rule_line.RuleCause.{RuleCause}
-use Rattle.netset_lib.specs.ContentLineOf.{line_of}
-use Rattle.netset_lib.specs.ContentLines as lists
-use Rattle.netset_lib.specs.ContentLines.{AreNumbered, AreContentLines}
+use Rattle.ipnet_lists.specs.ContentLineOf.{line_of}
+use Rattle.ipnet_lists.specs.ContentLines as lists
+use Rattle.ipnet_lists.specs.ContentLines.{AreNumbered, AreContentLines}
 use Rattle.netset_lib.specs.RuleLines.{RuleContents, no_rules, IsNextRule, IsNextRuleRefusal, IsRuleList}
-use Rattle.netset_lib.specs.RuleLines.{AreRulesRead, rule_and, refusal_and, after_word}
-use Rattle.netset_lib.specs.RuleLines.{IsRuleText, IsNoRule, IsRuleCause, leading_word, word_of}
+use Rattle.netset_lib.specs.RuleLines.{AreRulesRead, rule_and, refusal_and}
+use Rattle.ipnet_lists.specs.Words.{after_word, leading_word}
+use Rattle.netset_lib.specs.RuleLines.{IsRuleText, IsNoRule, IsRuleCause, word_of}
 use Rattle.ipnet_rules.specs.declared.rules.Action.{Action}
 use Rattle.netset_lib.specs.declared.rule_line.RuleCause.TheVariants.{UnknownWord, NoEntry, TwoEntries, BadEntry}
-use Rattle.netset_lib.specs.Causes.{IsReportedCause}
-use Rattle.netset_lib.specs.Entries.{IsEntryText, IsNoEntry}
-use Rattle.netset_lib.proofs.CommentLaws.{behind}
+use Rattle.ipnet_lists.specs.Causes.{IsReportedCause}
+use Rattle.ipnet_lists.specs.Entries.{IsEntryText, IsNoEntry}
 use Rattle.netset_lib.specs.RuleSteps.{joined, AddsRule, IsEntryCause}
 
 -- each of these lines is a rule or a refused line
@@ -93,7 +88,7 @@ rules_of_texts grammar number ((b ∷ text) ∷ texts) lines contents (later, is
     (more, rules_of_texts grammar (number + 1) texts later more numbered rest, one)
 
 pub rules_whole : (grammar : Grammar) (bytes : List ℕ) (xs : List ContentLine) (i : ℕ) (contents : RuleContents)
-    → length xs ≤ i → AreContentLines grammar bytes (map line_of xs)
+    → length xs ≤ i → AreContentLines bytes (map line_of xs)
     → AreLineRules grammar (map line_of (take i xs)) contents → IsRuleList grammar bytes contents
 rules_whole grammar bytes xs i contents past (texts, are, numbered) h = (
   texts,
@@ -101,28 +96,6 @@ rules_whole grammar bytes xs i contents past (texts, are, numbered) h = (
   rules_of_texts grammar 1 texts (map line_of xs) contents numbered
       (subst (λ z. AreLineRules grammar (map line_of z) contents) (take_all i xs past) h),
 )
-
--- what follows the first word, as it is cut
-pub cut_rest : (text rest : List ℕ) (end : ℕ) → end ≡ position_or_len is_ascii_whitespace text
-    → IsTrimAsciiStart (take (length text - end) (drop end text)) rest → rest ≡ after_word text
-cut_rest text rest end is trimmed =
-    trim_ascii_start_is (take (length text - end) (drop end text)) rest trimmed
-    ∙ ap (λ z. drop (prefix_len is_ascii_whitespace z) z) (behind text end)
-    ∙ ap (λ n. drop (prefix_len is_ascii_whitespace (drop n text)) (drop n text)) is
-
--- the index of the first blank
-pub blank_at : (text : List ℕ) (i : ℕ) → i < length text
-    → ((k : ℕ) → k < i → is_ascii_whitespace (get_or text k 0) ≡ false)
-    → is_ascii_whitespace (get_or text i 0) ≡ true → i ≡ position_or_len is_ascii_whitespace text
-blank_at text i within before found =
-    sym (position_or_len_is is_ascii_whitespace text i 0 (omega (arith, within)) before (λ less. found))
-
-pub no_blank : (text : List ℕ) (i : ℕ) → length text ≤ i
-    → ((k : ℕ) → k < i → is_ascii_whitespace (get_or text k 0) ≡ false)
-    → length text ≡ position_or_len is_ascii_whitespace text
-no_blank text i past before =
-    sym (position_or_len_is is_ascii_whitespace text (length text) 0 (omega arith)
-    (λ k less. before k (omega (arith, past))) (λ less. absurd (omega (arith, less))))
 
 -- what a line adds
 pub adds_rule : (grammar : Grammar) (line : lists.ContentLine) (old new : RuleContents) (rule : Rule)

@@ -11,7 +11,7 @@ use Rattle.netset_lib.specs.declared.operation.ListOperation.{ListOperation}
 use Rattle.netset_lib.specs.declared.operation.ListOperation.TheVariants.{Union, Intersection, Difference}
 use Rattle.netset_lib.specs.declared.operation.ListOperation.TheVariants.{SymmetricDifference}
 use Rattle.netset_lib.specs.declared.operation.ListOperation.TheVariants.{Complement}
-use Rattle.netset_lib.specs.Lists.{ListEntry, IsInEntries}
+use Rattle.ipnet_lists.specs.Lists.{ListEntry, IsInEntries}
 use Rattle.netset_lib.specs.ListSets.{HaveMembers}
 use Rattle.ipnet_sets.specs.ManySets.{IsInSome, IsInEach}
 use Rattle.netset_lib.specs.Operations.{IsInFirstAlone, IsInOneAlone, IsInComplement, IsInResult}

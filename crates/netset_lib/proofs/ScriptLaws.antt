@@ -17,18 +17,19 @@ use Rattle.netset_lib.specs.declared.operation.Families.{Families}
 use Rattle.netset_lib.specs.declared.operation.Families.TheVariants.{Named, Ipv4, Ipv6, Both}
 use Rattle.netset_lib.specs.declared.operation.ListOperation.{ListOperation}
 use Rattle.netset_lib.specs.declared.operation.ListOperation.TheVariants as Operations
-use Rattle.netset_lib.specs.Answers.{AreListsRead, text_of_ranges, IsSetText}
-use Rattle.netset_lib.specs.Entries.{IsAddressText, IsNetworkOrMasked, IsEntryText, after_blanks}
-use Rattle.netset_lib.specs.Lists.{ListEntry, Refusal, AreRead, IsListRead, IsInEntries, HaveAddresses}
+use Rattle.netset_lib.specs.Answers.{AreListsRead, IsSetText}
+use Rattle.ipnet_lists.specs.SetLines.{text_of_ranges}
+use Rattle.ipnet_lists.specs.Entries.{IsAddressText, IsNetworkOrMasked, IsEntryText, after_blanks}
+use Rattle.ipnet_lists.specs.Lists.{ListEntry, Refusal, AreRead, IsListRead, IsInEntries, HaveAddresses}
 use Rattle.netset_lib.specs.Operations.{IsChosen, IsInResult}
 use Rattle.netset_lib.specs.Scripts.{Script, File, Aggregate, Union, Intersection, Difference, SymmetricDifference}
 use Rattle.netset_lib.specs.Scripts.{Complement, IsCall, IsInFile, IsChosenFor, IsInScript, IsAnswerOf, Gives}
 use Rattle.netset_lib.specs.Scripts.{IsListOf}
 use Rattle.netset_lib.proofs.AnswerReading.{answer_is_list}
 use Rattle.netset_lib.proofs.AnswerTexts.{text_of_same}
-use Rattle.netset_lib.proofs.EntryTexts.{with_32, with_length}
-use Rattle.netset_lib.proofs.OneRanges.{one_ranges}
-use Rattle.netset_lib.proofs.OneReading.{one_reading}
+use Rattle.ipnet_lists.proofs.EntryTexts.{with_32, with_length}
+use Rattle.ipnet_lists.proofs.OneRanges.{one_ranges}
+use Rattle.ipnet_lists.proofs.OneReading.{one_reading}
 
 -- ---- sets and their texts
 

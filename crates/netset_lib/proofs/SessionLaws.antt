@@ -21,7 +21,7 @@ use Rattle.netset_lib.specs.Answers.{AreListsRead, IsSetText, IsNamedComplement}
 use Rattle.netset_lib.specs.Answering.{IsAnswererFor, AreAnswersBy}
 use Rattle.netset_lib.specs.Counts.{Names, IsComparison}
 use Rattle.netset_lib.specs.EntryAnswers.{IsFoundIn}
-use Rattle.netset_lib.specs.Lists.{ListEntry, Refusal, AreRead, IsInEntries, HaveAddresses}
+use Rattle.ipnet_lists.specs.Lists.{ListEntry, Refusal, AreRead, IsInEntries, HaveAddresses}
 use Rattle.netset_lib.specs.ListSets.{HaveMembers}
 use Rattle.netset_lib.specs.Operations.{IsInResult, IsCountFor}
 use Rattle.netset_lib.specs.PairSets.{ArePairSets}

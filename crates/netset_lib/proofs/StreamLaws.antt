@@ -13,14 +13,14 @@ use Rattle.netset_lib.specs.declared.query.Query.{Query}
 use Rattle.netset_lib.specs.declared.session.Session.{Session}
 use Rattle.netset_lib.specs.declared.session.stream.Streamed.{Streamed}
 use Rattle.netset_lib.specs.declared.answerer.Answers.{Answers}
-use Rattle.netset_lib.specs.declared.reader.LineReader.{LineReader}
-use Rattle.netset_lib.specs.declared.reading.Reading.{Reading}
+use Rattle.ipnet_lists.specs.declared.reader.LineReader.{LineReader}
+use Rattle.ipnet_lists.specs.declared.reading.Reading.{Reading}
 use Rattle.netset_lib.specs.Answering.{IsAnswererFor, IsAnswerBy, IsFoundBy, AreAnswersBy}
 use Rattle.netset_lib.specs.Answers.{AreListsRead}
 use Rattle.netset_lib.specs.EntryAnswers.{IsFoundIn}
-use Rattle.netset_lib.specs.Lists.{ListEntry, Refusal, IsListRead}
-use Rattle.netset_lib.specs.Reading.{Adds, ReadsLines, TakesLines, WasMadeOf}
-use Rattle.netset_lib.specs.RefusedLines.{AreRefused}
+use Rattle.ipnet_lists.specs.Lists.{ListEntry, Refusal, IsListRead}
+use Rattle.ipnet_lists.specs.Reading.{Adds, ReadsLines, TakesLines, WasMadeOf}
+use Rattle.ipnet_lists.specs.RefusedLines.{AreRefused}
 use Rattle.netset_lib.specs.Replies.{IsFoundFor}
 use Rattle.netset_lib.specs.Sessions.{WereRead, IsState, IsAskState}
 use Rattle.netset_lib.specs.Streams.{IsWritten, IsStreamed, IsWorkStreamed, found_by_stream}

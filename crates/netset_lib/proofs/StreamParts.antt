@@ -14,27 +14,27 @@ use Rattle.netset_lib.specs.declared.command.Work.{Work}
 use Rattle.netset_lib.specs.declared.command.Work.TheVariants.{Combine, Ask}
 use Rattle.netset_lib.specs.declared.query.Query.{Query}
 use Rattle.netset_lib.specs.declared.query.Query.TheVariants.{Count, Compare, Filter, Route}
-use Rattle.netset_lib.specs.declared.reader.LineReader.{LineReader}
-use Rattle.netset_lib.specs.declared.reading.Reading.{Reading}
+use Rattle.ipnet_lists.specs.declared.reader.LineReader.{LineReader}
+use Rattle.ipnet_lists.specs.declared.reading.Reading.{Reading}
 use Rattle.netset_lib.specs.declared.session.Session.{Session}
 use Rattle.netset_lib.specs.declared.session.stream.StreamFailure.{StreamFailure}
 use Rattle.netset_lib.specs.declared.session.stream.StreamFailure.TheVariants as StreamFailures
 use Rattle.netset_lib.specs.declared.session.stream.Streamed.{Streamed}
 use Rattle.netset_lib.specs.Answering.{IsAnswererFor, IsAnswerBy, AreAnswersBy}
 use Rattle.netset_lib.specs.Answers.{AreListsRead}
-use Rattle.netset_lib.specs.Lists.{ListEntry, Refusal, AreRead, IsListRead, after_mark}
-use Rattle.netset_lib.specs.Reading.{Adds, AreTexts, ReadsLines, TakesLines, pending}
+use Rattle.ipnet_lists.specs.Lists.{ListEntry, Refusal, AreRead, IsListRead, after_mark}
+use Rattle.ipnet_lists.specs.Reading.{Adds, AreTexts, ReadsLines, TakesLines, pending}
 use Rattle.netset_lib.specs.Sessions.{WereRead, IsState, IsAskState}
 use Rattle.netset_lib.specs.Streams.{IsWritten, IsPartWritten, IsWrittenInPart, IsFrontRead, IsStreamedInPart}
 use Rattle.netset_lib.specs.Streams.{IsWorkStreamed, IsWorkStreamedInPart, HasStream, CanStream, IsBroken}
 use Rattle.netset_lib.specs.Streams.{IsStreamFailure}
 use Rattle.netset_lib.proofs.AnsweringLaws.{replies_right}
 use Rattle.netset_lib.proofs.EntryAnswerLaws.{answers_append}
-use Rattle.netset_lib.proofs.ListReading.{reads_more}
+use Rattle.ipnet_lists.proofs.ListReading.{reads_more}
 use Rattle.netset_lib.proofs.ListsReading.{lists_count, none_of_length}
 use Rattle.netset_lib.proofs.RouteLaws.{entries_some}
 use Rattle.netset_lib.proofs.StreamLaws.{reads_weaker, takes_weaker, written_none}
-use Rattle.netset_lib.proofs.WindowReading.{IsListUpTo, up_to_lines}
+use Rattle.ipnet_lists.proofs.WindowReading.{IsListUpTo, up_to_lines}
 
 -- ---- what was written
 

@@ -14,11 +14,12 @@ use Rattle.ipnet_base.proofs.ListLaws.{contains_nil, contains_here, contains_the
 use Rattle.ipnet_base.proofs.NetworkLaws.{same_network, truncation_of_truncated}
 use Rattle.ipnet.specs.declared.net.IpNet.{IpNet}
 use Rattle.ipnet.specs.NetworkOf.{ip_network}
-use Rattle.ipnet_sets.specs.Routes.{Route, networks_of, ip_routes, ip_networks, without_host_bits, IsLatest, IsTableOf}
+use Rattle.ipnet_routes.specs.Routes.{Route, networks_of, ip_routes, ip_networks, without_host_bits, IsLatest}
+use Rattle.ipnet_routes.specs.Routes.{IsTableOf}
 use Rattle.ipnet_sets.specs.SetRanges.{IsInRange}
-use Rattle.ipnet_sets.specs.declared.routes.RouteTable.{RouteTable}
-use Rattle.ipnet_sets.proofs.RouteLaws.{same_networks, all_valid}
-use Rattle.netset_lib.specs.Lists.{ListEntry}
+use Rattle.ipnet_routes.specs.declared.routes.RouteTable.{RouteTable}
+use Rattle.ipnet_routes.proofs.RouteLaws.{same_networks, all_valid}
+use Rattle.ipnet_lists.specs.Lists.{ListEntry}
 use Rattle.netset_lib.specs.Routing.{IsTruncatedOne, AddsMaximal, AreTableNetworks, InTable}
 use Rattle.ipnet_sets.proofs.JoinLaws.{any_push}
 

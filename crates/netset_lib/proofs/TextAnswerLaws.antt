@@ -5,17 +5,18 @@ use Rattle.std.specs.Borrow.{Bor}
 use Rattle.ipnet.specs.NetworkOf.{ip_network}
 use Rattle.ipnet.specs.declared.net.IpNet.{IpNet}
 use Rattle.ipnet.specs.declared.parser.Grammar.{Grammar}
-use Rattle.ipnet_sets.specs.RoutesOf.{routes_of}
-use Rattle.ipnet_sets.specs.declared.routes.RouteTable.{RouteTable}
+use Rattle.ipnet_routes.specs.RoutesOf.{routes_of}
+use Rattle.ipnet_routes.specs.declared.routes.RouteTable.{RouteTable}
 use Rattle.netset_lib.specs.declared.answerer.Answers.{Answers}
 use Rattle.netset_lib.specs.EntryAnswers.{AreAnswers}
-use Rattle.netset_lib.specs.Lists.{ListEntry, IsListRead}
-use Rattle.netset_lib.specs.RefusedLines.{RefusedLines}
+use Rattle.ipnet_lists.specs.Lists.{ListEntry, IsListRead}
+use Rattle.ipnet_lists.specs.RefusedLines.{RefusedLines}
 use Rattle.netset_lib.specs.Routing.{InTable, HoldsEnds, IsLongestIfAny}
 use Rattle.netset_lib.specs.TextTables.{TextLine, IsLinesNetwork, IsTextRouteLine, HasNoTextRoute, IsTextTable}
 use Rattle.netset_lib.specs.TextTables.{IsTextRouteAnswer, IsTableOfLines}
 use Rattle.netset_lib.specs.TextSteps.{IsTextAnswerBy, IsMissingBy, AreTextAnswersBy, AddsTextAnswer}
-use Rattle.netset_lib.specs.TextSteps.{IsMadeList, text_route_line}
+use Rattle.ipnet_lists.specs.ListTexts.{IsMadeList}
+use Rattle.netset_lib.specs.TextSteps.{text_route_line}
 use Rattle.netset_lib.proofs.EntryAnswerLaws.{answers_append, answers_same, found_same, found_none, found_push}
 use Rattle.netset_lib.proofs.ListsReading.{none_of_length}
 use Rattle.netset_lib.proofs.RouteLaws.{HasSome, ends_hold, entries_some, none_same}

@@ -15,23 +15,23 @@ use Rattle.ipnet_rules.proofs.VerdictLaws.{any_nil}
 use Rattle.ipnet.specs.NetworkOf.{ip_network}
 use Rattle.ipnet.specs.declared.net.IpNet.{IpNet}
 use Rattle.ipnet.specs.declared.parser.Grammar.{Grammar}
-use Rattle.ipnet_sets.specs.Routes.{Route, networks_of, ip_routes, without_host_bits, IsLatest, IsTableOf}
-use Rattle.ipnet_sets.specs.RoutesOf.{routes_of}
+use Rattle.ipnet_routes.specs.Routes.{Route, networks_of, ip_routes, without_host_bits, IsLatest, IsTableOf}
+use Rattle.ipnet_routes.specs.RoutesOf.{routes_of}
 use Rattle.ipnet_sets.specs.SetRanges.{IsInRange}
-use Rattle.ipnet_sets.specs.declared.routes.RouteTable.{RouteTable}
+use Rattle.ipnet_routes.specs.declared.routes.RouteTable.{RouteTable}
 use Rattle.ipnet_sets.proofs.JoinLaws.{any_push}
-use Rattle.netset_lib.specs.declared.cause.Cause.{Cause}
-use Rattle.netset_lib.specs.declared.content_line.ContentLine.{ContentLine}
+use Rattle.ipnet_lists.specs.declared.cause.Cause.{Cause}
+use Rattle.ipnet_lists.specs.declared.content_line.ContentLine.{ContentLine}
 use Rattle.netset_lib.specs.declared.text_line.TableLine.{TableLine}
 use Rattle.netset_lib.specs.declared.text_table.TextRoutes.{TextRoutes}
-use Rattle.netset_lib.specs.ContentLineOf.{line_of, refused_of}
-use Rattle.netset_lib.specs.ContentLines as content
-use Rattle.netset_lib.specs.ContentLines.{AreContentLines, AreItems}
-use Rattle.netset_lib.specs.EntryOf.{entry_range}
+use Rattle.ipnet_lists.specs.ContentLineOf.{line_of, refused_of}
+use Rattle.ipnet_lists.specs.ContentLines as content
+use Rattle.ipnet_lists.specs.ContentLines.{AreContentLines, AreItems}
+use Rattle.ipnet_lists.specs.EntryOf.{entry_range}
 use Rattle.netset_lib.specs.TextTables.{TextLine, IsTextOf, IsTextLine, IsNoTextLine, IsTableOfLines}
 use Rattle.netset_lib.specs.TextSteps.{IsLastOf, AddsBlocks, AreRoutesOf, AddsTableLine, AreTextsRead}
 use Rattle.netset_lib.specs.TextSteps.{line_in, texts_in}
-use Rattle.netset_lib.proofs.ContentLaws.{read_next, read_all, items_map}
+use Rattle.ipnet_lists.proofs.ContentLaws.{read_next, read_all, items_map}
 use Rattle.netset_lib.proofs.TableLaws.{network_of_route, some_route, latest_of}
 
 -- ---- the texts of networks, line by line
@@ -200,7 +200,7 @@ read_more grammar xs i d (Err cause) old new less h is reported adds = record {
 
 -- all lines were read
 pub read_whole : (grammar : Grammar) (bytes : List ℕ) (xs : List ContentLine) (i : ℕ) (made : TextRoutes)
-    → length xs ≤ i → AreContentLines grammar bytes (map line_of xs)
+    → length xs ≤ i → AreContentLines bytes (map line_of xs)
     → IsReadTo grammar (map line_of (take i xs)) made → AreTextsRead grammar bytes made
 read_whole grammar bytes xs i made past contents h = (
   map line_in h.items,

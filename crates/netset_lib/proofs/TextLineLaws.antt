@@ -3,8 +3,8 @@ use Rattle.std.proofs.Common.{◌≡◌, ℕ, List, Some, None, refl, sym, ◌�
 use Rattle.std.specs.Str.{IsUtf8}
 use Rattle.ipnet_base.specs.Ranges.{AddressRange}
 use Rattle.ipnet.specs.declared.parser.Grammar.{Grammar}
-use Rattle.netset_lib.specs.Entries.{IsEntryText, IsNoEntry, ReadsAs}
-use Rattle.netset_lib.specs.RuleLines.{leading_word, after_word}
+use Rattle.ipnet_lists.specs.Entries.{IsEntryText, IsNoEntry, ReadsAs}
+use Rattle.ipnet_lists.specs.Words.{leading_word, after_word}
 use Rattle.netset_lib.specs.TextSteps.{IsAllowed}
 use Rattle.netset_lib.specs.TextTables.{MayFollow, TextLine, IsTextLine}
 

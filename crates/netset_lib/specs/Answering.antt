@@ -11,7 +11,7 @@ use Rattle.netset_lib.specs.declared.query.Query.TheVariants.{Count, Compare, Fi
 use Rattle.netset_lib.specs.EntryAnswers.{AreAnswers, IsFoundIn}
 use Rattle.netset_lib.specs.Filtering.{HasAddresses, IsFilterLine}
 use Rattle.netset_lib.specs.Filters.{IsOnSide, LiesIn}
-use Rattle.netset_lib.specs.Lists.{ListEntry, IsInEntries}
+use Rattle.ipnet_lists.specs.Lists.{ListEntry, IsInEntries}
 use Rattle.netset_lib.specs.RouteAnswers.{IsRouteLine, HaveNone}
 use Rattle.netset_lib.specs.Routing.{AreTableNetworks, InTable, HoldsEnds}
 

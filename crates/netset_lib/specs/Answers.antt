@@ -1,13 +1,7 @@
 -- The output for a request: the text of the set that the operation makes of the lists.
-use Rattle.std.specs.Prelude.{◌≡◌, ◌≢◌, ℕ, ◌+◌, List, [], ◌∷◌, ◌++◌, length, codes}
+use Rattle.std.specs.Prelude.{◌≡◌, ◌≢◌, ℕ, ◌+◌, List, [], ◌∷◌, ◌++◌, length}
 use Rattle.ipnet_base.specs.Address.{Address}
-use Rattle.ipnet_base.specs.Network.{Network}
-use Rattle.ipnet_base.specs.Blocks.{AreMaximalBlocks}
-use Rattle.ipnet_base.specs.Ranges.{AddressRange}
-use Rattle.ipnet.specs.CanonicalTexts.{address_text}
 use Rattle.ipnet.specs.declared.parser.Grammar.{Grammar}
-use Rattle.ipnet_sets.specs.SetRanges.{AreRangesOf}
-use Rattle.ipnet_text.specs.LineTexts.{text_of_lines}
 use Rattle.netset_lib.specs.declared.answer.Form.{Form}
 use Rattle.netset_lib.specs.declared.answer.Form.TheVariants.{Networks, Ranges}
 use Rattle.netset_lib.specs.declared.answer.Request.{Request}
@@ -16,9 +10,10 @@ use Rattle.netset_lib.specs.declared.command.Work.TheVariants.{Combine, Ask}
 use Rattle.netset_lib.specs.declared.operation.Families.TheVariants.{Named}
 use Rattle.netset_lib.specs.declared.operation.ListOperation.{ListOperation}
 use Rattle.netset_lib.specs.declared.operation.ListOperation.TheVariants.{Complement}
-use Rattle.netset_lib.specs.Lists.{ListEntry, Refusal, IsListRead, IsInEntries}
+use Rattle.ipnet_lists.specs.Lists.{ListEntry, Refusal, IsListRead, IsInEntries}
 use Rattle.netset_lib.specs.Operations.{IsCountFor, IsInResult}
-use Rattle.netset_lib.specs.RefusedLines.{RefusedLines, AreRefused}
+use Rattle.ipnet_lists.specs.RefusedLines.{RefusedLines, AreRefused}
+use Rattle.ipnet_lists.specs.SetLines.{AreNetworkLines, AreRangeLines}
 
 -- The lists, the first with this index, have these entries and these refused lines.
 abbrev pub AreListsRead : Grammar → ℕ → List (List ℕ) → List (List ListEntry) → List Refusal → Type 0
@@ -27,27 +22,6 @@ AreListsRead grammar list (bytes ∷ lists) entries refusals =
     (first : List ListEntry) × (others : List (List ListEntry)) × (here : List Refusal) × (later : List Refusal)
     × (entries ≡ first ∷ others) × (refusals ≡ here ++ later) × IsListRead grammar list bytes first here
     × AreListsRead grammar (list + 1) lists others later
-
--- The first and the last address in canonical text, joined by "-". Example: `10.0.0.0-10.0.0.2`.
-abbrev pub range_text : AddressRange → List ℕ
-range_text r = address_text r.family r.start ++ codes "-" ++ address_text r.family r.end
-
--- The ranges in order, each followed by "\n" (10).
-abbrev pub text_of_ranges : List AddressRange → List ℕ
-text_of_ranges [] = []
-text_of_ranges (r ∷ ranges) = range_text r ++ 10 ∷ [] ++ text_of_ranges ranges
-
--- The lines are the maximal blocks of the set. Example: `10.0.0.0/31`, `10.0.0.2/32` for 10.0.0.0 to 10.0.0.2.
-pub record AreNetworkLines (InSet : Address → Type 0) (text : List ℕ) : Type 0 where
-  pub blocks : List Network
-  pub maximal : AreMaximalBlocks InSet 0 blocks
-  pub spelled : text ≡ text_of_lines blocks
-
--- The lines are the fewest ranges of the set. Example: `10.0.0.0-10.0.0.2`.
-pub record AreRangeLines (InSet : Address → Type 0) (text : List ℕ) : Type 0 where
-  pub ranges : List AddressRange
-  pub fewest : AreRangesOf InSet ranges
-  pub spelled : text ≡ text_of_ranges ranges
 
 -- The text of the set in this form.
 abbrev pub IsSetText : Form → (Address → Type 0) → List ℕ → Type 0

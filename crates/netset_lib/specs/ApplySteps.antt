@@ -11,12 +11,12 @@ use Rattle.netset_lib.specs.declared.change_line.ChangeCause.{ChangeCause}
 use Rattle.netset_lib.specs.declared.change_line.ChangeCause.TheVariants as Causes
 use Rattle.netset_lib.specs.declared.change_line.Sign.{Sign}
 use Rattle.netset_lib.specs.declared.change_line.Sign.TheVariants.{Plus, Minus}
-use Rattle.netset_lib.specs.declared.content_line.ListFailure.{ListFailure}
-use Rattle.netset_lib.specs.declared.content_line.ListFailure.TheVariants as Failures
+use Rattle.ipnet_lists.specs.declared.content_line.ListFailure.{ListFailure}
+use Rattle.ipnet_lists.specs.declared.content_line.ListFailure.TheVariants as Failures
 use Rattle.netset_lib.specs.Changes.{ListChange, Added, Removed}
 use Rattle.netset_lib.specs.ChangeLists.{IsChangeList, HasRefusedChanges}
 use Rattle.netset_lib.specs.ChangeSteps.{change_of}
-use Rattle.netset_lib.specs.ContentLineOf.{refused_of}
+use Rattle.ipnet_lists.specs.ContentLineOf.{refused_of}
 
 -- The change of this sign.
 abbrev pub signed : Sign → Network → ListChange

@@ -10,10 +10,10 @@ use Rattle.netset_lib.specs.declared.change_line.ChangeCause.{ChangeCause}
 use Rattle.netset_lib.specs.declared.change_line.ChangeCause.TheVariants.{UnknownSign, NoNetwork, Present, Absent}
 use Rattle.netset_lib.specs.Answers.{IsSetText}
 use Rattle.netset_lib.specs.Changes.{ListChange, Added, Removed, changed_network}
-use Rattle.netset_lib.specs.ContentLines.{ContentLine, RefusedContent, AreContentLines, AreItems}
+use Rattle.ipnet_lists.specs.ContentLines.{ContentLine, RefusedContent, AreContentLines, AreItems}
 use Rattle.netset_lib.specs.NetworkEntries.{IsNetworkWord, IsNoNetworkWord, IsNetworkCause}
 use Rattle.netset_lib.specs.PlanAnswers.{HoldsOfResult}
-use Rattle.netset_lib.specs.RuleLines.{leading_word, after_word}
+use Rattle.ipnet_lists.specs.Words.{leading_word, after_word}
 
 -- The sign of a change at the start of its line: `+` adds a network, `-` removes one.
 abbrev pub sign_of : ListChange → List ℕ
@@ -61,7 +61,7 @@ IsChangeCause grammar Has text Absent = (n : Network) × IsChangeText grammar te
 pub record IsChangeList (grammar : Grammar) (Has : Network → Type 0) (bytes : List ℕ) (changes : List ListChange)
     (refused : List (RefusedContent ChangeCause)) : Type 0 where
   pub lines : List ContentLine
-  pub contents : AreContentLines grammar bytes lines
+  pub contents : AreContentLines bytes lines
   pub items : AreItems (IsFittingChange grammar Has) (IsChangeCause grammar Has) lines changes refused
 
 -- The networks after the changes: those that no change removes, and those that are added.

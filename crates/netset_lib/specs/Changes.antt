@@ -6,7 +6,7 @@ use Rattle.ipnet_base.specs.Blocks.{AreMaximalBlocks, IsAscending}
 use Rattle.ipnet.specs.CanonicalTexts.{canonical_text}
 use Rattle.ipnet.specs.declared.parser.Grammar.{Grammar}
 use Rattle.netset_lib.specs.Answers.{AreListsRead}
-use Rattle.netset_lib.specs.Lists.{ListEntry, IsInEntries}
+use Rattle.ipnet_lists.specs.Lists.{ListEntry, IsInEntries}
 
 -- A change of a list of networks: a network is added, or a network is removed.
 pub data ListChange : Type 0 where

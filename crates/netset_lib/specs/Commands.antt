@@ -5,9 +5,10 @@ use Rattle.ipnet.specs.declared.parser.Grammar.{Grammar}
 use Rattle.ipnet.specs.declared.parser.Grammar.TheVariants.{Strict, Legacy}
 use Rattle.netset_lib.specs.declared.answer.Form.{Form}
 use Rattle.netset_lib.specs.declared.answer.Form.TheVariants.{Networks, Ranges}
-use Rattle.netset_lib.specs.declared.command.Command.{Command}
-use Rattle.netset_lib.specs.declared.command.Command.TheVariants.{Union, Intersection, Difference, SymmetricDifference}
-use Rattle.netset_lib.specs.declared.command.Command.TheVariants.{Complement, Count, Compare, Filter, Route}
+use Rattle.netset_lib.specs.declared.command.ListCommand.{ListCommand}
+use Rattle.netset_lib.specs.declared.command.ListCommand.TheVariants.{Union, Intersection, Difference}
+use Rattle.netset_lib.specs.declared.command.ListCommand.TheVariants.{SymmetricDifference, Complement}
+use Rattle.netset_lib.specs.declared.command.ListCommand.TheVariants.{Count, Compare, Filter, Route}
 use Rattle.netset_lib.specs.declared.command.Flags.{Flags}
 use Rattle.netset_lib.specs.declared.command.Work.{Work}
 use Rattle.netset_lib.specs.declared.command.Work.TheVariants.{Combine, Ask}
@@ -20,7 +21,7 @@ use Rattle.netset_lib.specs.declared.operation.ListOperation.TheVariants as Oper
 use Rattle.netset_lib.specs.declared.query.Query.TheVariants as Queries
 
 -- The name of the command on the command line.
-abbrev pub name_of : Command → List ℕ
+abbrev pub name_of : ListCommand → List ℕ
 name_of Union = codes "union"
 name_of Intersection = codes "intersection"
 name_of Difference = codes "difference"
@@ -61,7 +62,7 @@ combine operation flags =
 -- The operation or query of the command under these flags.
 -- Example: `complement` with `--ipv4` is the complement in IPv4, written as networks; `filter` without flags keeps the
 -- entries inside.
-abbrev pub work_of : Command → Flags → Work
+abbrev pub work_of : ListCommand → Flags → Work
 work_of Union flags = combine Operations.Union flags
 work_of Intersection flags = combine Operations.Intersection flags
 work_of Difference flags = combine Operations.Difference flags

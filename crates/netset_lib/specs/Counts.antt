@@ -6,7 +6,7 @@ use Rattle.ipnet.specs.declared.parser.Grammar.{Grammar}
 use Rattle.ipnet_sets.specs.ManySets.{IsInSome}
 use Rattle.ipnet_sets.specs.Members.{IsCountOf}
 use Rattle.netset_lib.specs.Answers.{AreListsRead}
-use Rattle.netset_lib.specs.Lists.{ListEntry, IsInEntries}
+use Rattle.ipnet_lists.specs.Lists.{ListEntry, IsInEntries}
 
 -- The set has this number of IPv4 addresses, and this number of IPv6 addresses.
 pub record HasCounts (InSet : Address → Type 0) (ipv4 ipv6 : ℕ) : Type 0 where

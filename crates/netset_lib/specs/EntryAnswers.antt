@@ -1,6 +1,6 @@
 -- The answers to the entries of a list, one after another, and the entries that decide the status.
 use Rattle.std.specs.Prelude.{◌≡◌, ◌⊎◌, Bool, false, IsTrue, ℕ, List, [], ◌∷◌, ◌++◌, Any, All}
-use Rattle.netset_lib.specs.Lists.{ListEntry}
+use Rattle.ipnet_lists.specs.Lists.{ListEntry}
 
 -- The text is an answer to each entry, in order. Example: `10.0.0.1 10.0.0.0/8`, `::1 -` for the entries 10.0.0.1 and
 -- ::1 of a route.

@@ -5,7 +5,7 @@ use Rattle.ipnet_base.specs.Address.{Address, IsAddress}
 use Rattle.ipnet_base.specs.Ranges.{AddressRange}
 use Rattle.ipnet_sets.specs.SetRanges.{IsInRange}
 use Rattle.netset_lib.specs.Filters.{LiesIn}
-use Rattle.netset_lib.specs.Lists.{ListEntry}
+use Rattle.ipnet_lists.specs.Lists.{ListEntry}
 
 -- All numbers of the range are addresses of its family.
 abbrev pub HasAddresses : AddressRange → Type 0

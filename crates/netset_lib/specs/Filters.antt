@@ -6,7 +6,7 @@ use Rattle.ipnet_sets.specs.SetRanges.{IsInRange}
 use Rattle.netset_lib.specs.declared.filter.Side.{Side}
 use Rattle.netset_lib.specs.declared.filter.Side.TheVariants.{Inside, Outside}
 use Rattle.netset_lib.specs.Answers.{AreListsRead}
-use Rattle.netset_lib.specs.Lists.{ListEntry, IsInEntries}
+use Rattle.ipnet_lists.specs.Lists.{ListEntry, IsInEntries}
 
 -- The addresses on this side: those in the set, or those not in it.
 abbrev pub IsOnSide : Side → (Address → Type 0) → Address → Type 0

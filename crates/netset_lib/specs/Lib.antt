@@ -1,16 +1,4 @@
 -- The definitions that the contracts of this crate use.
-pub mod Entries
-pub mod EntryOf
-pub mod Words
-pub mod Causes
-pub mod EntrySteps
-pub mod CauseSteps
-pub mod Lists
-pub mod RefusedLines
-pub mod RefusedParts
-pub mod FoundEntry
-pub mod Marks
-pub mod Reading
 pub mod Operations
 pub mod Outputs
 pub mod Answers
@@ -22,7 +10,6 @@ pub mod RouteAnswers
 pub mod Routing
 pub mod Answering
 pub mod ListSets
-pub mod ListTexts
 pub mod Replies
 pub mod PlanAnswers
 pub mod Planning
@@ -40,8 +27,6 @@ pub mod RuleLines
 pub mod RuleContentsOf
 pub mod RuleSteps
 pub mod RuleAnswers
-pub mod ContentLines
-pub mod ContentLineOf
 pub mod NetworkEntries
 pub mod NetworkSteps
 pub mod ChangeLists

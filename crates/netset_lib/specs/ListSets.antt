@@ -2,7 +2,7 @@
 use Rattle.std.specs.Prelude.{List, [], ◌∷◌}
 use Rattle.ipnet_sets.specs.declared.set.IpSet.{IpSet}
 use Rattle.ipnet_sets.specs.Members.{IsMember}
-use Rattle.netset_lib.specs.Lists.{ListEntry, HaveAddresses}
+use Rattle.ipnet_lists.specs.Lists.{ListEntry, HaveAddresses}
 
 -- Each set has the addresses of the entries at its index, and there are as many sets as lists of entries.
 abbrev pub HaveMembers : List IpSet → List (List ListEntry) → Type 0

@@ -1,13 +1,16 @@
 -- Texts that have to be one network.
 use Rattle.std.specs.Prelude.{◌≡◌, ◌≢◌, ℕ, List, []}
+use Rattle.ipnet_base.specs.Address.{Address}
 use Rattle.ipnet_base.specs.Network.{Network, IsNetwork, IsTruncated}
 use Rattle.ipnet_base.specs.Ranges.{AddressRange}
 use Rattle.ipnet.specs.declared.parser.Grammar.{Grammar}
 use Rattle.netset_lib.specs.declared.network_entry.NetworkCause.{NetworkCause}
 use Rattle.netset_lib.specs.declared.network_entry.NetworkCause.TheVariants.{Missing, Range, TwoWords, NoEntry}
-use Rattle.netset_lib.specs.Causes.{IsReportedCause}
-use Rattle.netset_lib.specs.Entries.{IsPlainEntry, IsRangeEntry, IsNoEntry, block_range}
-use Rattle.netset_lib.specs.RuleLines.{leading_word}
+use Rattle.netset_lib.specs.declared.network_entry.ArgumentCause.{ArgumentCause}
+use Rattle.netset_lib.specs.declared.network_entry.ArgumentCause.TheVariants as Arguments
+use Rattle.ipnet_lists.specs.Causes.{IsReportedCause}
+use Rattle.ipnet_lists.specs.Entries.{IsAddressText, IsPlainEntry, IsRangeEntry, IsNoEntry, JoinsAddresses, block_range}
+use Rattle.ipnet_lists.specs.Words.{leading_word}
 
 -- The text is an entry that is a network or an address, and `n` is the network of its addresses, without host bits.
 -- Example: `10.0.0.9/8` and `10.0.0.0/255.0.0.0` are 10.0.0.0/8, and `10.0.0.1` is 10.0.0.1/32.
@@ -32,3 +35,11 @@ IsNetworkCause grammar text Range = IsSomeRange grammar text
 IsNetworkCause grammar text TwoWords = IsNoEntry grammar text × (leading_word text ≢ text)
 IsNetworkCause grammar text (NoEntry cause) = (text ≢ []) × (leading_word text ≡ text) × IsNoEntry grammar text
     × IsReportedCause grammar text cause
+
+-- Why an argument is not a network with a prefix length or a netmask: it is an address; it is a range; or it is not an
+-- entry, for the cause that a line of a list has.
+-- Example: `10.0.0.1`; `10.0.0.0-10.0.0.255`; `10.0.0.0/33`.
+abbrev pub IsArgumentCause : Grammar → List ℕ → ArgumentCause → Type 0
+IsArgumentCause grammar text Arguments.Address = (x : Address) × IsAddressText grammar text x
+IsArgumentCause grammar text Arguments.Range = (first last : Address) × JoinsAddresses grammar text first last
+IsArgumentCause grammar text (Arguments.NoEntry cause) = IsNoEntry grammar text × IsReportedCause grammar text cause

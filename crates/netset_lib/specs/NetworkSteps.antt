@@ -1,7 +1,7 @@
 -- The private steps of reading a network.
 -- Only private contracts use this.
-use Rattle.netset_lib.specs.declared.entry.Entry.{Entry}
-use Rattle.netset_lib.specs.declared.entry.Entry.TheVariants.{Network, Address, Ipv4Range, Ipv6Range}
+use Rattle.ipnet_lists.specs.declared.entry.Entry.{Entry}
+use Rattle.ipnet_lists.specs.declared.entry.Entry.TheVariants.{Network, Address, Ipv4Range, Ipv6Range}
 
 -- The entry is a range.
 abbrev pub IsRange : Entry → Type 0

@@ -4,7 +4,7 @@ use Rattle.ipnet.specs.declared.parser.Grammar.{Grammar}
 use Rattle.ipnet_sets.specs.declared.set.IpSet.{IpSet}
 use Rattle.ipnet_sets.specs.Members.{IsMember}
 use Rattle.netset_lib.specs.Answers.{AreListsRead}
-use Rattle.netset_lib.specs.Lists.{ListEntry, HaveAddresses}
+use Rattle.ipnet_lists.specs.Lists.{ListEntry, HaveAddresses}
 
 -- No line of the two lists is refused, and the sets have the addresses of the first list and of the second.
 pub record ArePairSets (grammar : Grammar) (lists : List (List ℕ)) (one other : IpSet) : Type 0 where

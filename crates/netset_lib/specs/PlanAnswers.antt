@@ -4,8 +4,9 @@ use Rattle.ipnet_base.specs.Address.{Family, IPv4, IPv6, width, Address}
 use Rattle.ipnet_base.specs.Network.{Network}
 use Rattle.ipnet.specs.Numerals.{IsDecimal}
 use Rattle.ipnet.specs.declared.parser.Grammar.TheVariants.{Strict}
+use Rattle.ipnet_pools.specs.Fits.{HasRoom}
 use Rattle.ipnet_pools.specs.Placements.{CanPlace}
-use Rattle.ipnet_pools.specs.Plans.{requests_of, IsPlan}
+use Rattle.ipnet_pools.specs.Plans.{requests_of, IsPlan, KeepsRoom}
 use Rattle.ipnet_sets.specs.declared.set.IpSet.{IpSet}
 use Rattle.ipnet_sets.specs.Members.{IsMember}
 use Rattle.ipnet_text.specs.LineTexts.{text_of_lines}
@@ -15,7 +16,7 @@ use Rattle.netset_lib.specs.declared.operation.Families.TheVariants.{Named, Ipv4
 use Rattle.netset_lib.specs.declared.plan.PlanFailure.{PlanFailure}
 use Rattle.netset_lib.specs.declared.plan.PlanFailure.TheVariants as Faults
 use Rattle.netset_lib.specs.Answers.{AreListsRead, IsNamedOperation}
-use Rattle.netset_lib.specs.Lists.{ListEntry, IsInEntries}
+use Rattle.ipnet_lists.specs.Lists.{ListEntry, IsInEntries}
 use Rattle.netset_lib.specs.Operations.{IsInResult, IsCountFor}
 
 -- The text of a prefix length: a decimal number of at most 128 without leading zeros, after "/" or without it.
@@ -39,13 +40,14 @@ IsPlanFamily Ipv6 InSet family = family ≡ IPv6
 IsPlanFamily Both InSet family = ⊥
 
 -- The text is the lines of networks in the set: one for each prefix length, in the order of the lengths. No two of the
--- networks share an address.
+-- networks share an address, and whatever further networks could be placed beside these lengths can still be placed.
 -- Example: `10.0.0.0/26`, `10.0.0.128/25` for the lengths 26 and 25 in 10.0.0.0/24.
 pub record IsPlanText (InSet : Address → Type 0) (families : Families) (lengths : List ℕ) (text : List ℕ) : Type 0 where
   pub family : Family
   pub chosen : IsPlanFamily families InSet family
   pub networks : List Network
   pub plan : IsPlan InSet family lengths networks
+  pub keeps : KeepsRoom InSet family lengths networks
   pub spelled : text ≡ text_of_lines networks
 
 -- No networks of these prefix lengths can be placed in the set. Example: the lengths 25, 25 and 27 in 10.0.0.0/24.
@@ -54,6 +56,13 @@ pub record HasNoPlacement (InSet : Address → Type 0) (families : Families) (le
   pub chosen : IsPlanFamily families InSet family
   pub fits : All (λ p. p ≤ width family) lengths
   pub none : ¬ (CanPlace InSet (requests_of family lengths))
+
+-- The set has room for a network of each of these prefix lengths by itself. Example: the lengths 25, 25 and 27 in
+-- 10.0.0.0/24, although not for all three together.
+pub record HasRoomForEach (InSet : Address → Type 0) (families : Families) (lengths : List ℕ) : Type 0 where
+  pub family : Family
+  pub chosen : IsPlanFamily families InSet family
+  pub room : All (HasRoom InSet family) lengths
 
 -- The prefix length `p` is one of the lengths, and is above `greatest`, the width of the family.
 pub record HasLongLength (InSet : Address → Type 0) (families : Families) (lengths : List ℕ) (p greatest : ℕ) : Type 0
@@ -64,12 +73,13 @@ pub record HasLongLength (InSet : Address → Type 0) (families : Families) (len
     pub width_is : greatest ≡ width family
     pub long : greatest < p
 
--- Why a set has no plan. When memory runs out is not specified.
+-- Why a set has no plan. Memory runs out only if the set has room for each length by itself; when it runs out is not
+-- specified otherwise.
 abbrev pub IsPlanFailure : (Address → Type 0) → Families → List ℕ → PlanFailure → Type 0
 IsPlanFailure InSet families lengths Faults.Family = (family : Family) → ¬ (IsPlanFamily families InSet family)
 IsPlanFailure InSet families lengths (Faults.PrefixLen p greatest) = HasLongLength InSet families lengths p greatest
 IsPlanFailure InSet families lengths Faults.NoPlacement = HasNoPlacement InSet families lengths
-IsPlanFailure InSet families lengths Faults.Memory = Unit {0}
+IsPlanFailure InSet families lengths Faults.Memory = HasRoomForEach InSet families lengths
 
 -- No line is refused, and the set has the addresses of the operation's result. A complement for the families of the
 -- list has a set only if the list has an entry.

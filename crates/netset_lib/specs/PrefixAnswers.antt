@@ -8,7 +8,7 @@ use Rattle.ipnet_rules.specs.declared.prefix_list.PrefixRule.{PrefixRule}
 use Rattle.ipnet_rules.specs.PrefixLists.{IsRouteVerdict}
 use Rattle.netset_lib.specs.declared.network_entry.NetworkCause.{NetworkCause}
 use Rattle.netset_lib.specs.declared.prefix_line.PrefixCause.{PrefixCause}
-use Rattle.netset_lib.specs.ContentLines.{ContentLine, RefusedContent, AreContentLines, AreItems}
+use Rattle.ipnet_lists.specs.ContentLines.{ContentLine, RefusedContent, AreContentLines, AreItems}
 use Rattle.netset_lib.specs.NetworkEntries.{IsNetworkWord, IsNoNetworkWord, IsNetworkCause}
 use Rattle.netset_lib.specs.PrefixLines.{IsPrefixList}
 use Rattle.netset_lib.specs.RuleLines.{word_of}
@@ -33,7 +33,7 @@ pub record IsNoListNetwork (grammar : Grammar) (text : List ℕ) (cause : Networ
 pub record IsNetworkList (grammar : Grammar) (bytes : List ℕ) (networks : List ListNetwork)
     (refused : List (RefusedContent NetworkCause)) : Type 0 where
   pub lines : List ContentLine
-  pub contents : AreContentLines grammar bytes lines
+  pub contents : AreContentLines bytes lines
   pub items : AreItems (IsListNetwork grammar) (IsNoListNetwork grammar) lines networks refused
 
 -- The line of a verdict: the word of the action, and the network as it is written. Example: `permit 10.1.0.0/16`.

@@ -12,9 +12,10 @@ use Rattle.ipnet_rules.specs.PrefixLists.{IsBound, IsAbove}
 use Rattle.netset_lib.specs.declared.prefix_line.PrefixCause.{PrefixCause}
 use Rattle.netset_lib.specs.declared.prefix_line.PrefixCause.TheVariants.{UnknownWord, NoNetwork, BadBounds}
 use Rattle.netset_lib.specs.declared.prefix_line.PrefixCause.TheVariants.{RefusedBounds}
-use Rattle.netset_lib.specs.ContentLines.{ContentLine, RefusedContent, AreContentLines, AreItems}
+use Rattle.ipnet_lists.specs.ContentLines.{ContentLine, RefusedContent, AreContentLines, AreItems}
 use Rattle.netset_lib.specs.NetworkEntries.{IsNetworkWord, IsNoNetworkWord, IsNetworkCause}
-use Rattle.netset_lib.specs.RuleLines.{word_of, leading_word, after_word, HasRuleWord}
+use Rattle.netset_lib.specs.RuleLines.{word_of, HasRuleWord}
+use Rattle.ipnet_lists.specs.Words.{leading_word, after_word}
 
 -- The text is the keyword, blanks, a number from 0 to 128 without leading zeros, and after blanks the rest.
 -- Example: `ge 16 le 24` has the keyword `ge`, the number 16 and the rest `le 24`.
@@ -83,5 +84,5 @@ IsPrefixCause grammar text (RefusedBounds error) = HasRuleWord text × HasRefuse
 pub record IsPrefixList (grammar : Grammar) (bytes : List ℕ) (rules : List PrefixRule)
     (refused : List (RefusedContent PrefixCause)) : Type 0 where
   pub lines : List ContentLine
-  pub contents : AreContentLines grammar bytes lines
+  pub contents : AreContentLines bytes lines
   pub items : AreItems (IsPrefixText grammar) (IsPrefixCause grammar) lines rules refused

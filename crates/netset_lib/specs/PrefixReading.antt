@@ -13,7 +13,7 @@ use Rattle.netset_lib.specs.declared.prefix_answer.PrefixFailure.{PrefixFailure}
 use Rattle.netset_lib.specs.declared.prefix_answer.PrefixFailure.TheVariants as Failures
 use Rattle.netset_lib.specs.declared.prefix_answer.PrefixLines.{PrefixLines}
 use Rattle.netset_lib.specs.declared.prefix_answer.Verdicts.{Verdicts}
-use Rattle.netset_lib.specs.ContentLineOf.{refused_of}
+use Rattle.ipnet_lists.specs.ContentLineOf.{refused_of}
 use Rattle.netset_lib.specs.PrefixAnswers as answers
 use Rattle.netset_lib.specs.PrefixAnswers.{IsNetworkList, verdict_line, HasRefusedPrefixes, HasRefusedNetworks}
 use Rattle.netset_lib.specs.PrefixLines.{IsPrefixList}

@@ -12,7 +12,7 @@ use Rattle.netset_lib.specs.Counts.{Names, IsCountAnswer, IsCompareAnswer, HaveS
 use Rattle.netset_lib.specs.EntryAnswers.{IsFoundIn}
 use Rattle.netset_lib.specs.declared.filter.Side.{Side}
 use Rattle.netset_lib.specs.Filters.{IsOnSide, LiesIn, AreKept, text_of_entries, IsFilterAnswer}
-use Rattle.netset_lib.specs.Lists.{ListEntry, IsInEntries}
+use Rattle.ipnet_lists.specs.Lists.{ListEntry, IsInEntries}
 use Rattle.netset_lib.specs.Operations.{IsCountFor}
 use Rattle.netset_lib.specs.RouteAnswers.{IsTableNetwork, Holds, HaveNone, AreRouteLines, IsRouteAnswer}
 
@@ -53,20 +53,6 @@ IsWorkFailure work lists (Failures.Refused lines) = HasRefused (work_grammar wor
 IsWorkFailure work lists Failures.NoFamily =
     IsNamedComplement work × AreListsRead (work_grammar work) 0 lists ([] ∷ []) []
 IsWorkFailure work lists Failures.Memory = Unit {0}
-
--- No line of the two lists is refused, and they have the same addresses.
-pub record AreSameLists (grammar : Grammar) (lists : List (List ℕ)) : Type 0 where
-  pub first : List ListEntry
-  pub second : List ListEntry
-  pub read : AreListsRead grammar 0 lists (first ∷ second ∷ []) []
-  pub same : HaveSame (IsInEntries first) (IsInEntries second)
-
--- No line of the two lists is refused, and they do not have the same addresses.
-pub record AreOtherLists (grammar : Grammar) (lists : List (List ℕ)) : Type 0 where
-  pub first : List ListEntry
-  pub second : List ListEntry
-  pub read : AreListsRead grammar 0 lists (first ∷ second ∷ []) []
-  pub differ : ¬ (HaveSame (IsInEntries first) (IsInEntries second))
 
 -- No line of the two lists is refused. `same` says whether they have the same addresses.
 pub record AreCompared (grammar : Grammar) (lists : List (List ℕ)) (same : Bool) : Type 0 where

@@ -8,7 +8,7 @@ use Rattle.ipnet.specs.declared.parser.Grammar.{Grammar}
 use Rattle.ipnet_sets.specs.SetRanges.{IsInRange}
 use Rattle.netset_lib.specs.Answers.{AreListsRead}
 use Rattle.netset_lib.specs.EntryAnswers.{AreAnswers}
-use Rattle.netset_lib.specs.Lists.{ListEntry}
+use Rattle.ipnet_lists.specs.Lists.{ListEntry}
 
 -- The network is a maximal block of an entry of the table.
 -- Example: a table of `10.0.0.0/8` and `10.0.0.0-10.0.0.5` has 10.0.0.0/8, 10.0.0.0/30 and 10.0.0.4/31.

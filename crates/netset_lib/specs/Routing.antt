@@ -8,11 +8,11 @@ use Rattle.ipnet_base.specs.Ranges.{AddressRange}
 use Rattle.ipnet.specs.CanonicalTexts.{canonical_text}
 use Rattle.ipnet.specs.NetworkOf.{ip_network}
 use Rattle.ipnet.specs.declared.net.IpNet.{IpNet}
-use Rattle.ipnet_sets.specs.Routes.{networks_of}
-use Rattle.ipnet_sets.specs.RoutesOf.{routes_of}
+use Rattle.ipnet_routes.specs.Routes.{networks_of}
+use Rattle.ipnet_routes.specs.RoutesOf.{routes_of}
 use Rattle.ipnet_sets.specs.SetRanges.{IsInRange}
-use Rattle.ipnet_sets.specs.declared.routes.RouteTable.{RouteTable}
-use Rattle.netset_lib.specs.Lists.{ListEntry}
+use Rattle.ipnet_routes.specs.declared.routes.RouteTable.{RouteTable}
+use Rattle.ipnet_lists.specs.Lists.{ListEntry}
 use Rattle.netset_lib.specs.RouteAnswers.{IsTableNetwork, IsLongest, HaveNone}
 
 -- One of the networks, truncated.

@@ -1,5 +1,5 @@
 -- The queries on a list of rules, and the answers.
-use Rattle.std.specs.Prelude.{◌≡◌, ◌≢◌, ◌↔◌, ℕ, zero, suc, List, [], ◌∷◌, ◌++◌, codes, decimal, map}
+use Rattle.std.specs.Prelude.{◌≡◌, ◌≢◌, ◌↔◌, ℕ, zero, suc, Bool, true, false, List, [], ◌∷◌, ◌++◌, codes, decimal, map}
 use Rattle.ipnet_base.specs.Address.{Address, IsAddress}
 use Rattle.ipnet.specs.declared.parser.Grammar.{Grammar}
 use Rattle.ipnet_rules.specs.declared.rules.Action.{Action}
@@ -10,8 +10,8 @@ use Rattle.ipnet_rules.specs.Rules.{HasRuleVerdict}
 use Rattle.ipnet_sets.specs.declared.set.IpSet.{IpSet}
 use Rattle.ipnet_sets.specs.Members.{IsMember}
 use Rattle.ipnet_rules.specs.UnreachedRules.{IsUnreached, AreUnreached}
-use Rattle.netset_lib.specs.declared.content_line.ListFailure.{ListFailure}
-use Rattle.netset_lib.specs.declared.content_line.ListFailure.TheVariants as Failures
+use Rattle.ipnet_lists.specs.declared.content_line.ListFailure.{ListFailure}
+use Rattle.ipnet_lists.specs.declared.content_line.ListFailure.TheVariants as Failures
 use Rattle.netset_lib.specs.declared.rule_line.RuleCause.{RuleCause}
 use Rattle.netset_lib.specs.RuleContentsOf.{rule_refusal}
 use Rattle.netset_lib.specs.RuleLines.{LineOfRule, RuleContents, IsRuleList}
@@ -91,3 +91,8 @@ pub record IsOneUnreached (grammar : Grammar) (bytes : List ℕ) : Type 0 where
   pub none : contents.refused ≡ []
   pub index : ℕ
   pub unreached : IsUnreached contents.rules index
+
+-- Whether each rule decides on some address.
+abbrev pub IsReachedOutcome : Grammar → List ℕ → Bool → Type 0
+IsReachedOutcome grammar bytes true = AreAllReached grammar bytes
+IsReachedOutcome grammar bytes false = IsOneUnreached grammar bytes

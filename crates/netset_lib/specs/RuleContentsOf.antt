@@ -1,6 +1,6 @@
 -- A list of rules that was read, as contracts see it.
 use Rattle.std.specs.Prelude.{map}
-use Rattle.netset_lib.specs.declared.content_line.RefusedText.{RefusedText}
+use Rattle.ipnet_lists.specs.declared.content_line.RefusedText.{RefusedText}
 use Rattle.netset_lib.specs.declared.rule_line.RuleCause.{RuleCause}
 use Rattle.netset_lib.specs.declared.rule_list.RuleLine.{RuleLine}
 use Rattle.netset_lib.specs.declared.rule_list.RuleList.{RuleList}

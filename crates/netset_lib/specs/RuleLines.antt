@@ -1,7 +1,5 @@
 -- Lists of rules as people keep them: a rule on each line, which is a word and an entry.
-use Rattle.std.specs.Prelude.{◌≡◌, ◌≢◌, ◌⊎◌, ◌↔◌, ℕ, ◌+◌, List, [], ◌∷◌, drop, codes}
-use Rattle.std.specs.Char.{is_ascii_whitespace}
-use Rattle.std.specs.List.{before_first, position_or_len, prefix_len}
+use Rattle.std.specs.Prelude.{◌≡◌, ◌≢◌, ◌⊎◌, ◌↔◌, ℕ, ◌+◌, List, [], ◌∷◌, codes}
 use Rattle.ipnet_base.specs.Address.{Address}
 use Rattle.ipnet_base.specs.Ranges.{AddressRange}
 use Rattle.ipnet.specs.declared.parser.Grammar.{Grammar}
@@ -13,23 +11,15 @@ use Rattle.ipnet_rules.specs.Rules.{Matches}
 use Rattle.ipnet_sets.specs.SetRanges.{IsInRange}
 use Rattle.netset_lib.specs.declared.rule_line.RuleCause.{RuleCause}
 use Rattle.netset_lib.specs.declared.rule_line.RuleCause.TheVariants.{UnknownWord, NoEntry, TwoEntries, BadEntry}
-use Rattle.netset_lib.specs.Causes.{IsReportedCause}
-use Rattle.netset_lib.specs.Entries.{IsEntryText, IsNoEntry}
-use Rattle.netset_lib.specs.Lists.{AreContents, after_mark}
+use Rattle.ipnet_lists.specs.Causes.{IsReportedCause}
+use Rattle.ipnet_lists.specs.Entries.{IsEntryText, IsNoEntry}
+use Rattle.ipnet_lists.specs.Lists.{AreContents, after_mark}
+use Rattle.ipnet_lists.specs.Words.{leading_word, after_word}
 
 -- The word of an action at the start of a rule.
 abbrev pub word_of : Action → List ℕ
 word_of Permit = codes "permit"
 word_of Deny = codes "deny"
-
--- The text up to its first blank, or all of it. Example: `permit` of `permit  10.0.0.0/8`.
-abbrev pub leading_word : List ℕ → List ℕ
-leading_word text = before_first is_ascii_whitespace text
-
--- The text after its first word and the blanks that follow. Example: `10.0.0.0/8` of `permit  10.0.0.0/8`.
-abbrev pub after_word : List ℕ → List ℕ
-after_word text =
-    let rest = drop (position_or_len is_ascii_whitespace text) text in drop (prefix_len is_ascii_whitespace rest) rest
 
 -- The text begins with the word of an action.
 abbrev pub HasRuleWord : List ℕ → Type 0
@@ -119,7 +109,7 @@ AreRulesRead grammar number ((b ∷ text) ∷ texts) contents =
 -- These lines, the first with this number, have these rules and refused lines.
 abbrev pub AreRuleLines : Grammar → ℕ → List (List ℕ) → RuleContents → Type 0
 AreRuleLines grammar number lines contents =
-    (texts : List (List ℕ)) × AreContents grammar lines texts × AreRulesRead grammar number texts contents
+    (texts : List (List ℕ)) × AreContents lines texts × AreRulesRead grammar number texts contents
 
 -- The bytes are a list of rules with these contents. Blanks, comments and a byte order mark are as in lists of entries.
 -- Example: `permit 10.0.0.0/8 # ours\n\nallow ::1\n` has a rule on line 1, and line 3 is refused.

@@ -4,9 +4,10 @@ use Rattle.std.specs.Prelude.{◌≡◌, ◌≢◌, ◌⊎◌, ℕ, List, [], �
 use Rattle.ipnet.specs.declared.parser.Grammar.{Grammar}
 use Rattle.netset_lib.specs.declared.rule_line.RuleCause.{RuleCause}
 use Rattle.netset_lib.specs.declared.rule_line.RuleCause.TheVariants.{UnknownWord, NoEntry, TwoEntries, BadEntry}
-use Rattle.netset_lib.specs.Causes.{IsReportedCause}
-use Rattle.netset_lib.specs.ContentLines.{ContentLine}
-use Rattle.netset_lib.specs.RuleLines.{leading_word, RuleContents, no_rules, IsNextRule, IsNextRuleRefusal}
+use Rattle.ipnet_lists.specs.Causes.{IsReportedCause}
+use Rattle.ipnet_lists.specs.ContentLines.{ContentLine}
+use Rattle.ipnet_lists.specs.Words.{leading_word}
+use Rattle.netset_lib.specs.RuleLines.{RuleContents, no_rules, IsNextRule, IsNextRuleRefusal}
 
 -- Why a text that is not an entry is not one.
 abbrev pub IsEntryCause : Grammar → List ℕ → RuleCause → Type 0

@@ -1,44 +1,63 @@
--- The output of a run of the program `netset`.
-use Rattle.std.specs.Prelude.{◌⊎◌, ℕ, List, Option}
-use Rattle.std.specs.Io.KnownBytes.{Keeps}
+-- Runs of the commands of the program `netset`.
+use Rattle.std.specs.Prelude.{◌≡◌, ℕ, List, Option, Some, None}
 use Rattle.ipnet.specs.declared.parser.Grammar.{Grammar}
+use Rattle.ipnet_text.specs.Outputs.{IsFrontWritten}
 use Rattle.netset_lib.specs.declared.answer.Request.{Request}
-use Rattle.netset_lib.specs.declared.command.Work.{Work}
+use Rattle.netset_lib.specs.declared.command.Work.TheVariants.{Combine, Ask}
+use Rattle.netset_lib.specs.declared.failure.Failure.{Failure}
+use Rattle.netset_lib.specs.declared.operation.Families.{Families}
+use Rattle.netset_lib.specs.declared.plan.PlanFailure.{PlanFailure}
+use Rattle.netset_lib.specs.declared.plan.PlanFailure.TheVariants.{NoPlacement}
+use Rattle.netset_lib.specs.declared.query.Query.TheVariants.{Compare}
+use Rattle.netset_lib.specs.declared.runs.Fault.{Fault}
+use Rattle.netset_lib.specs.declared.runs.Fault.TheVariants.{Lists, Other}
 use Rattle.netset_lib.specs.declared.session.Session.{Session}
 use Rattle.netset_lib.specs.Counts.{Names}
-use Rattle.netset_lib.specs.Replies.{IsWorkAnswer}
-use Rattle.ipnet_text.specs.Outputs.{IsWritten, IsFrontWritten}
+use Rattle.netset_lib.specs.PlanAnswers.{HoldsOfResult, HasNoPlacement}
+use Rattle.netset_lib.specs.Replies.{IsWorkFailure}
 use Rattle.netset_lib.specs.Sessions.{WereCombined, WereCompared}
 
--- The work has an answer over the lists, and all of it was written.
-abbrev pub IsAnswered : Work → Names → List (List ℕ) → Option (List ℕ) → Option (List ℕ) → Type 0
-IsAnswered work names lists = IsWritten (IsWorkAnswer work names lists)
-
--- The work has an answer over the lists, and a front of it was written, perhaps all of it.
-abbrev pub IsCutShort : Work → Names → List (List ℕ) → Option (List ℕ) → Option (List ℕ) → Type 0
-IsCutShort work names lists = IsFrontWritten (IsWorkAnswer work names lists)
-
--- Whatever operation and lists the session has read, this answer to them was written.
-abbrev pub WritesAnswer : (Request → List (List ℕ) → List ℕ → Type 0) → Session → Option (List ℕ) → Option (List ℕ)
-    → Type 0
-WritesAnswer IsAnswer session held held_after = (r : Request) → (lists : List (List ℕ)) → WereCombined r lists session
-    → IsWritten (IsAnswer r lists) held held_after
-
--- Nothing was written, or a front of this answer.
-abbrev pub WritesFront : (Request → List (List ℕ) → List ℕ → Type 0) → Session → Option (List ℕ) → Option (List ℕ)
-    → Type 0
-WritesFront IsAnswer session held held_after = (r : Request) → (lists : List (List ℕ)) → WereCombined r lists session
-    → Keeps held held_after ⊎ IsFrontWritten (IsAnswer r lists) held held_after
-
--- Whatever two lists the session has read to compare them, this answer was written.
-abbrev pub WritesComparison : (Grammar → List (List ℕ) → List ℕ → Type 0) → Session → Option (List ℕ)
+-- A failure with this property has this exit status. If its text is promised, a front of the text was reported, perhaps
+-- all of it.
+abbrev pub IsReported : {F : Type 0} → (F → Type 0) → (F → ℕ) → (F → Option (List ℕ)) → ℕ → Option (List ℕ)
     → Option (List ℕ) → Type 0
-WritesComparison IsAnswer session held held_after = (grammar : Grammar) → (lists : List (List ℕ))
-    → WereCompared grammar lists session → IsWritten (IsAnswer grammar lists) held held_after
+IsReported IsFailure exit told status held held_after = (failure : _) × IsFailure failure × (exit failure ≡ status)
+    × ((text : List ℕ) → told failure ≡ Some text → IsFrontWritten (λ t. t ≡ text) held held_after)
 
--- Nothing was written, or a front of this answer.
-abbrev pub WritesComparisonFront : (Grammar → List (List ℕ) → List ℕ → Type 0) → Session → Option (List ℕ)
-    → Option (List ℕ) → Type 0
-WritesComparisonFront IsAnswer session held held_after = (grammar : Grammar) → (lists : List (List ℕ))
-    → WereCompared grammar lists session
-    → Keeps held held_after ⊎ IsFrontWritten (IsAnswer grammar lists) held held_after
+-- The exit status of one failure or the other.
+abbrev pub exit_of_fault : {L F : Type 0} → (L → ℕ) → (F → ℕ) → Fault L F → ℕ
+exit_of_fault of_lists of_other (Lists failure) = of_lists failure
+exit_of_fault of_lists of_other (Other failure) = of_other failure
+
+-- The promised text of the report of one failure or the other.
+abbrev pub told_of_fault : {L F : Type 0} → (L → Names → Option (List ℕ)) → (F → Names → Option (List ℕ))
+    → Fault L F → Names → Option (List ℕ)
+told_of_fault of_lists of_other (Lists failure) = of_lists failure
+told_of_fault of_lists of_other (Other failure) = of_other failure
+
+-- This is so of whatever operation and lists the session has read.
+abbrev pub OfCombined : (Request → List (List ℕ) → Type 0) → Session → Type 0
+OfCombined Is session = (r : Request) → (lists : List (List ℕ)) → WereCombined r lists session → Is r lists
+
+-- This is so of whatever two lists the session has read to compare them.
+abbrev pub OfCompared : (Grammar → List (List ℕ) → Type 0) → Session → Type 0
+OfCompared Is session = (grammar : Grammar) → (lists : List (List ℕ)) → WereCompared grammar lists session
+    → Is grammar lists
+
+-- Why the lists of the session have no result.
+abbrev pub HasNoResult : Session → Failure → Type 0
+HasNoResult session failure = OfCombined (λ r lists. IsWorkFailure (Combine r) lists failure) session
+
+-- Why the two lists of the session cannot be compared.
+abbrev pub HasNoPair : Session → Failure → Type 0
+HasNoPair session failure = OfCompared (λ grammar lists. IsWorkFailure (Ask Compare grammar) lists failure) session
+
+-- Why there is no answer: the lists are at fault for the first reason, or there is none for the second.
+abbrev pub IsFault : {L F : Type 0} → (L → Type 0) → (F → Type 0) → Fault L F → Type 0
+IsFault OfLists OfOther (Lists failure) = OfLists failure
+IsFault OfLists OfOther (Other failure) = OfOther failure
+
+-- Why the addresses of the session's lists have no plan. For `NoPlacement`, no networks of these lengths can be placed.
+abbrev pub IsPlanReason : Families → List ℕ → Session → PlanFailure → Type 0
+IsPlanReason families lengths session failure = failure ≡ NoPlacement
+    → OfCombined (λ r lists. HoldsOfResult r lists (λ InSet. HasNoPlacement InSet families lengths)) session

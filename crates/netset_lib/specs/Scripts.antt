@@ -8,7 +8,7 @@ use Rattle.netset_lib.specs.declared.operation.Families.TheVariants.{Named, Ipv4
 use Rattle.netset_lib.specs.declared.operation.ListOperation.{ListOperation}
 use Rattle.netset_lib.specs.declared.operation.ListOperation.TheVariants as Operations
 use Rattle.netset_lib.specs.Answers.{IsAnswer}
-use Rattle.netset_lib.specs.Lists.{ListEntry, IsListRead, IsInEntries, HaveAddresses}
+use Rattle.ipnet_lists.specs.Lists.{ListEntry, IsListRead, IsInEntries, HaveAddresses}
 
 -- A script: a file with these bytes, or a call of the program on one or two scripts.
 -- Example: `netset difference a <(netset union b c)` is the difference of the file a and of the union of two files.

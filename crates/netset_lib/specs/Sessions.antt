@@ -16,11 +16,11 @@ use Rattle.netset_lib.specs.declared.session.Session.{Session}
 use Rattle.netset_lib.specs.Answering.{IsAnswererFor, AreAnswersBy}
 use Rattle.netset_lib.specs.Answers.{AreListsRead, IsSetText, IsNamedComplement}
 use Rattle.netset_lib.specs.Counts.{Names, IsCountText, IsComparison}
-use Rattle.netset_lib.specs.Lists.{ListEntry, Refusal, IsListRead, IsInEntries}
+use Rattle.ipnet_lists.specs.Lists.{ListEntry, Refusal, IsListRead, IsInEntries}
 use Rattle.netset_lib.specs.ListSets.{HaveMembers}
 use Rattle.netset_lib.specs.Operations.{IsInResult}
-use Rattle.netset_lib.specs.Reading.{WasMadeOf}
-use Rattle.netset_lib.specs.RefusedLines.{AreRefused}
+use Rattle.ipnet_lists.specs.Reading.{WasMadeOf}
+use Rattle.ipnet_lists.specs.RefusedLines.{AreRefused}
 use Rattle.netset_lib.specs.Replies.{work_grammar, TakesCount}
 
 -- A filter or a route has its answerer after the first list, and the lines of the answer after the second.

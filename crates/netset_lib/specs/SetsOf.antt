@@ -3,7 +3,7 @@ use Rattle.std.specs.Prelude.{ℕ, List, []}
 use Rattle.ipnet.specs.declared.parser.Grammar.{Grammar}
 use Rattle.ipnet_sets.specs.declared.set.IpSet.{IpSet}
 use Rattle.netset_lib.specs.Answers.{AreListsRead}
-use Rattle.netset_lib.specs.Lists.{ListEntry}
+use Rattle.ipnet_lists.specs.Lists.{ListEntry}
 use Rattle.netset_lib.specs.ListSets.{HaveMembers}
 
 -- No line of the lists is refused, and each set has the addresses of the list at its place.

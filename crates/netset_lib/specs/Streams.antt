@@ -18,7 +18,7 @@ use Rattle.netset_lib.specs.declared.session.stream.Streamed.{Streamed}
 use Rattle.netset_lib.specs.Answering.{IsAnswerBy, IsFoundBy}
 use Rattle.netset_lib.specs.Answers.{AreListsRead, HasRefused}
 use Rattle.netset_lib.specs.EntryAnswers.{AreAnswers, IsFoundIn}
-use Rattle.netset_lib.specs.Lists.{ListEntry, Refusal, AreContents, AreRead, after_mark}
+use Rattle.ipnet_lists.specs.Lists.{ListEntry, Refusal, AreContents, AreRead, after_mark}
 use Rattle.netset_lib.specs.Replies.{AreReplies, IsFoundFor, work_grammar}
 
 -- A filter and a route can be streamed.
@@ -74,7 +74,7 @@ pub record IsFrontRead (grammar : Grammar) (list : ℕ) (left : Option (List ℕ
   pub others : List (List ℕ)
   pub front : IfSome left (λ bytes. lines_of (after_mark bytes) ≡ lines ++ others)
   pub texts : List (List ℕ)
-  pub contents : AreContents grammar lines texts
+  pub contents : AreContents lines texts
   pub read : AreRead grammar list 1 texts entries refusals
 
 -- The reader had the bytes `left` of the second list. A first part of the answers to the entries of its first lines was

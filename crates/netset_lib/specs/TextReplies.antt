@@ -1,12 +1,11 @@
 -- Why a table with texts has no answers to the entries of a list.
--- Only private contracts use this.
 use Rattle.std.specs.Prelude.{ℕ, List, map}
 use Rattle.ipnet.specs.declared.parser.Grammar.{Grammar}
 use Rattle.netset_lib.specs.declared.text_route.TextFailure.{TextFailure}
 use Rattle.netset_lib.specs.declared.text_route.TextFailure.TheVariants as Failures
-use Rattle.netset_lib.specs.ContentLineOf.{refused_of}
-use Rattle.netset_lib.specs.Lists.{Refusal}
-use Rattle.netset_lib.specs.RefusedLines.{AreRefused}
+use Rattle.ipnet_lists.specs.ContentLineOf.{refused_of}
+use Rattle.ipnet_lists.specs.Lists.{Refusal}
+use Rattle.ipnet_lists.specs.RefusedLines.{AreRefused}
 use Rattle.netset_lib.specs.TextTables.{HasRefusedTextLines, HasRefusedEntries}
 
 -- Why not all entries were looked up: refused lines of the table; refused lines of the list; or out of memory. When

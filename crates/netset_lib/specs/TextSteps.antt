@@ -11,21 +11,21 @@ use Rattle.ipnet.specs.CanonicalTexts.{canonical_text}
 use Rattle.ipnet.specs.NetworkOf.{ip_network}
 use Rattle.ipnet.specs.declared.net.IpNet.{IpNet}
 use Rattle.ipnet.specs.declared.parser.Grammar.{Grammar}
-use Rattle.ipnet_sets.specs.Routes.{Route, networks_of, without_host_bits}
-use Rattle.ipnet_sets.specs.RoutesOf.{routes_of}
+use Rattle.ipnet_routes.specs.Routes.{Route, networks_of, without_host_bits}
+use Rattle.ipnet_routes.specs.RoutesOf.{routes_of}
 use Rattle.ipnet_sets.specs.SetRanges.{IsInRange}
-use Rattle.ipnet_sets.specs.declared.routes.RouteTable.{RouteTable}
+use Rattle.ipnet_routes.specs.declared.routes.RouteTable.{RouteTable}
 use Rattle.netset_lib.specs.declared.answerer.Answers.{Answers}
-use Rattle.netset_lib.specs.declared.cause.Cause.{Cause}
+use Rattle.ipnet_lists.specs.declared.cause.Cause.{Cause}
 use Rattle.netset_lib.specs.declared.text_line.TableLine.{TableLine}
 use Rattle.netset_lib.specs.declared.text_table.TextRoutes.{TextRoutes}
-use Rattle.netset_lib.specs.Causes.{Has, HasMaskWord}
-use Rattle.netset_lib.specs.ContentLineOf.{refused_of}
-use Rattle.netset_lib.specs.ContentLines as content
+use Rattle.ipnet_lists.specs.Causes.{Has, HasMaskWord}
+use Rattle.ipnet_lists.specs.ContentLineOf.{refused_of}
+use Rattle.ipnet_lists.specs.ContentLines as content
 use Rattle.netset_lib.specs.EntryAnswers.{AreAnswers, IsFoundIn}
-use Rattle.netset_lib.specs.EntryOf.{entry_range}
-use Rattle.netset_lib.specs.Lists.{ListEntry, Refusal, IsCommentAt, IsListRead}
-use Rattle.netset_lib.specs.RefusedLines.{RefusedLines, AreRefused}
+use Rattle.ipnet_lists.specs.EntryOf.{entry_range}
+use Rattle.ipnet_lists.specs.Comments.{IsCommentAt}
+use Rattle.ipnet_lists.specs.Lists.{ListEntry}
 use Rattle.netset_lib.specs.RouteAnswers.{IsLongest, HaveNone}
 use Rattle.netset_lib.specs.Routing.{InTable, HoldsEnds}
 use Rattle.netset_lib.specs.TextTables.{TextLine, IsLinesNetwork, IsTextOf, IsTextTable, text_part}
@@ -107,12 +107,3 @@ pub record AddsTextAnswer (table : RouteTable (Bor (List ℕ))) (old new : Answe
   pub answer : IsTextAnswerBy table e line
   pub text : string_bytes new.text ≡ string_bytes old.text ++ line
   pub found : (IsMissingBy table e × (new.found ≡ true)) ⊎ ((¬ (IsMissingBy table e)) × (new.found ≡ old.found))
-
--- Something was made of the entries of the list, and these are its refused lines.
-pub record IsMadeList (grammar : Grammar) (bytes : List ℕ) (IsMade : List ListEntry → Type 0) (refused : RefusedLines)
-    : Type 0 where
-  pub entries : List ListEntry
-  pub refusals : List Refusal
-  pub read : IsListRead grammar 0 bytes entries refusals
-  pub made : IsMade entries
-  pub kept : AreRefused refused refusals

@@ -8,22 +8,23 @@ use Rattle.ipnet_base.specs.Blocks.{IsMaximal}
 use Rattle.ipnet_base.specs.Ranges.{AddressRange}
 use Rattle.ipnet.specs.CanonicalTexts.{canonical_text}
 use Rattle.ipnet.specs.declared.parser.Grammar.{Grammar}
-use Rattle.ipnet_sets.specs.Routes.{networks_of}
-use Rattle.ipnet_sets.specs.RoutesOf.{routes_of}
+use Rattle.ipnet_routes.specs.Routes.{networks_of}
+use Rattle.ipnet_routes.specs.RoutesOf.{routes_of}
 use Rattle.ipnet_sets.specs.SetRanges.{IsInRange}
-use Rattle.ipnet_sets.specs.declared.routes.RouteTable.{RouteTable}
-use Rattle.netset_lib.specs.declared.cause.Cause.{Cause}
-use Rattle.netset_lib.specs.Causes.{Has, HasMaskWord, IsReportedCause}
-use Rattle.netset_lib.specs.ContentLines.{ContentLine, RefusedContent, AreContentLines, AreItems}
-use Rattle.netset_lib.specs.Entries.{IsEntryText, IsNoEntry}
+use Rattle.ipnet_routes.specs.declared.routes.RouteTable.{RouteTable}
+use Rattle.ipnet_lists.specs.declared.cause.Cause.{Cause}
+use Rattle.ipnet_lists.specs.Causes.{Has, HasMaskWord, IsReportedCause}
+use Rattle.ipnet_lists.specs.ContentLines.{ContentLine, RefusedContent, AreContentLines, AreItems}
+use Rattle.ipnet_lists.specs.Entries.{IsEntryText, IsNoEntry}
 use Rattle.netset_lib.specs.EntryAnswers.{AreAnswers, IsFoundIn}
-use Rattle.netset_lib.specs.Lists.{ListEntry, Refusal, IsCommentAt, IsListRead}
+use Rattle.ipnet_lists.specs.Comments.{IsCommentAt}
+use Rattle.ipnet_lists.specs.Lists.{ListEntry, Refusal, IsListRead}
 use Rattle.netset_lib.specs.RouteAnswers.{Holds, IsLongest, HaveNone}
-use Rattle.netset_lib.specs.RuleLines.{leading_word, after_word}
+use Rattle.ipnet_lists.specs.Words.{leading_word, after_word}
 
 -- This text may follow the entry in these contents of a line. It does not begin with "-" (45), which may be the sign of
 -- a range. The contents have no NUL byte, and their second word is not a mask. They have no comment. Contents keep a
--- comment only if its first word is an entry.
+-- comment only if it hides an entry.
 -- Example: `192.0.2.1 eth0` in `10.0.0.0/8 192.0.2.1 eth0`; not `- 10.0.0.9 eth0` in `10.0.0.1 - 10.0.0.9 eth0`, nor
 -- `255.0.0.0` in `10.0.0.0 255.0.0.0`.
 pub record MayFollow (contents text : List ℕ) : Type 0 where
@@ -72,7 +73,7 @@ pub record IsNoTextLine (grammar : Grammar) (contents : List ℕ) (cause : Optio
 pub record IsTextTable (grammar : Grammar) (bytes : List ℕ) (lines : List TextLine)
     (refused : List (RefusedContent (Option Cause))) : Type 0 where
   pub contents : List ContentLine
-  pub has : AreContentLines grammar bytes contents
+  pub has : AreContentLines bytes contents
   pub items : AreItems (IsTextLine grammar) (IsNoTextLine grammar) contents lines refused
 
 -- The network is one of the table: a maximal block of the entry of a line.

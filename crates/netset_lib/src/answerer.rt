@@ -2,19 +2,17 @@
 ghost use Rattle.std.specs.Prelude.{◌≡◌, ◌++◌, [], None, OnOk, IfOk, string_bytes, true, false};
 ghost use Rattle.std.specs.Str.{IsUtf8};
 ghost use Rattle.netset_lib.specs.Answering.{IsAnswererFor, AreAnswersBy, AddsAnswer};
-ghost use Rattle.netset_lib.specs.FoundEntry.{entry_of};
-ghost use Rattle.netset_lib.specs.Reading.{WasMadeOf};
+ghost use Rattle.ipnet_lists.specs.FoundEntry.{entry_of};
+ghost use Rattle.ipnet_lists.specs.Reading.{WasMadeOf};
 ghost use Rattle.netset_lib.specs.Routing.{route_line};
 ghost use Rattle.netset_lib.specs.declared.answerer.Answerer.TheVariants as Answerers;
 
-use crate::entry::Entry;
 use crate::filter::{covers_entry, side_set};
-use crate::list::read_set;
 use crate::query::Query;
-use crate::reader::Collector;
-use crate::reading::{ReadFailure, Reading};
 use crate::route::{longest_holding, push_line, read_table};
-use ipnet_sets::{IpSet, RouteTable};
+use ipnet_lists::{Collector, Entry, ReadFailure, Reading, read_set};
+use ipnet_routes::RouteTable;
+use ipnet_sets::IpSet;
 use std::alloc::{AllocError, Global};
 use std::io::Read;
 use std::str;

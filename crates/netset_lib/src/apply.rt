@@ -12,8 +12,8 @@ pub mod laws;
 use crate::answer::{Form, set_text};
 use crate::change_line::{ChangeCause, read_change};
 use crate::changes::Change;
-use crate::content_line::{ListFailure, RefusedText, content_lines, keep_read};
 use ipnet::{Grammar, IpNet};
+use ipnet_lists::{ListFailure, RefusedText, content_lines, keep_read};
 use ipnet_sets::IpSet;
 use std::alloc::{AllocError, Global};
 
@@ -33,7 +33,7 @@ fn read_changes(
 ) -> Result<ChangeList, AllocError>
     ensures { IfOk result (AreChangesRead grammar (IsAnswerNetwork (IsMember set.now)) bytes.now) }
 {
-    let lines = content_lines(alloc, bytes, grammar)?;
+    let lines = content_lines(alloc, bytes)?;
     let mut changes = Vec::new(alloc);
     let mut refused = Vec::new(alloc);
     for line in lines.as_slice() {

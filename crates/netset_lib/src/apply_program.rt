@@ -1,30 +1,26 @@
-//! The command `apply` of the program, over any writers.
-ghost use Rattle.std.specs.Prelude.{◌≡◌, ◌⊎◌};
-ghost use Rattle.std.specs.Io.KnownBytes.{Keeps};
+//! The command `apply` of the program.
+ghost use Rattle.std.specs.Prelude.{IsTrue, ⊤};
 ghost use Rattle.netset_lib.specs.ChangeLists.{IsChangedAnswer};
-ghost use Rattle.netset_lib.specs.Runs.{WritesAnswer, WritesFront};
+ghost use Rattle.netset_lib.specs.Runs.{OfCombined, IsFault, HasNoResult};
 
 use crate::apply::changed_text;
 use crate::change_line::ChangeCause;
 use crate::failure::Failure;
 use crate::network_entry::NetworkCause;
-use crate::program::{NO_ENTRY, report_failure, report_text, set_or_report};
-use crate::refused::LineCause;
+use crate::runs::{Fault, TextCommand};
 use crate::session::Session;
-use crate::write::write_answer;
+use ipnet_lists::{LineCause, ListFailure, NO_ENTRY, report_text};
 use std::io;
 use std::io::Write;
 
-/// Writes the addresses that the changes make of the session's result to `out`, as `changed_text` makes them, and
-/// returns the exit status. The session has read the lists of an operation; its request has the form of the answer and
-/// the grammar of the changes.
+/// The addresses that the changes make of the session's result, as `changed_text` makes them. The session has read the
+/// lists of an operation; its request has the form of the answer and the grammar of the changes.
 ///
-/// `changes` is the name of the changes and their bytes. `names` are the names of the lists, in order, for the reports
-/// on `faults`. If a report cannot be written, the status is the same.
+/// The names: each list, and then the changes.
 ///
 /// | Status | On `faults` | When |
 /// |---|---|---|
-/// | 2 | as `run` reports it | the lists have no result |
+/// | 2 | as `AnswerCommand` says | the lists have no result |
 /// | 2 | `NAME:LINE: not a change of the list: TEXT (CAUSE)`, ten at most | as `changed_text` refuses them |
 /// | 2 | `netset: out of memory` | memory runs out |
 /// | 2 | `netset: output cannot be written` | a write fails, or the flush after it; the answer may be out in part |
@@ -35,33 +31,37 @@ use std::io::Write;
 /// "10.0.0.0/8\n", and "- 10.0.0.0/9\n", named c:      status 2, and faults gets
 ///     "c:1: not a change of the list: - 10.0.0.0/9 (the list has no such network)\n"
 /// ```
-pub fn run_apply<W: Write, X: Write>(
-    session: Session,
-    changes: (&str, &[u8]),
-    names: &[&str],
-    out: &mut W,
-    faults: &mut X,
-) -> u8
-    ensures status { (result ≡ 0) ⊎ (result ≡ 2) }
-    ensures answered { result ≡ 0 → WritesAnswer (λ request lists.
-        IsChangedAnswer request lists changes.entry.1.now) session (W.contents out.old) (W.contents out.new) }
-    ensures cut_short { result ≡ 2 → WritesFront (λ request lists.
-        IsChangedAnswer request lists changes.entry.1.now) session (W.contents out.old) (W.contents out.new) }
-    ensures faultless { result ≡ 0 → Keeps (X.contents faults.old) (X.contents faults.new) }
-{
-    let (name, bytes) = changes;
-    let Some(request) = session.request() else {
-        let _ = report_failure(faults, names, &Failure::Count);
-        return 2;
-    };
-    let Some((alloc, set)) = set_or_report(session, names, faults) else {
-        return 2;
-    };
-    let text = match changed_text(alloc, request.form, &set, bytes, request.grammar) {
-        Ok(text) => text,
-        Err(failure) => return failure.report(faults, name),
-    };
-    write_answer(out, faults, text.as_bytes())
+pub struct ApplyCommand<'a> {
+    /// The session.
+    pub session: Session,
+    /// The changes.
+    pub changes: &'a [u8],
+}
+
+impl<'a> TextCommand for ApplyCommand<'a> {
+    type Text = String;
+
+    type Failure = Fault<Failure, ListFailure<ChangeCause>>;
+
+    ghost is_answer = { λ command text. OfCombined (λ request lists.
+        IsChangedAnswer request lists command.changes.now text) command.session };
+
+    ghost is_outcome = { λ _ succeeded. IsTrue succeeded };
+
+    ghost is_failure = { λ command. IsFault (HasNoResult command.session) (λ _. ⊤) };
+
+    fn answer(self) -> Result<(String, bool), Fault<Failure, ListFailure<ChangeCause>>> {
+        let ApplyCommand { session, changes } = self;
+        let alloc = session.alloc();
+        let Some(request) = session.request() else {
+            return Err(Fault::Lists(Failure::Count));
+        };
+        let set = session.into_set()?;
+        match changed_text(alloc, request.form, &set, changes, request.grammar) {
+            Ok(text) => Ok((text, true)),
+            Err(failure) => Err(Fault::Other(failure)),
+        }
+    }
 }
 
 impl LineCause for ChangeCause {

@@ -11,8 +11,8 @@ ghost use Rattle.netset_lib.specs.ChangeSteps.{change_of};
 
 use crate::changes::Change;
 use crate::network_entry::{NetworkCause, read_network_entry};
-use crate::word::cut_word;
 use ipnet::{Grammar, IpNet};
+use ipnet_lists::cut_word;
 use ipnet_sets::IpSet;
 
 /// Why a list of networks cannot be changed by a line.

@@ -11,7 +11,7 @@ use ipnet::Grammar;
 /// A command of the program that is an operation or a query on lists. Each has a name of its own, as
 /// `symmetric-difference`. `netset` has the other commands.
 #[derive(Clone, Copy, Debug, PartialEq, Eq)]
-pub enum Command {
+pub enum ListCommand {
     /// The addresses of all lists.
     Union,
     /// The addresses that are in every list.
@@ -37,8 +37,8 @@ pub enum Command {
 pub struct Flags {
     /// `--legacy`: entries are read by the legacy grammar.
     pub legacy: bool,
-    /// `--ranges`: a set is written as ranges. Only `Session::answer` and `run_apply` read this flag, as the form of
-    /// their `Request`: `run_form` of `netset_forms` takes the form of its answer from a `FormRequest`.
+    /// `--ranges`: a set is written as ranges. Only `Session::answer` and `ApplyCommand` read this flag, as the form
+    /// of their `Request`: `FormCommand` of `netset_forms` has the form of its answer in a `FormRequest`.
     pub ranges: bool,
     /// `--ipv4`: the complement in IPv4.
     pub ipv4: bool,
@@ -123,7 +123,7 @@ fn combined(operation: ListOperation, flags: Flags) -> Work
     })
 }
 
-impl Command {
+impl ListCommand {
     ghost use Rattle.netset_lib.specs.Commands.{name_of, work_of};
 
     /// Returns the operation or query of this name, or `None` if there is none.
@@ -131,19 +131,19 @@ impl Command {
     /// ```text
     /// "symmetric-difference" is SymmetricDifference; "Union", "plan" and "" are None
     /// ```
-    pub fn from_name(name: &str) -> Option<Command>
-        ensures { (command : Command) → (result ≡ Some command) ↔ (name.now ≡ name_of command) }
+    pub fn from_name(name: &str) -> Option<ListCommand>
+        ensures { (command : ListCommand) → (result ≡ Some command) ↔ (name.now ≡ name_of command) }
     {
         match name {
-            "union" => Some(Command::Union),
-            "intersection" => Some(Command::Intersection),
-            "difference" => Some(Command::Difference),
-            "symmetric-difference" => Some(Command::SymmetricDifference),
-            "complement" => Some(Command::Complement),
-            "count" => Some(Command::Count),
-            "compare" => Some(Command::Compare),
-            "filter" => Some(Command::Filter),
-            "route" => Some(Command::Route),
+            "union" => Some(ListCommand::Union),
+            "intersection" => Some(ListCommand::Intersection),
+            "difference" => Some(ListCommand::Difference),
+            "symmetric-difference" => Some(ListCommand::SymmetricDifference),
+            "complement" => Some(ListCommand::Complement),
+            "count" => Some(ListCommand::Count),
+            "compare" => Some(ListCommand::Compare),
+            "filter" => Some(ListCommand::Filter),
+            "route" => Some(ListCommand::Route),
             _ => None,
         }
     }
@@ -158,18 +158,18 @@ impl Command {
         ensures { result ≡ work_of self flags }
     {
         match self {
-            Command::Union => combined(ListOperation::Union, flags),
-            Command::Intersection => combined(ListOperation::Intersection, flags),
-            Command::Difference => combined(ListOperation::Difference, flags),
-            Command::SymmetricDifference => combined(ListOperation::SymmetricDifference, flags),
-            Command::Complement => {
+            ListCommand::Union => combined(ListOperation::Union, flags),
+            ListCommand::Intersection => combined(ListOperation::Intersection, flags),
+            ListCommand::Difference => combined(ListOperation::Difference, flags),
+            ListCommand::SymmetricDifference => combined(ListOperation::SymmetricDifference, flags),
+            ListCommand::Complement => {
                 let families = families(flags.ipv4, flags.ipv6);
                 combined(ListOperation::Complement(families), flags)
             }
-            Command::Count => Work::Ask(Query::Count, flags.grammar()),
-            Command::Compare => Work::Ask(Query::Compare, flags.grammar()),
-            Command::Filter => Work::Ask(Query::Filter(flags.side()), flags.grammar()),
-            Command::Route => Work::Ask(Query::Route, flags.grammar()),
+            ListCommand::Count => Work::Ask(Query::Count, flags.grammar()),
+            ListCommand::Compare => Work::Ask(Query::Compare, flags.grammar()),
+            ListCommand::Filter => Work::Ask(Query::Filter(flags.side()), flags.grammar()),
+            ListCommand::Route => Work::Ask(Query::Route, flags.grammar()),
         }
     }
 }

@@ -4,7 +4,7 @@ ghost use Rattle.ipnet_base.specs.Address.{IPv6};
 ghost use Rattle.ipnet_sets.specs.Members.{IsCountOf, IsMember, IsMemberOf};
 ghost use Rattle.netset_lib.specs.Counts.{IsCountsLine, IsCountLine, AreCountLines, IsTotalText, IsCountText};
 ghost use Rattle.netset_lib.specs.Counts.{IsComparison, name_at};
-ghost use Rattle.netset_lib.specs.Lists.{ListEntry, IsInEntries};
+ghost use Rattle.ipnet_lists.specs.Lists.{ListEntry, IsInEntries};
 ghost use Rattle.netset_lib.specs.ListSets.{HaveMembers};
 
 use ipnet_sets::IpSet;

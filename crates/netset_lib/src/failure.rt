@@ -2,7 +2,7 @@
 ghost use Rattle.std.specs.Prelude.{◌≡◌};
 ghost use Rattle.netset_lib.specs.declared.failure.Failure.TheVariants.{Memory};
 
-use crate::refused::RefusedLines;
+use ipnet_lists::RefusedLines;
 use std::alloc::AllocError;
 
 /// Why there is no answer.

@@ -3,12 +3,12 @@ ghost use Rattle.std.specs.Prelude.{◌↔◌, IsTrue, IfOk};
 ghost use Rattle.ipnet_base.specs.Address.{Address, IsAddress, ip_address};
 ghost use Rattle.ipnet_sets.specs.Members.{IsMember};
 ghost use Rattle.ipnet_sets.specs.SetRanges.{IsInRange};
-ghost use Rattle.netset_lib.specs.EntryOf.{entry_range};
+ghost use Rattle.ipnet_lists.specs.EntryOf.{entry_range};
 ghost use Rattle.netset_lib.specs.Filters.{IsOnSide};
 ghost use Rattle.netset_lib.specs.Filtering.{HasAddresses};
 
-use crate::entry::Entry;
 use ipnet::IpAddr;
+use ipnet_lists::Entry;
 use ipnet_sets::IpSet;
 use std::alloc::{AllocError, Global};
 

@@ -4,7 +4,7 @@ ghost use Rattle.ipnet.specs.Numerals.{IsDecimal};
 ghost use Rattle.ipnet.specs.declared.parser.Grammar.TheVariants.{Strict};
 ghost use Rattle.netset_lib.specs.PlanAnswers.{IsLengthText};
 
-use crate::cause_parts::are_digits;
+use ipnet_lists::are_digits;
 
 /// The greatest prefix length of a family.
 const GREATEST: u8 = 128;

@@ -10,9 +10,9 @@ ghost use Rattle.ipnet_text.specs.LineTexts.{text_of_lines};
 ghost use Rattle.ipnet_text.specs.Pieces.{IsInPieces};
 ghost use Rattle.netset_lib.specs.Listings.{text_of_addresses};
 
-use crate::address_text::ip_addr_text;
 use arrayvec::ArrayString;
 use ipnet::{IpAddr, IpAddrRange, IpSubnets};
+use ipnet_lists::ip_addr_text;
 use ipnet_text::pieces::{PIECE, put_line, put_text_line};
 use ipnet_text::write_whole;
 use std::io;

@@ -2,9 +2,9 @@
 ghost use Rattle.std.specs.Prelude.{◌≡◌, ◌≢◌, ◌≤◌, ◌↔◌, ◌++◌, List, ℕ, IsOk, IsTrue, IfOk, MatchOption};
 ghost use Rattle.std.specs.Prelude.{string_bytes};
 ghost use Rattle.std.specs.Io.KnownBytes.{Keeps};
-ghost use Rattle.netset_lib.specs.Outputs.{unfinished_name, IsUnfinishedName};
+ghost use Rattle.netset_lib.specs.Outputs.{unfinished_name, AreFileDigits, IsUnfinishedName};
 
-use crate::cause_parts::are_digits;
+use ipnet_lists::are_digits;
 use std::alloc::{AllocError, Global};
 use std::io;
 use std::io::Write;
@@ -70,11 +70,23 @@ fn after<'a>(bytes: &'a [u8], front: &[u8]) -> Option<&'a [u8]>
     bytes.strip_prefix(front)
 }
 
-/// Whether `entry` is the name of an unfinished file beside the file with this name, with any number.
+/// Whether the digits are a number from 1 to 999, without a leading zero.
+fn are_file_digits(digits: &[u8]) -> bool
+    ensures { IsTrue result ↔ AreFileDigits digits.now }
+{
+    match digits {
+        [] => false,
+        [first, rest @ ..] => *first != b'0' && rest.len() <= 2 && are_digits(digits),
+    }
+}
+
+/// Whether `entry` is the name of an unfinished file beside the file with this name, with a number from 1 to 999 that
+/// has no leading zero.
 ///
 /// ```text
-/// is_unfinished_name("live.txt", ".live.txt.netset-3"):  true
-/// is_unfinished_name("live.txt", ".live.txt.netset-x"):  false
+/// is_unfinished_name("live.txt", ".live.txt.netset-3"):     true
+/// is_unfinished_name("live.txt", ".live.txt.netset-1000"):  false
+/// is_unfinished_name("live.txt", ".live.txt.netset-x"):     false
 /// ```
 pub fn is_unfinished_name(name: &str, entry: &str) -> bool
     ensures { IsTrue result ↔ IsUnfinishedName name.now entry.now }
@@ -86,7 +98,7 @@ pub fn is_unfinished_name(name: &str, entry: &str) -> bool
             None => false,
             Some(rest) => match after(rest, b".netset-") {
                 None => false,
-                Some(digits) => !digits.is_empty() && are_digits(digits),
+                Some(digits) => are_file_digits(digits),
             },
         },
     }

@@ -1,17 +1,20 @@
 //! Plans: networks of given prefix lengths in the addresses of a set, as text.
-ghost use Rattle.std.specs.Prelude.{◌≡◌, ◌↔◌, ◌<◌, ◌≤◌, Any, All, IfOk, IsOk, IfErr, Err, IfSome, IfNone};
+ghost use Rattle.std.specs.Prelude.{◌≡◌, ◌↔◌, ◌⊎◌, ◌<◌, ◌≤◌, Any, All, IfOk, IsOk, IfErr, IsErr, Err};
+ghost use Rattle.std.specs.Prelude.{IfSome, IfNone, None};
 ghost use Rattle.std.specs.Prelude.{map, string_bytes};
 ghost use Rattle.ipnet_base.specs.Address.{Family, width};
 ghost use Rattle.ipnet.specs.NetworkOf.{ip_network};
 ghost use Rattle.ipnet_sets.specs.Members.{IsMember};
+ghost use Rattle.ipnet_pools.specs.Fits.{HasRoom};
 ghost use Rattle.ipnet_pools.specs.Placements.{CanPlace};
-ghost use Rattle.ipnet_pools.specs.Plans.{requests_of, IsPlan};
-ghost use Rattle.ipnet_pools.specs.declared.error.PoolError.TheVariants.{Exhausted};
+ghost use Rattle.ipnet_pools.specs.Plans.{requests_of, IsPlan, KeepsRoom};
+ghost use Rattle.ipnet_pools.specs.declared.error.PoolError.TheVariants as Pool;
 ghost use Rattle.netset_lib.specs.PlanAnswers.{HasOnly, IsPlanFamily, IsPlanText, HasNoPlacement, IsPlanFailure};
-ghost use Rattle.netset_lib.specs.Planning.{family_of};
+ghost use Rattle.netset_lib.specs.Planning.{family_of, exit_of_plan};
 ghost use Rattle.netset_lib.specs.declared.plan.PlanFailure.TheVariants.{NoPlacement, Memory};
 
 use crate::operation::Families;
+use crate::runs::Report;
 use ipnet::IpNet;
 use ipnet_pools::PoolError;
 use ipnet_pools::plan::{plan_ipv4, plan_ipv6};
@@ -46,17 +49,12 @@ impl From<AllocError> for PlanFailure {
     }
 }
 
-impl PlanFailure {
-    /// Reports the failure on `faults`, and returns the exit status: 1 if no placement exists, and otherwise 2.
-    ///
-    /// ```text
-    /// Family: 2, and faults gets "netset: choose one family: --ipv4 or --ipv6\n"
-    /// ```
-    pub fn report<X: Write>(self, faults: &mut X) -> u8
-        ensures status { result ≤ 2 }
-        ensures positive { 1 ≤ result }
-        ensures none { (result ≡ 1) ↔ (self ≡ NoPlacement) }
-    {
+impl Report for PlanFailure {
+    ghost exit = { exit_of_plan };
+
+    ghost told = { λ _ _. None };
+
+    fn tell<X: Write>(self, _: &[&str], faults: &mut X) -> u8 {
         let _ = writeln!(faults, "netset: {self}");
         match self {
             PlanFailure::NoPlacement => 1,
@@ -143,8 +141,14 @@ fn plan_of(
     ensures plan { IfOk result (λ list. IsPlan (IsMember set.now) (family_of family) lengths.now
         (map ip_network list.items)) }
     ensures placed { IsOk result → CanPlace (IsMember set.now) (requests_of (family_of family) lengths.now) }
-    ensures exhausted { result ≡ Err Exhausted
+    ensures keeps { IfOk result (λ list. KeepsRoom (IsMember set.now) (family_of family) lengths.now
+        (map ip_network list.items)) }
+    ensures prefix_len { (result ≡ Err Pool.PrefixLen) ↔ Any (λ p. width (family_of family) < p) lengths.now }
+    ensures exhausted { result ≡ Err Pool.Exhausted
         → ¬ (CanPlace (IsMember set.now) (requests_of (family_of family) lengths.now)) }
+    ensures memory { result ≡ Err Pool.Memory → All (HasRoom (IsMember set.now) (family_of family)) lengths.now }
+    ensures errors { IsErr result
+        → (result ≡ Err Pool.PrefixLen) ⊎ ((result ≡ Err Pool.Exhausted) ⊎ (result ≡ Err Pool.Memory)) }
 {
     match family {
         PlanFamily::Ipv4 => plan_ipv4(alloc, set, lengths),
@@ -162,11 +166,13 @@ pub struct Plan {
 }
 
 /// Returns networks in the set: a network for each prefix length, in the order of the lengths. No two of them share an
-/// address.
+/// address. The plan keeps room: whatever further networks could be placed beside networks of these lengths can still
+/// be placed.
 ///
 /// The error is `Family` if the family is not chosen. Otherwise it is `PrefixLen` if a length is too long for the
 /// family, with the first such length and the greatest length of the family. Otherwise it is `NoPlacement` exactly if
-/// no such networks exist, unless memory runs out.
+/// no such networks exist, unless memory runs out. If the set has no room even for one of the lengths by itself, the
+/// error is never `Memory`.
 ///
 /// ```text
 /// lengths 26, 25 in 10.0.0.0/24: 10.0.0.0/26 and 10.0.0.128/25, which are IPv4
@@ -181,6 +187,9 @@ pub fn plan_networks(
         IfOk result (λ plan. IsPlanFamily r.families (IsMember set.now) (family_of plan.family)) }
     ensures plan { let r = request.entry in
         IfOk result (λ plan. IsPlan (IsMember set.now) (family_of plan.family) r.lengths.now
+        (map ip_network plan.networks.items)) }
+    ensures keeps { let r = request.entry in
+        IfOk result (λ plan. KeepsRoom (IsMember set.now) (family_of plan.family) r.lengths.now
         (map ip_network plan.networks.items)) }
     ensures placed { let r = request.entry in
         IsOk result → ¬ (HasNoPlacement (IsMember set.now) r.families r.lengths.now) }

@@ -1,5 +1,6 @@
 //! The verdicts of a prefix list on the networks of a list.
 ghost use Rattle.std.specs.Prelude.{◌≡◌, ◌↔◌, IfOk, IfErr, OnOk, IsTrue, map};
+ghost use Rattle.ipnet_rules.specs.CompiledListOf.{rules_of};
 ghost use Rattle.netset_lib.specs.PrefixAnswers.{IsListNetwork, IsNoListNetwork, AreVerdicts, IsOneDenied};
 ghost use Rattle.netset_lib.specs.PrefixAnswers.{IsVerdictAnswer};
 ghost use Rattle.netset_lib.specs.PrefixReading.{ArePrefixesRead, AreNetworksRead, network_in, IsPrefixFailure};
@@ -7,11 +8,11 @@ ghost use Rattle.netset_lib.specs.PrefixReading.{AddsVerdict};
 ghost use Rattle.netset_lib.specs.RuleLines as lines;
 ghost use Rattle.netset_lib.specs.declared.prefix_answer.PrefixFailure.TheVariants.{Memory};
 
-use crate::content_line::{RefusedText, content_lines, keep_read};
 use crate::network_entry::{NetworkCause, read_network_entry};
 use crate::prefix_line::{PrefixCause, read_prefix_rule};
 use ipnet::{Grammar, IpNet};
-use ipnet_rules::{Action, PrefixList, PrefixRule};
+use ipnet_lists::{RefusedText, content_lines, keep_read};
+use ipnet_rules::{Action, CompiledPrefixList, PrefixList, PrefixRule};
 use std::alloc::{AllocError, Global};
 
 /// Why there are no verdicts.
@@ -53,7 +54,7 @@ struct PrefixLines {
 fn read_prefixes(alloc: Global, bytes: &[u8], grammar: Grammar) -> Result<PrefixLines, AllocError>
     ensures { IfOk result (ArePrefixesRead grammar bytes.now) }
 {
-    let lines = content_lines(alloc, bytes, grammar)?;
+    let lines = content_lines(alloc, bytes)?;
     let mut rules = Vec::new(alloc);
     let mut refused = Vec::new(alloc);
     for line in lines.as_slice() {
@@ -96,7 +97,7 @@ fn read_networks<'a>(
 ) -> Result<NetworkLines<'a>, AllocError>
     ensures { IfOk result (AreNetworksRead grammar bytes.now) }
 {
-    let lines = content_lines(alloc, bytes, grammar)?;
+    let lines = content_lines(alloc, bytes)?;
     let mut networks = Vec::new(alloc);
     let mut refused = Vec::new(alloc);
     for line in lines.as_slice() {
@@ -119,10 +120,10 @@ fn word_of(action: Action) -> &'static [u8]
 /// Appends the verdict of the list on the network. Fails if memory runs out.
 fn push_verdict(
     verdicts: &mut Verdicts,
-    list: &PrefixList,
+    list: &CompiledPrefixList,
     n: ListNetwork<'_>,
 ) -> Result<(), AllocError>
-    ensures { OnOk result (AddsVerdict list.now.list.items (network_in n.entry) verdicts.old verdicts.new) }
+    ensures { OnOk result (AddsVerdict (rules_of list.now) (network_in n.entry) verdicts.old verdicts.new) }
 {
     let action = list.verdict(&n.network);
     verdicts.text.extend_from_slice(word_of(action))?;
@@ -136,12 +137,12 @@ fn push_verdict(
 /// Returns the verdicts of the list on the networks, in order. Fails if memory runs out.
 fn verdicts_of(
     alloc: Global,
-    list: &PrefixList,
+    list: &CompiledPrefixList,
     networks: &[ListNetwork<'_>],
 ) -> Result<Verdicts, AllocError>
-    ensures text { IfOk result (λ v. AreVerdicts list.now.list.items (map network_in networks.now) v.text.items) }
+    ensures text { IfOk result (λ v. AreVerdicts (rules_of list.now) (map network_in networks.now) v.text.items) }
     ensures denied { IfOk result (λ v.
-        IsTrue v.denied ↔ IsOneDenied list.now.list.items (map network_in networks.now)) }
+        IsTrue v.denied ↔ IsOneDenied (rules_of list.now) (map network_in networks.now)) }
 {
     let mut verdicts = Verdicts {
         text: Vec::new(alloc),
@@ -151,6 +152,20 @@ fn verdicts_of(
         push_verdict(&mut verdicts, list, *network)?;
     }
     Ok(verdicts)
+}
+
+/// Compiles the rules, and returns their verdicts on the networks, in order. Fails if memory runs out.
+fn compiled_verdicts(
+    alloc: Global,
+    rules: Vec<PrefixRule>,
+    networks: &[ListNetwork<'_>],
+) -> Result<Verdicts, AllocError>
+    ensures text { IfOk result (λ v. AreVerdicts rules.items (map network_in networks.now) v.text.items) }
+    ensures denied { IfOk result (λ v.
+        IsTrue v.denied ↔ IsOneDenied rules.items (map network_in networks.now)) }
+{
+    let list = CompiledPrefixList::from_list(alloc, PrefixList { list: rules })?;
+    verdicts_of(alloc, &list, networks)
 }
 
 /// Returns the verdicts of a prefix list on the networks of a list: a line for each network, in order, with `permit` or
@@ -178,10 +193,10 @@ pub fn prefix_verdicts(
     if !lines.refused.is_empty() {
         return Err(PrefixFailure::Prefixes(lines.refused));
     }
-    let list = PrefixList { list: lines.rules };
     let read = read_networks(alloc, networks, grammar)?;
     if !read.refused.is_empty() {
         return Err(PrefixFailure::Networks(read.refused));
     }
-    Ok(verdicts_of(alloc, &list, read.networks.as_slice())?)
+    let networks = read.networks.as_slice();
+    Ok(compiled_verdicts(alloc, lines.rules, networks)?)
 }

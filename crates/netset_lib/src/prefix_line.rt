@@ -9,8 +9,8 @@ ghost use Rattle.netset_lib.specs.PrefixSteps.{HasPair, IsRuleOf, IsBoundsCause}
 use crate::length::read_decimal;
 use crate::network_entry::{NetworkCause, read_network_entry};
 use crate::rule_line::action_of;
-use crate::word::cut_word;
 use ipnet::{Grammar, IpNet};
+use ipnet_lists::cut_word;
 use ipnet_rules::{Action, PrefixRule, PrefixRuleError};
 use std::str;
 
@@ -18,7 +18,7 @@ use std::str;
 ///
 /// ```text
 /// allow 10.0.0.0/8                  UnknownWord
-/// permit any                        NoNetwork(NoEntry(None))
+/// permit any                        NoNetwork(NoEntry(Some(AllAddresses)))
 /// permit 10.0.0.0/8 ge              BadBounds
 /// permit 10.0.0.0/8 ge 8            RefusedBounds(GeOutOfRange)
 /// permit 10.0.0.0/8 le 33           RefusedBounds(LeOutOfRange)

@@ -1,38 +1,23 @@
-//! The command `prefix-list` of the program, over any writers.
-ghost use Rattle.std.specs.Prelude.{◌≡◌, ◌≤◌, ◌⊎◌, true, false};
-ghost use Rattle.std.specs.Io.KnownBytes.{Keeps};
+//! The command `prefix-list` of the program.
+ghost use Rattle.std.specs.Prelude.{◌≡◌, not, List, ℕ, None};
 ghost use Rattle.netset_lib.specs.PrefixAnswers.{IsVerdictAnswer};
-ghost use Rattle.ipnet_text.specs.Outputs.{IsWritten, IsFrontWritten};
+ghost use Rattle.netset_lib.specs.PrefixReading.{IsPrefixFailure};
 
 use crate::apply_program::report_network_cause;
-use crate::content_line::report_refused;
 use crate::network_entry::NetworkCause;
 use crate::prefix_answer::{PrefixFailure, prefix_verdicts};
 use crate::prefix_line::PrefixCause;
-use crate::program::report_text;
-use crate::refused::LineCause;
-use crate::write::write_or_report;
+use crate::program::name_of;
+use crate::runs::{Report, TextCommand};
 use ipnet::Grammar;
+use ipnet_lists::{LineCause, report_refused, report_text};
 use std::alloc::Global;
 use std::io;
 use std::io::Write;
 
-/// A prefix list, a list of networks, and the grammar of both.
-#[derive(Clone, Copy)]
-pub struct PrefixRequest<'a> {
-    /// The prefix list.
-    pub prefixes: &'a [u8],
-    /// The networks.
-    pub networks: &'a [u8],
-    /// The grammar of the networks in both.
-    pub grammar: Grammar,
-}
-
-/// Writes the verdicts of the prefix list on the networks to `out`, as `prefix_verdicts` makes them, and returns the
-/// exit status.
+/// The verdicts of a prefix list on the networks of a list, as `prefix_verdicts` makes them.
 ///
-/// `names` are the names of the prefix list and of the list of networks, for the reports on `faults`. If a report
-/// cannot be written, the status is the same.
+/// The names: the prefix list, and then the list of networks.
 ///
 /// | Status | On `faults` | When |
 /// |---|---|---|
@@ -47,55 +32,52 @@ pub struct PrefixRequest<'a> {
 /// "permit 10.0.0.0/8 le 16\n" on "10.1.0.0/16\n": status 0, and out gets "permit 10.1.0.0/16\n"
 /// "permit 10.0.0.0/8 le 16\n" on "10.1.0.0/24\n": status 1, and out gets "deny 10.1.0.0/24\n"
 /// ```
-pub fn run_prefix_list<W: Write, X: Write>(
-    alloc: Global,
-    request: PrefixRequest<'_>,
-    names: (&str, &str),
-    out: &mut W,
-    faults: &mut X,
-) -> u8
-    ensures status { result ≤ 2 }
-    ensures denied { let r = request.entry in result ≡ 1
-        → IsWritten (IsVerdictAnswer r.grammar r.prefixes.now r.networks.now true)
-        (W.contents out.old) (W.contents out.new) }
-    ensures permitted { let r = request.entry in result ≡ 0
-        → IsWritten (IsVerdictAnswer r.grammar r.prefixes.now r.networks.now false)
-        (W.contents out.old) (W.contents out.new) }
-    ensures cut_short { let r = request.entry in result ≡ 2 → Keeps (W.contents out.old) (W.contents out.new)
-        ⊎ IsFrontWritten (IsVerdictAnswer r.grammar r.prefixes.now r.networks.now true)
-        (W.contents out.old) (W.contents out.new)
-        ⊎ IsFrontWritten (IsVerdictAnswer r.grammar r.prefixes.now r.networks.now false)
-        (W.contents out.old) (W.contents out.new) }
-    ensures faultless { result ≤ 1 → Keeps (X.contents faults.old) (X.contents faults.new) }
-{
-    let verdicts = match prefix_verdicts(
-        alloc,
-        request.prefixes,
-        request.networks,
-        request.grammar,
-    ) {
-        Ok(verdicts) => verdicts,
-        Err(failure) => {
-            let _ = report(faults, names, &failure);
-            return 2;
-        }
-    };
-    if !write_or_report(out, faults, verdicts.text.as_slice()) {
-        return 2;
-    }
-    if verdicts.denied { 1 } else { 0 }
+#[derive(Drop)]
+pub struct PrefixListCommand<'a> {
+    /// The allocator of the verdicts.
+    pub alloc: Global,
+    /// The prefix list.
+    pub prefixes: &'a [u8],
+    /// The networks.
+    pub networks: &'a [u8],
+    /// The grammar of the networks in both.
+    pub grammar: Grammar,
 }
 
-/// Reports the failure.
-fn report<X: Write>(
-    faults: &mut X,
-    names: (&str, &str),
-    failure: &PrefixFailure,
-) -> io::Result<()> {
-    match failure {
-        PrefixFailure::Memory => writeln!(faults, "netset: out of memory"),
-        PrefixFailure::Prefixes(lines) => report_refused(faults, names.0, lines.as_slice()),
-        PrefixFailure::Networks(lines) => report_refused(faults, names.1, lines.as_slice()),
+impl<'a> TextCommand for PrefixListCommand<'a> {
+    type Text = Vec<u8>;
+
+    type Failure = PrefixFailure;
+
+    ghost is_answer = { λ c text. (denied : _) × IsVerdictAnswer c.grammar c.prefixes.now c.networks.now denied text };
+
+    ghost is_outcome = { λ c permitted. (denied : _) × (permitted ≡ not denied)
+        × ((text : List ℕ) × IsVerdictAnswer c.grammar c.prefixes.now c.networks.now denied text) };
+
+    ghost is_failure = { λ c. IsPrefixFailure c.grammar c.prefixes.now c.networks.now };
+
+    fn answer(self) -> Result<(Vec<u8>, bool), PrefixFailure> {
+        let verdicts = prefix_verdicts(self.alloc, self.prefixes, self.networks, self.grammar)?;
+        Ok((verdicts.text, !verdicts.denied))
+    }
+}
+
+impl Report for PrefixFailure {
+    ghost exit = { λ _. 2 };
+
+    ghost told = { λ _ _. None };
+
+    fn tell<X: Write>(self, names: &[&str], faults: &mut X) -> u8 {
+        let _ = match self {
+            PrefixFailure::Memory => writeln!(faults, "netset: out of memory"),
+            PrefixFailure::Prefixes(lines) => {
+                report_refused(faults, name_of(names, 0), lines.as_slice())
+            }
+            PrefixFailure::Networks(lines) => {
+                report_refused(faults, name_of(names, 1), lines.as_slice())
+            }
+        };
+        2
     }
 }
 

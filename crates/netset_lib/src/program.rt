@@ -1,39 +1,24 @@
 //! The program, over any writers.
-ghost use Rattle.std.specs.Prelude.{◌≡◌, ◌≤◌, ◌==◌, ◌⊎◌, ◌↔◌, List, ℕ, IsTrue, IfSome};
+ghost use Rattle.std.specs.Prelude.{◌≡◌, ◌≤◌, ◌==◌, ◌⊎◌, ◌↔◌, List, ℕ};
 ghost use Rattle.std.specs.Io.KnownBytes.{Keeps};
-ghost use Rattle.netset_lib.specs.PlanAnswers.{IsResultSet};
-ghost use Rattle.netset_lib.specs.Replies.{IsOutcome};
-ghost use Rattle.netset_lib.specs.Runs.{IsAnswered, IsCutShort};
-ghost use Rattle.netset_lib.specs.Sessions.{WereRead, WereCombined};
+ghost use Rattle.netset_lib.specs.Replies.{IsWorkAnswer, IsOutcome, IsWorkFailure};
+ghost use Rattle.netset_lib.specs.Sessions.{WereRead};
 ghost use Rattle.netset_lib.specs.Streams.{IsWorkStreamed, IsWorkStreamedInPart};
-ghost use Rattle.netset_lib.specs.declared.answer.Request.{Request};
 ghost use Rattle.netset_lib.specs.declared.command.Work.{Work};
 
 use crate::answer::Answer;
-use crate::cause::{Cause, NotEntry};
 use crate::failure::Failure;
-use crate::refused::{LineCause, report_since};
+use crate::runs::TextCommand;
 use crate::session::Session;
 use crate::session::stream::{StreamFailure, Streamed};
-use crate::write::write_or_report;
-use ipnet_sets::IpSet;
-use std::alloc::Global;
+use ipnet_lists::report_since;
 use std::io;
 use std::io::{Read, Write};
-
-/// At most this many bytes of a refused line are reported.
-const MOST_SHOWN: usize = 100;
-
-/// The words of a report for a line that is not an entry.
-pub(crate) const NO_ENTRY: &str = "not a network, an address or a range";
 
 /// The report of a complement that has no family.
 const NO_FAMILY: &str = "netset: the list has no entries: choose --ipv4 or --ipv6, or both";
 
-/// Writes the answer of the session to `out`, and returns the exit status.
-///
-/// `names` are the names of the lists, in order, for the reports on `faults`. If a report cannot be written, the status
-/// is the same.
+/// The answer of the session, whose lists have these names.
 ///
 /// | Status | On `faults` | When |
 /// |---|---|---|
@@ -55,28 +40,32 @@ const NO_FAMILY: &str = "netset: the list has no entries: choose --ipv4 or --ipv
 /// Compare of "10.0.0.0/31\n" and "10.0.0.0\n":     status 1, and out gets
 ///     "only in the first: IPv4 1, IPv6 0\nonly in the second: IPv4 0, IPv6 0\n"
 /// ```
-pub fn run<W: Write, X: Write>(session: Session, names: &[&str], out: &mut W, faults: &mut X) -> u8
-    ensures status { result ≤ 2 }
-    ensures answered { result ≤ 1 → (work : Work) → (lists : List (List ℕ)) → WereRead work lists session
-        → IsAnswered work names.now lists (W.contents out.old) (W.contents out.new) }
-    ensures outcome { result ≤ 1 → (work : Work) → (lists : List (List ℕ)) → WereRead work lists session
-        → IsOutcome work lists (result == 0) }
-    ensures cut_short { result ≡ 2 → (work : Work) → (lists : List (List ℕ)) → WereRead work lists session
-        → Keeps (W.contents out.old) (W.contents out.new)
-        ⊎ IsCutShort work names.now lists (W.contents out.old) (W.contents out.new) }
-    ensures faultless { result ≤ 1 → Keeps (X.contents faults.old) (X.contents faults.new) }
-{
-    let Answer { text, succeeded } = match session.answer(names) {
-        Ok(answer) => answer,
-        Err(failure) => {
-            let _ = report_failure(faults, names, &failure);
-            return 2;
-        }
-    };
-    if !write_or_report(out, faults, text.as_bytes()) {
-        return 2;
+pub struct AnswerCommand<'a> {
+    /// The session.
+    pub session: Session,
+    /// The names of its lists, in order; `Count` prints them.
+    pub names: &'a [&'a str],
+}
+
+impl<'a> TextCommand for AnswerCommand<'a> {
+    type Text = String;
+
+    type Failure = Failure;
+
+    ghost is_answer = { λ command text. (work : Work) → (lists : List (List ℕ)) → WereRead work lists command.session
+        → IsWorkAnswer work command.names.now lists text };
+
+    ghost is_outcome = { λ command succeeded. (work : Work) → (lists : List (List ℕ))
+        → WereRead work lists command.session → IsOutcome work lists succeeded };
+
+    ghost is_failure = { λ command failure. (work : Work) → (lists : List (List ℕ))
+        → WereRead work lists command.session → IsWorkFailure work lists failure };
+
+    fn answer(self) -> Result<(String, bool), Failure> {
+        let AnswerCommand { session, names } = self;
+        let Answer { text, succeeded } = session.answer(names)?;
+        Ok((text, succeeded))
     }
-    if succeeded { 0 } else { 1 }
 }
 
 /// Writes the answers of a filter or a route to `out` while the second list is read from `input`, and returns the exit
@@ -84,7 +73,7 @@ pub fn run<W: Write, X: Write>(session: Session, names: &[&str], out: &mut W, fa
 ///
 /// | Status | On `faults` | When |
 /// |---|---|---|
-/// | 2 | as `run` reports it | the first list has lines that are not entries, or the work cannot be streamed |
+/// | 2 | as `AnswerCommand` says | the first list has lines that are not entries, or the work cannot be streamed |
 /// | 2 | `NAME:LINE: not a network, an address or a range: TEXT (CAUSE)` | such lines of the second list are left out |
 /// | 2 | `netset: NAME: cannot be read`, or `out of memory` | the second list is answered in part |
 /// | 2 | `netset: output cannot be written` | a write fails, or a flush |
@@ -144,42 +133,23 @@ fn report_stream<X: Write>(
     match failure {
         StreamFailure::Start(failure) => report_failure(faults, names, failure),
         StreamFailure::Read(failure) => {
-            let name = names.get(1).copied().unwrap_or("list");
-            let name = name.as_bytes().escape_ascii();
+            let name = name_of(names, 1).as_bytes().escape_ascii();
             writeln!(faults, "netset: {name}: {failure}")
         }
         StreamFailure::Unwritable => writeln!(faults, "netset: output cannot be written"),
     }
 }
 
-/// Returns the session's allocator and the addresses that its operation makes of its lists. If there are none, reports
-/// why on `faults`, as `run` does, and returns `None`. `names` are the names of the lists.
+/// Returns the name of the list with this index.
 ///
 /// ```text
-/// Union of "10.0.0.0/31\n":              the allocator, and the set of 10.0.0.0 and 10.0.0.1
-/// Union of "10.0.0.0/33\n", named a:     None, and faults gets
-///     "a:1: not a network, an address or a range: 10.0.0.0/33 (the prefix length is above 32)\n"
+/// 1 of a and b: "b"; 2: "list"
 /// ```
-pub fn set_or_report<X: Write>(
-    session: Session,
-    names: &[&str],
-    faults: &mut X,
-) -> Option<(Global, IpSet)>
-    ensures set { IfSome result (λ found. (request : Request) → (lists : List (List ℕ))
-        → WereCombined request lists session → IsResultSet request lists found.1) }
-    ensures faultless { IfSome result (λ _. Keeps (X.contents faults.old) (X.contents faults.new)) }
-{
-    let alloc = session.alloc();
-    match session.into_set() {
-        Ok(set) => Some((alloc, set)),
-        Err(failure) => {
-            let _ = report_failure(faults, names, &failure);
-            None
-        }
-    }
+pub fn name_of<'a>(names: &[&'a str], index: usize) -> &'a str {
+    names.get(index).copied().unwrap_or("list")
 }
 
-/// Reports the failure of a session on `faults`, as `run` does. `names` are the names of the lists.
+/// Reports the failure of a session on `faults`, as `AnswerCommand` says. `names` are the names of the lists.
 ///
 /// ```text
 /// Memory: "netset: out of memory"
@@ -194,54 +164,5 @@ pub fn report_failure<X: Write>(
         Failure::NoFamily => writeln!(faults, "{NO_FAMILY}"),
         Failure::Memory => writeln!(faults, "netset: out of memory"),
         Failure::Refused(lines) => report_since(faults, names, lines, (0, 0)),
-    }
-}
-
-/// Reports a refused text of this line, and what it is not. Bytes of the name and the text that are not printable ASCII
-/// are escaped. Of a long text only the beginning is reported, so that a file that is not a list does not fill the
-/// screen.
-///
-/// ```text
-/// the name a, line 2, what "not a rule", the text "x\ty": "a:2: not a rule: x\\ty"
-/// ```
-pub fn report_text<X: Write>(
-    faults: &mut X,
-    name: &str,
-    number: usize,
-    what: &str,
-    text: &[u8],
-) -> io::Result<()> {
-    let shown = text.len().min(MOST_SHOWN);
-    let rest = if shown < text.len() { ".." } else { "" };
-    let text = text[..shown].escape_ascii();
-    let name = name.as_bytes().escape_ascii();
-    write!(faults, "{name}:{number}: {what}: {text}{rest}")
-}
-
-impl LineCause for Option<Cause> {
-    fn report<X: Write>(
-        &self,
-        faults: &mut X,
-        name: &str,
-        number: usize,
-        text: &[u8],
-    ) -> io::Result<()> {
-        report_text(faults, name, number, NO_ENTRY, text)?;
-        match self {
-            Some(cause) => writeln!(faults, " ({cause})"),
-            None => writeln!(faults),
-        }
-    }
-}
-
-impl LineCause for NotEntry {
-    fn report<X: Write>(
-        &self,
-        faults: &mut X,
-        name: &str,
-        number: usize,
-        text: &[u8],
-    ) -> io::Result<()> {
-        self.cause(text).report(faults, name, number, text)
     }
 }

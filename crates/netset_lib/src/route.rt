@@ -3,17 +3,15 @@ ghost use Rattle.std.specs.Prelude.{◌≡◌, ◌↔◌, ◌++◌, IsTrue, IfOk
 ghost use Rattle.ipnet_base.specs.Address.{ip_address};
 ghost use Rattle.ipnet_base.specs.Network.{InBlock, truncation};
 ghost use Rattle.ipnet.specs.NetworkOf.{ip_network};
-ghost use Rattle.ipnet_sets.specs.Routes.{ip_networks};
-ghost use Rattle.netset_lib.specs.EntryOf.{entry_range};
-ghost use Rattle.netset_lib.specs.Reading.{WasMadeOf};
+ghost use Rattle.ipnet_routes.specs.Routes.{ip_networks};
+ghost use Rattle.ipnet_lists.specs.EntryOf.{entry_range};
+ghost use Rattle.ipnet_lists.specs.Reading.{WasMadeOf};
 ghost use Rattle.netset_lib.specs.Routing.{IsTruncatedOne, AddsMaximal, AreTableNetworks, InTable, HasEnds};
 ghost use Rattle.netset_lib.specs.Routing.{IsLongestIfAny, route_line};
 
-use crate::entry::Entry;
-use crate::reader::Collector;
-use crate::reading::{ReadFailure, Reading};
 use ipnet::{IpAddr, IpNet};
-use ipnet_sets::RouteTable;
+use ipnet_lists::{Collector, Entry, ReadFailure, Reading};
+use ipnet_routes::RouteTable;
 use std::alloc::AllocError;
 use std::io::Read;
 

@@ -7,9 +7,9 @@ ghost use Rattle.netset_lib.specs.RuleAnswers.{IsUnreachedText, IsRuleFailure, u
 ghost use Rattle.netset_lib.specs.RuleAnswers.{IsPermittedSet};
 ghost use Rattle.netset_lib.specs.RuleContentsOf.{contents_of, line_of_rule, rule_refusal};
 
-use crate::content_line::{ListFailure, RefusedText};
 use crate::rule_line::RuleCause;
 use crate::rule_list::{RuleLine, RuleList};
+use ipnet_lists::{ListFailure, RefusedText};
 use ipnet_rules::{Action, Rule, Rules, Unreached};
 use ipnet_sets::IpSet;
 use std::alloc::{AllocError, Global};

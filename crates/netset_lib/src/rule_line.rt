@@ -4,17 +4,14 @@ ghost use Rattle.ipnet_base.specs.Address.{Address};
 ghost use Rattle.ipnet_rules.specs.declared.rules.Action.{Action};
 ghost use Rattle.ipnet_rules.specs.Rules.{Matches};
 ghost use Rattle.ipnet_sets.specs.SetRanges.{IsInRange};
-ghost use Rattle.netset_lib.specs.Causes.{IsReportedCause};
-ghost use Rattle.netset_lib.specs.Entries.{IsNoEntry};
-ghost use Rattle.netset_lib.specs.EntryOf.{entry_range};
+ghost use Rattle.ipnet_lists.specs.Causes.{IsReportedCause};
+ghost use Rattle.ipnet_lists.specs.Entries.{IsNoEntry};
+ghost use Rattle.ipnet_lists.specs.EntryOf.{entry_range};
 ghost use Rattle.netset_lib.specs.RuleLines.{word_of, IsRuleText, IsNoRule, IsRuleCause};
 ghost use Rattle.netset_lib.specs.RuleSteps.{IsEntryCause};
 
-use crate::cause::{Cause, cause_of};
-use crate::entry::Entry;
-use crate::reader::read_text;
-use crate::word::{cut_word, first_blank};
 use ipnet::Grammar;
+use ipnet_lists::{Cause, Entry, cause_of, cut_word, first_blank, read_text};
 use ipnet_rules::{Action, Addresses, Rule};
 
 /// Why a line is not a rule.
@@ -24,7 +21,7 @@ use ipnet_rules::{Action, Addresses, Rule};
 /// permit                          NoEntry
 /// permit 10.0.0.0/8 10.1.0.0/16   TwoEntries
 /// deny 10.0.0.0/33                BadEntry(Some(LengthAbove32))
-/// deny all                        BadEntry(None)
+/// deny 10.0.0.0/x                 BadEntry(None)
 /// ```
 #[derive(Clone, Copy, Debug, PartialEq, Eq, Drop)]
 pub enum RuleCause {

@@ -4,10 +4,9 @@ ghost use Rattle.ipnet_text.specs.Inputs.{GaveWhole};
 ghost use Rattle.netset_lib.specs.RuleContentsOf.{contents_of};
 ghost use Rattle.netset_lib.specs.RuleLines.{IsRuleList, no_rules};
 
-use crate::content_line::{ContentLine, RefusedText, content_lines};
-use crate::reading::{ReadFailure, read_bytes};
 use crate::rule_line::{RuleCause, read_rule};
 use ipnet::Grammar;
+use ipnet_lists::{ContentLine, ReadFailure, RefusedText, content_lines, read_bytes};
 use ipnet_rules::Rule;
 use std::alloc::{AllocError, Global};
 use std::io::Read;
@@ -38,7 +37,7 @@ pub struct RuleList {
 }
 
 impl RuleList {
-    ghost use Rattle.netset_lib.specs.ContentLineOf.{line_of};
+    ghost use Rattle.ipnet_lists.specs.ContentLineOf.{line_of};
     ghost use Rattle.netset_lib.specs.RuleLines.{rule_and, refusal_and};
     ghost use Rattle.netset_lib.specs.RuleSteps.{joined, AddsRule};
 
@@ -109,7 +108,7 @@ impl RuleList {
         ensures { IfOk result (λ list. IsRuleList grammar bytes.now (contents_of list)) }
     {
         let mut list = RuleList::new(alloc);
-        let lines = content_lines(alloc, bytes, grammar)?;
+        let lines = content_lines(alloc, bytes)?;
         for line in lines.as_slice() {
             list.add_line(*line, grammar)?;
         }

@@ -1,23 +1,18 @@
-//! The command `unreached` of the program, over any writers.
-ghost use Rattle.std.specs.Prelude.{◌≡◌, ◌≢◌, ◌≤◌, ◌⊎◌, ◌↔◌, List, [], ℕ};
-ghost use Rattle.std.specs.Io.KnownBytes.{Keeps};
+//! The command `unreached` of the program.
+ghost use Rattle.std.specs.Prelude.{◌≡◌, List, ℕ};
 ghost use Rattle.ipnet.specs.declared.parser.Grammar.{Grammar};
-ghost use Rattle.ipnet_text.specs.Outputs.{IsWritten, IsFrontWritten};
-ghost use Rattle.netset_lib.specs.RuleAnswers.{IsUnreachedAnswer, IsOneUnreached, AreAllReached};
+ghost use Rattle.netset_lib.specs.RuleAnswers.{IsUnreachedAnswer, IsRuleFailure, IsReachedOutcome};
 ghost use Rattle.netset_lib.specs.RuleContentsOf.{contents_of};
 ghost use Rattle.netset_lib.specs.RuleLines.{IsRuleList};
 
-use crate::program::{NO_ENTRY, report_text};
-use crate::refused::LineCause;
 use crate::rule_line::RuleCause;
 use crate::rule_list::RuleList;
-use crate::write::write_or_report;
+use crate::runs::TextCommand;
+use ipnet_lists::{LineCause, ListFailure, NO_ENTRY, report_text};
 use std::io;
 use std::io::Write;
 
-/// Writes the lines of the rules that decide on no address to `out`, and returns the exit status.
-///
-/// `name` is the name of the list, for the reports on `faults`. If a report cannot be written, the status is the same.
+/// The lines of the rules that decide on no address.
 ///
 /// | Status | On `faults` | When |
 /// |---|---|---|
@@ -32,42 +27,30 @@ use std::io::Write;
 /// ```text
 /// "deny 10.0.0.0/8\npermit 10.0.0.1\n": status 1, and out gets "line 2: permit 10.0.0.1\n  line 1: deny 10.0.0.0/8\n"
 /// ```
-pub fn run_unreached<W: Write, X: Write>(
-    list: RuleList,
-    name: &str,
-    out: &mut W,
-    faults: &mut X,
-) -> u8
-    ensures status { result ≤ 2 }
-    ensures answered { result ≤ 1 → (grammar : Grammar) → (bytes : List ℕ)
-        → IsRuleList grammar bytes (contents_of list)
-        → IsWritten (IsUnreachedAnswer grammar bytes) (W.contents out.old) (W.contents out.new) }
-    ensures unreached { result ≡ 1 → (grammar : Grammar) → (bytes : List ℕ)
-        → IsRuleList grammar bytes (contents_of list) → IsOneUnreached grammar bytes }
-    ensures reached { result ≡ 0 → (grammar : Grammar) → (bytes : List ℕ)
-        → IsRuleList grammar bytes (contents_of list) → AreAllReached grammar bytes }
-    ensures cut_short { result ≡ 2 → (grammar : Grammar) → (bytes : List ℕ)
-        → IsRuleList grammar bytes (contents_of list)
-        → Keeps (W.contents out.old) (W.contents out.new)
-        ⊎ IsFrontWritten (IsUnreachedAnswer grammar bytes) (W.contents out.old) (W.contents out.new) }
-    ensures faultless { result ≤ 1 → Keeps (X.contents faults.old) (X.contents faults.new) }
-{
-    let text = match list.unreached() {
-        Ok(text) => text,
-        Err(failure) => return failure.report(faults, name),
-    };
-    if !write_or_report(out, faults, text.as_slice()) {
-        return 2;
-    }
-    status_of(text.as_slice())
+#[derive(Drop)]
+pub struct UnreachedCommand {
+    /// The rules.
+    pub list: RuleList,
 }
 
-/// Returns the exit status for these lines: 1 if there are any.
-fn status_of(text: &[u8]) -> u8
-    ensures status { result ≤ 1 }
-    ensures unreached { (result ≡ 1) ↔ (text.now ≢ []) }
-{
-    if text.is_empty() { 0 } else { 1 }
+impl TextCommand for UnreachedCommand {
+    type Text = Vec<u8>;
+
+    type Failure = ListFailure<RuleCause>;
+
+    ghost is_answer = { λ command text. (grammar : Grammar) → (bytes : List ℕ)
+        → IsRuleList grammar bytes (contents_of command.list) → IsUnreachedAnswer grammar bytes text };
+
+    ghost is_outcome = { λ command reached. (grammar : Grammar) → (bytes : List ℕ)
+        → IsRuleList grammar bytes (contents_of command.list) → IsReachedOutcome grammar bytes reached };
+
+    ghost is_failure = { λ command. IsRuleFailure (contents_of command.list) };
+
+    fn answer(self) -> Result<(Vec<u8>, bool), ListFailure<RuleCause>> {
+        let text = self.list.unreached()?;
+        let all_reached = text.is_empty();
+        Ok((text, all_reached))
+    }
 }
 
 impl LineCause for RuleCause {

@@ -5,10 +5,10 @@
 ghost use Rattle.std.specs.Prelude.{◌≡◌, ◌↔◌, List, ℕ, Option};
 ghost use Rattle.ipnet_base.specs.Address.{Address, IsAddress};
 ghost use Rattle.ipnet_sets.specs.Members.{IsMember, HaveSameAddresses};
-ghost use Rattle.netset_lib.specs.declared.cause.Cause.{Cause};
+ghost use Rattle.ipnet_lists.specs.declared.cause.Cause.{Cause};
 ghost use Rattle.netset_lib.specs.Answers.{IsSetText};
-ghost use Rattle.netset_lib.specs.Causes.{IsReportedCause};
-ghost use Rattle.netset_lib.specs.Lists.{ListEntry, Refusal, IsListRead};
+ghost use Rattle.ipnet_lists.specs.Causes.{IsReportedCause};
+ghost use Rattle.ipnet_lists.specs.Lists.{ListEntry, Refusal, IsListRead};
 ghost use Rattle.netset_lib.specs.Scripts.{Script, IsCall, IsInScript, Gives, IsListOf};
 
 use crate::answer::Form;

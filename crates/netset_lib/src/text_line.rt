@@ -1,17 +1,14 @@
 //! A line of a table with texts: an entry, and the text after it.
 ghost use Rattle.std.specs.Prelude.{◌↔◌, length, IsTrue, IfErr, IfOk};
-ghost use Rattle.netset_lib.specs.Entries.{IsNoEntry, ReadsAs};
-ghost use Rattle.netset_lib.specs.Lists.{IsCommentAt};
+ghost use Rattle.ipnet_lists.specs.Entries.{IsNoEntry, ReadsAs};
+ghost use Rattle.ipnet_lists.specs.Comments.{IsCommentAt};
 ghost use Rattle.netset_lib.specs.TextSteps.{line_in, IsAllowed};
 ghost use Rattle.netset_lib.specs.TextTables.{IsTextLine, IsNoTextLine, IsTextCause};
 
-use crate::cause::{Cause, cause_of};
-use crate::cause_bytes::has_byte;
-use crate::cause_words::has_mask_word;
-use crate::entry::Entry;
-use crate::reader::{comment_start, read_text};
-use crate::word::cut_word;
 use ipnet::Grammar;
+use ipnet_lists::{
+    Cause, Entry, cause_of, comment_start, cut_word, has_byte, has_mask_word, read_text,
+};
 use std::str;
 
 /// An entry of a table, and the text after it, which is empty if there is none.

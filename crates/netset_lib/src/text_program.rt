@@ -1,18 +1,16 @@
-//! The command `route --with-text` of the program, over any writers.
-ghost use Rattle.std.specs.Prelude.{◌≡◌, ◌≤◌, ◌⊎◌, true, false, IfSome};
+//! The command `route --with-text` of the program.
+ghost use Rattle.std.specs.Prelude.{◌≡◌, not, List, ℕ, None, IfSome};
 ghost use Rattle.std.specs.Io.KnownBytes.{Keeps};
-ghost use Rattle.ipnet_text.specs.Outputs.{IsWritten, IsFrontWritten};
+ghost use Rattle.netset_lib.specs.TextReplies.{IsTextFailure};
 ghost use Rattle.netset_lib.specs.TextTables.{IsTextRouteAnswer, IsTableOfTexts};
 
-use crate::cause::Cause;
-use crate::content_line::RefusedText;
 use crate::failure::Failure;
-use crate::program::{report_failure, report_text};
-use crate::refused::{MOST_LINES, report_more};
+use crate::program::{name_of, report_failure};
+use crate::runs::{Report, TextCommand};
 use crate::text_route::{TextFailure, table_of_texts, text_route_answers};
-use crate::write::write_or_report;
 use ipnet::Grammar;
-use ipnet_sets::RouteTable;
+use ipnet_lists::{Cause, MOST_LINES, RefusedText, report_more, report_text};
+use ipnet_routes::RouteTable;
 use std::alloc::Global;
 use std::io;
 use std::io::Write;
@@ -20,28 +18,16 @@ use std::io::Write;
 /// The words of a report for a line of a table.
 const NO_TEXT_LINE: &str = "not an entry, with or without text";
 
-/// A table with texts, a list of entries to look up, and the grammar of both.
-#[derive(Clone, Copy)]
-pub struct TextRequest<'a> {
-    /// The table.
-    pub table: &'a [u8],
-    /// The list.
-    pub list: &'a [u8],
-    /// The grammar of the entries in both.
-    pub grammar: Grammar,
-}
-
-/// Writes a line for each entry of the list to `out`, and returns the exit status: the entry as it is written, the
-/// longest network of the table that contains the whole entry, and the text of that network; or "-" after the entry if
-/// no network contains it.
+/// A line for each entry of a list: the entry as it is written, the longest network of a table that contains the whole
+/// entry, and the text of that network; or "-" after the entry if no network contains it.
 ///
 /// A line of the table is an entry, or an entry, blanks and a text. The text ends before a comment. It is UTF-8, does
 /// not begin with "-", has no NUL byte, and after an IPv4 address does not begin with a mask. A comment after ";" does
 /// not begin with an entry. An entry of the table counts as the fewest networks with its addresses. If several lines
 /// have one network, the last of them counts.
 ///
-/// `names` are the names of the table and of the list, for the reports on `faults`. If lines of the table are refused,
-/// refused lines of the list are not reported. If a report cannot be written, the status is the same.
+/// The names: the table, and then the list. If lines of the table are refused, refused lines of the list are not
+/// reported.
 ///
 /// | Status | On `faults` | When |
 /// |---|---|---|
@@ -57,42 +43,55 @@ pub struct TextRequest<'a> {
 ///     out gets "10.1.2.3 10.1.0.0/16 192.0.2.2\n10.9.9.9 10.0.0.0/8 192.0.2.1\n"
 /// the same table, and the list "::1\n": status 1, and out gets "::1 -\n"
 /// ```
-pub fn run_text_routes<W: Write, X: Write>(
-    alloc: Global,
-    request: TextRequest<'_>,
-    names: (&str, &str),
-    out: &mut W,
-    faults: &mut X,
-) -> u8
-    ensures status { result ≤ 2 }
-    ensures missing { let r = request.entry in result ≡ 1
-        → IsWritten (IsTextRouteAnswer r.grammar r.table.now r.list.now true)
-        (W.contents out.old) (W.contents out.new) }
-    ensures answered { let r = request.entry in result ≡ 0
-        → IsWritten (IsTextRouteAnswer r.grammar r.table.now r.list.now false)
-        (W.contents out.old) (W.contents out.new) }
-    ensures cut_short { let r = request.entry in result ≡ 2 → Keeps (W.contents out.old) (W.contents out.new)
-        ⊎ IsFrontWritten (IsTextRouteAnswer r.grammar r.table.now r.list.now true)
-        (W.contents out.old) (W.contents out.new)
-        ⊎ IsFrontWritten (IsTextRouteAnswer r.grammar r.table.now r.list.now false)
-        (W.contents out.old) (W.contents out.new) }
-    ensures faultless { result ≤ 1 → Keeps (X.contents faults.old) (X.contents faults.new) }
-{
-    let answers = match text_route_answers(alloc, request.table, request.list, request.grammar) {
-        Ok(answers) => answers,
-        Err(failure) => {
-            let _ = report(faults, names, failure);
-            return 2;
-        }
-    };
-    if !write_or_report(out, faults, answers.text.as_bytes()) {
-        return 2;
-    }
-    if answers.found { 1 } else { 0 }
+#[derive(Drop)]
+pub struct TextRoutesCommand<'a> {
+    /// The allocator of the lines.
+    pub alloc: Global,
+    /// The table.
+    pub table: &'a [u8],
+    /// The list.
+    pub list: &'a [u8],
+    /// The grammar of the entries in both.
+    pub grammar: Grammar,
 }
 
-/// Returns the table of networks with texts that the bytes are, as `run_text_routes` reads its table. If lines are
-/// refused, or memory runs out, reports it on `faults` as `run_text_routes` does, and returns `None`. `name` is the
+impl<'a> TextCommand for TextRoutesCommand<'a> {
+    type Text = String;
+
+    type Failure = TextFailure;
+
+    ghost is_answer = { λ c text. (missing : _) × IsTextRouteAnswer c.grammar c.table.now c.list.now missing text };
+
+    ghost is_outcome = { λ c complete. (missing : _) × (complete ≡ not missing)
+        × ((text : List ℕ) × IsTextRouteAnswer c.grammar c.table.now c.list.now missing text) };
+
+    ghost is_failure = { λ c. IsTextFailure c.grammar c.table.now c.list.now };
+
+    fn answer(self) -> Result<(String, bool), TextFailure> {
+        let answers = text_route_answers(self.alloc, self.table, self.list, self.grammar)?;
+        Ok((answers.text, !answers.found))
+    }
+}
+
+impl Report for TextFailure {
+    ghost exit = { λ _. 2 };
+
+    ghost told = { λ _ _. None };
+
+    fn tell<X: Write>(self, names: &[&str], faults: &mut X) -> u8 {
+        let _ = match self {
+            TextFailure::Table(lines) => report_lines(faults, name_of(names, 0), lines.as_slice()),
+            TextFailure::List(lines) => {
+                report_failure(faults, &[name_of(names, 1)], &Failure::Refused(lines))
+            }
+            TextFailure::Memory => writeln!(faults, "netset: out of memory"),
+        };
+        2
+    }
+}
+
+/// Returns the table of networks with texts that the bytes are, as `TextRoutesCommand` reads its table. If lines are
+/// refused, or memory runs out, reports it on `faults` as `TextRoutesCommand` says, and returns `None`. `name` is the
 /// name of the table.
 ///
 /// ```text
@@ -113,18 +112,9 @@ pub fn table_or_report<'a, X: Write>(
     match table_of_texts(alloc, bytes, grammar) {
         Ok(table) => Some(table),
         Err(failure) => {
-            let _ = report(faults, (name, name), failure);
+            let _ = failure.tell(&[name], faults);
             None
         }
-    }
-}
-
-/// Reports the failure.
-fn report<X: Write>(faults: &mut X, names: (&str, &str), failure: TextFailure) -> io::Result<()> {
-    match failure {
-        TextFailure::Table(lines) => report_lines(faults, names.0, lines.as_slice()),
-        TextFailure::List(lines) => { report_failure(faults, &[names.1], &Failure::Refused(lines)) }
-        TextFailure::Memory => writeln!(faults, "netset: out of memory"),
     }
 }
 

@@ -1,27 +1,23 @@
 //! For each entry of a list the longest network of a table that contains the whole of it, and the text of that network.
 ghost use Rattle.std.specs.Prelude.{◌≡◌, ◌++◌, ℕ, List, IfErr, IfOk, OnOk, string_bytes};
-ghost use Rattle.netset_lib.specs.FoundEntry.{entry_of};
+ghost use Rattle.ipnet_lists.specs.FoundEntry.{entry_of};
 ghost use Rattle.netset_lib.specs.TextReplies.{IsTextFailure};
-ghost use Rattle.netset_lib.specs.TextSteps.{AddsTextAnswer, AreTextAnswersBy, IsMadeList, text_route_line};
+ghost use Rattle.netset_lib.specs.TextSteps.{AddsTextAnswer, AreTextAnswersBy, text_route_line};
+ghost use Rattle.ipnet_lists.specs.ListTexts.{IsMadeList};
 ghost use Rattle.netset_lib.specs.TextTables.{IsTextRouteAnswer, IsTableOfTexts};
 ghost use Rattle.netset_lib.specs.declared.text_route.TextFailure.TheVariants.{Memory};
 
 use crate::answerer::{Answers, entry_text, push_missing};
-use crate::cause::Cause;
-use crate::content_line::RefusedText;
-use crate::entry::Entry;
-use crate::mark::skip_mark;
-use crate::reader::{Collector, LineReader};
-use crate::refused::RefusedLines;
 use crate::route::longest_holding;
 use crate::text_table::{TextRoutes, read_text_routes};
 use ipnet::{Grammar, IpNet};
-use ipnet_sets::RouteTable;
+use ipnet_lists::{Cause, Collector, Entry, LineReader, RefusedLines, RefusedText, skip_mark};
+use ipnet_routes::RouteTable;
 use std::alloc::{AllocError, Global};
 
 /// Why no entry was looked up, or not all entries.
 #[derive(Debug, Drop)]
-pub(crate) enum TextFailure {
+pub enum TextFailure {
     /// These lines of the table are not an entry with a text.
     Table(Vec<RefusedText<Option<Cause>>>),
     /// Lines of the list are not entries.

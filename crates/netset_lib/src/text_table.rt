@@ -1,14 +1,12 @@
 //! Tables of networks with texts, read line by line.
 ghost use Rattle.std.specs.Prelude.{IfOk, OnOk};
-ghost use Rattle.netset_lib.specs.ContentLineOf.{line_of};
-ghost use Rattle.netset_lib.specs.EntryOf.{entry_range};
+ghost use Rattle.ipnet_lists.specs.ContentLineOf.{line_of};
+ghost use Rattle.ipnet_lists.specs.EntryOf.{entry_range};
 ghost use Rattle.netset_lib.specs.TextSteps.{AddsBlocks, AddsTableLine, AreTextsRead, texts_in};
 
-use crate::cause::Cause;
-use crate::content_line::{ContentLine, RefusedText, content_lines};
-use crate::entry::Entry;
 use crate::text_line::{TableLine, read_table_line};
 use ipnet::{Grammar, IpNet};
+use ipnet_lists::{Cause, ContentLine, Entry, RefusedText, content_lines};
 use std::alloc::{AllocError, Global};
 
 /// The routes of a table in the order of its lines, and its refused lines.
@@ -69,7 +67,7 @@ pub(crate) fn read_text_routes<'a>(
         routes: Vec::new(alloc),
         refused: Vec::new(alloc),
     };
-    let lines = content_lines(alloc, bytes, grammar)?;
+    let lines = content_lines(alloc, bytes)?;
     for line in lines.as_slice() {
         let read = read_table_line(line.text, grammar);
         add_line(alloc, &mut made, *line, read)?;

@@ -2,10 +2,10 @@
 use Rattle.std.proofs.Common.{◌↔◌, inl, inr}
 use Rattle.ipnet_base.specs.Address.{Address, IPv4, IPv6}
 use Rattle.ipnet_base.specs.Network.{Network}
-use Rattle.ipnet_pictures.specs.declared.frame.Frame.{Frame}
-use Rattle.ipnet_pictures.specs.declared.frame.Frame.TheVariants.{Named, Ipv6, FirstFamily}
-use Rattle.ipnet_pictures.specs.Frames.{IsFrame, HasNoFrame, all_of}
-use Rattle.ipnet_pictures.specs.Parts.{HasNone}
+use Rattle.ipnet_bars.specs.declared.frame.Frame.{Frame}
+use Rattle.ipnet_bars.specs.declared.frame.Frame.TheVariants.{Named, Ipv6, FirstFamily}
+use Rattle.ipnet_bars.specs.Frames.{IsFrame, HasNoFrame, all_of}
+use Rattle.ipnet_bars.specs.Parts.{HasNone}
 use Rattle.ipnet_sets.specs.Parts.{IsInPart}
 use Rattle.ipnet_sets.specs.Supernets.{IsSmallestAround}
 

@@ -3,13 +3,13 @@ use Rattle.std.specs.Prelude.{ℕ, List, codes}
 use Rattle.ipnet_base.specs.Address.{Address}
 use Rattle.ipnet_base.specs.Network.{Network}
 use Rattle.ipnet.specs.declared.parser.Grammar.{Grammar}
-use Rattle.ipnet_pictures.specs.declared.bar.BarForm.{BarForm}
-use Rattle.ipnet_pictures.specs.declared.frame.Frame.{Frame}
-use Rattle.ipnet_pictures.specs.declared.marks.RowWidth.{RowWidth}
-use Rattle.ipnet_pictures.specs.declared.marks.RowWidth.TheVariants.{Four, Eight, Sixteen, ThirtyTwo, SixtyFour}
-use Rattle.ipnet_pictures.specs.Bars.{IsBar}
-use Rattle.ipnet_pictures.specs.ComparisonBars.{IsComparisonBar}
-use Rattle.ipnet_pictures.specs.Frames.{IsFrame}
+use Rattle.ipnet_bars.specs.declared.bar.BarForm.{BarForm}
+use Rattle.ipnet_bars.specs.declared.frame.Frame.{Frame}
+use Rattle.ipnet_bars.specs.declared.marks.RowWidth.{RowWidth}
+use Rattle.ipnet_bars.specs.declared.marks.RowWidth.TheVariants.{Four, Eight, Sixteen, ThirtyTwo, SixtyFour}
+use Rattle.ipnet_bars.specs.Bars.{IsBar}
+use Rattle.ipnet_bars.specs.ComparisonBars.{IsComparisonBar}
+use Rattle.ipnet_bars.specs.Frames.{IsFrame}
 use Rattle.ipnet_sets.specs.declared.set.IpSet.{IpSet}
 use Rattle.ipnet_sets.specs.Members.{IsMember, IsUnion}
 use Rattle.netset_lib.specs.declared.answer.Request.{Request}

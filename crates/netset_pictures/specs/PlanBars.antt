@@ -3,11 +3,11 @@ use Rattle.std.specs.Prelude.{◌≡◌, ◌↔◌, ◌⊎◌, ℕ, List, []}
 use Rattle.ipnet_base.specs.Address.{Family, Address}
 use Rattle.ipnet_base.specs.Blocks.{IsCoveredBy}
 use Rattle.ipnet_base.specs.Network.{Network, InBlock}
-use Rattle.ipnet_pictures.specs.declared.bar.BarForm.{BarForm}
-use Rattle.ipnet_pictures.specs.Bars.{IsBar}
-use Rattle.ipnet_pictures.specs.Frames.{all_of, IsFrameOf}
-use Rattle.ipnet_pictures.specs.Parts.{HasNone}
-use Rattle.ipnet_pools.specs.Plans.{IsPlan}
+use Rattle.ipnet_bars.specs.declared.bar.BarForm.{BarForm}
+use Rattle.ipnet_bars.specs.Bars.{IsBar}
+use Rattle.ipnet_bars.specs.Frames.{all_of, IsFrameOf}
+use Rattle.ipnet_bars.specs.Parts.{HasNone}
+use Rattle.ipnet_pools.specs.Plans.{IsPlan, KeepsRoom}
 use Rattle.ipnet_sets.specs.declared.set.IpSet.{IpSet}
 use Rattle.ipnet_sets.specs.Members.{IsMember}
 use Rattle.netset_lib.specs.declared.answer.Request.{Request}
@@ -31,14 +31,16 @@ pub record IsBarOfPlan (InSet : Address → Type 0) (family : Family) (networks 
   pub are_taken : (x : Address) → IsMember taken x ↔ IsTaken InSet networks frame x
   pub bar : IsBar (IsMember taken) frame form.row_width form.marks text
 
--- The text is the bar of networks in the set: one for each prefix length, no two of which share an address. It is empty
--- if the set has no address of the family.
+-- The text is the bar of networks in the set: one for each prefix length, no two of which share an address. Whatever
+-- further networks could be placed beside these lengths can still be placed. The text is empty if the set has no
+-- address of the family.
 pub record IsPlanBarText (InSet : Address → Type 0) (families : Families) (lengths : List ℕ) (form : BarForm)
     (text : List ℕ) : Type 0 where
   pub family : Family
   pub chosen : IsPlanFamily families InSet family
   pub networks : List Network
   pub plan : IsPlan InSet family lengths networks
+  pub keeps : KeepsRoom InSet family lengths networks
   pub shown : (HasNone InSet (all_of family) × (text ≡ [])) ⊎ IsBarOfPlan InSet family networks form text
 
 -- No line of the lists is refused, and the text is the bar of a plan in the addresses of the operation's result.

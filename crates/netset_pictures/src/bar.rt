@@ -1,14 +1,17 @@
 //! Bars of lists: the network that a bar shows, and its text.
-ghost use Rattle.std.specs.Prelude.{◌≡◌, ◌↔◌, Some, Err, IfOk, string_bytes};
-ghost use Rattle.ipnet_pictures.specs.declared.marks.RowWidth.{RowWidth};
-ghost use Rattle.ipnet_pictures.specs.Frames.{HasNoFrame};
+ghost use Rattle.std.specs.Prelude.{◌≡◌, ◌↔◌, Some, None, Err, IfOk, string_bytes};
+ghost use Rattle.ipnet_bars.specs.declared.marks.RowWidth.{RowWidth};
+ghost use Rattle.ipnet_bars.specs.Frames.{HasNoFrame};
 ghost use Rattle.ipnet_sets.specs.Members.{IsMember, IsUnion};
 ghost use Rattle.ipnet_sets.specs.declared.set.IpSet.{IpSet};
 ghost use Rattle.netset_pictures.specs.BarAnswers.{width_text, IsFramedBar, IsFramedComparison};
+ghost use Rattle.netset_lib.specs.declared.runs.Fault.TheVariants.{Other};
 ghost use Rattle.netset_pictures.specs.declared.bar.PictureFailure.TheVariants.{NoFrame, Memory};
 
-use ipnet_pictures::{BarForm, Frame, RowWidth, bar_text, comparison_bar_text, frame_of};
+use ipnet_bars::{BarForm, Frame, RowWidth, bar_text, comparison_bar_text, frame_of};
 use ipnet_sets::IpSet;
+use netset_lib::runs::Report;
+use netset_lib::{Failure, Fault};
 use std::alloc::{AllocError, Global};
 use std::io::Write;
 use thiserror::Error;
@@ -32,11 +35,20 @@ impl From<AllocError> for PictureFailure {
     }
 }
 
-impl PictureFailure {
-    /// Reports the failure on `faults`, and returns the exit status.
-    pub(crate) fn report<X: Write>(self, faults: &mut X) -> u8
-        ensures { result ≡ 2 }
-    {
+impl From<PictureFailure> for Fault<Failure, PictureFailure> {
+    ghost from_gives = { λ failure result. result ≡ Other failure };
+
+    fn from(failure: PictureFailure) -> Fault<Failure, PictureFailure> {
+        Fault::Other(failure)
+    }
+}
+
+impl Report for PictureFailure {
+    ghost exit = { λ _. 2 };
+
+    ghost told = { λ _ _. None };
+
+    fn tell<X: Write>(self, _: &[&str], faults: &mut X) -> u8 {
         let _ = writeln!(faults, "netset: {self}");
         2
     }

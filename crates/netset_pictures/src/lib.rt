@@ -12,11 +12,11 @@ pub mod plan_bar_program;
 pub use bar::{
     BarRequest, PictureFailure, framed_bar_text, framed_comparison_text, read_row_width,
 };
-pub use bar_program::{run_bar, run_comparison_bar};
+pub use bar_program::{BarCommand, ComparisonBarCommand};
 pub use locale::{LocaleValues, MarkChoice, chosen_marks, is_utf8_locale};
 pub use map::{
     MapRequest, framed_change_map_text, framed_map_text, framed_sets_map_text, read_theme,
 };
-pub use map_program::{run_change_map, run_map, run_sets_map};
+pub use map_program::{ChangeMapCommand, MapCommand, SetsMapCommand};
 pub use plan_bar::{PlanBarRequest, plan_bar_text};
-pub use plan_bar_program::run_plan_bar;
+pub use plan_bar_program::PlanBarCommand;

@@ -1,10 +1,10 @@
 //! The marks of a bar: by the choice of the user, the terminal, and the name of the locale.
 ghost use Rattle.std.specs.Prelude.{◌≡◌, ◌↔◌, IsTrue};
-ghost use Rattle.ipnet_pictures.specs.declared.marks.Marks.TheVariants.{Ascii, Utf8};
+ghost use Rattle.ipnet_bars.specs.declared.marks.Marks.TheVariants.{Ascii, Utf8};
 ghost use Rattle.netset_pictures.specs.Locales.{codeset_of, IsUtf8Locale, filled_or, locale_name};
 ghost use Rattle.netset_pictures.specs.declared.locale.MarkChoice.TheVariants as Choices;
 
-use ipnet_pictures::Marks;
+use ipnet_bars::Marks;
 
 /// The choice of the marks of a bar.
 #[derive(Clone, Copy, Debug, PartialEq, Eq)]

@@ -1,6 +1,6 @@
 //! Maps of lists: the network that a map shows, and its document.
 ghost use Rattle.std.specs.Prelude.{◌≡◌, ◌↔◌, Some, Err, IfOk, map, string_bytes};
-ghost use Rattle.ipnet_pictures.specs.Frames.{HasNoFrame};
+ghost use Rattle.ipnet_bars.specs.Frames.{HasNoFrame};
 ghost use Rattle.ipnet_sets.specs.ManySets.{IsInSome};
 ghost use Rattle.ipnet_sets.specs.Members.{IsMember, IsUnion};
 ghost use Rattle.ipnet_sets.specs.declared.set.IpSet.{IpSet};
@@ -9,7 +9,7 @@ ghost use Rattle.svg_maps.specs.declared.style.Theme.{Theme};
 ghost use Rattle.netset_pictures.specs.declared.bar.PictureFailure.TheVariants.{NoFrame};
 
 use crate::bar::PictureFailure;
-use ipnet_pictures::{Frame, frame_of};
+use ipnet_bars::{Frame, frame_of};
 use ipnet_sets::IpSet;
 use std::alloc::Global;
 use svg_maps::{Look, Theme, change_map_text, set_map_text, sets_map_text};

@@ -1,25 +1,18 @@
-//! The command `map` of the program, over any writers.
-ghost use Rattle.std.specs.Prelude.{◌≡◌, ◌≤◌, ◌⊎◌, List, ℕ, map};
-ghost use Rattle.std.specs.Io.KnownBytes.{Keeps};
-ghost use Rattle.ipnet.specs.declared.parser.Grammar.{Grammar};
-ghost use Rattle.netset_lib.specs.Replies.{AreSameLists, AreOtherLists};
-ghost use Rattle.netset_lib.specs.Runs.{WritesAnswer, WritesFront, WritesComparison, WritesComparisonFront};
-ghost use Rattle.netset_lib.specs.Sessions.{WereCompared};
+//! The command `map` of the program.
+ghost use Rattle.std.specs.Prelude.{IsTrue, map, ⊤};
+ghost use Rattle.netset_lib.specs.Replies.{AreCompared};
+ghost use Rattle.netset_lib.specs.Runs.{OfCombined, OfCompared, IsFault, HasNoResult, HasNoPair};
 ghost use Rattle.netset_pictures.specs.MapAnswers.{IsMapAnswer, IsSetsMapAnswer, IsChangeMapAnswer};
 
+use crate::bar::PictureFailure;
 use crate::map::{MapRequest, framed_change_map_text, framed_map_text, framed_sets_map_text};
-use netset_lib::{Session, report_failure, set_or_report, write_answer, write_or_report};
-use std::io::Write;
+use netset_lib::{Failure, Fault, Session, TextCommand, are_same};
 
-/// Writes the map of the session's lists to `out`, as `framed_map_text` makes it of the addresses of the operation, and
-/// returns the exit status.
-///
-/// `names` are the names of the lists, in order, for the reports on `faults`. If a report cannot be written, the status
-/// is the same.
+/// The map of the session's lists, as `framed_map_text` makes it of the addresses of the operation.
 ///
 /// | Status | On `faults` | When |
 /// |---|---|---|
-/// | 2 | as `run` reports it | the lists have no set |
+/// | 2 | as `AnswerCommand` says | the lists have no set |
 /// | 2 | `netset: no address to draw: name a network with --in` | as `PictureFailure::NoFrame` says |
 /// | 2 | `netset: out of memory` | memory runs out |
 /// | 2 | `netset: output cannot be written` | a write fails, or the flush after it; the map may be out in part |
@@ -28,39 +21,39 @@ use std::io::Write;
 /// ```text
 /// Union of "10.0.0.0/31\n" in 10.0.0.0/30: status 0, and out gets a document, from `<svg` to `</svg>` and a line feed
 /// ```
-pub fn run_map<W: Write, X: Write>(
-    session: Session,
-    request: MapRequest<'_>,
-    names: &[&str],
-    out: &mut W,
-    faults: &mut X,
-) -> u8
-    ensures status { (result ≡ 0) ⊎ (result ≡ 2) }
-    ensures drawn { result ≡ 0 → WritesAnswer (λ r lists.
-        IsMapAnswer r lists request.entry) session (W.contents out.old) (W.contents out.new) }
-    ensures cut_short { result ≡ 2 → WritesFront (λ r lists.
-        IsMapAnswer r lists request.entry) session (W.contents out.old) (W.contents out.new) }
-    ensures faultless { result ≡ 0 → Keeps (X.contents faults.old) (X.contents faults.new) }
-{
-    let Some((alloc, set)) = set_or_report(session, names, faults) else {
-        return 2;
-    };
-    let text = match framed_map_text(alloc, &set, request) {
-        Ok(text) => text,
-        Err(failure) => return failure.report(faults),
-    };
-    write_answer(out, faults, text.as_bytes())
+pub struct MapCommand<'a> {
+    /// The session.
+    pub session: Session,
+    /// The network and the look of the map.
+    pub request: MapRequest<'a>,
 }
 
-/// Writes the map of the session's lists to `out`, each list in its colour, as `framed_sets_map_text` makes it, and
-/// returns the exit status. The session has read the lists for an operation, as `Union`.
-///
-/// `names` are the names of the lists, in order, for the map and for the reports on `faults`. If a report cannot be
-/// written, the status is the same.
+impl<'a> TextCommand for MapCommand<'a> {
+    type Text = String;
+
+    type Failure = Fault<Failure, PictureFailure>;
+
+    ghost is_answer = { λ c text. OfCombined (λ r lists. IsMapAnswer r lists c.request text) c.session };
+
+    ghost is_outcome = { λ _ succeeded. IsTrue succeeded };
+
+    ghost is_failure = { λ c. IsFault (HasNoResult c.session) (λ _. ⊤) };
+
+    fn answer(self) -> Result<(String, bool), Fault<Failure, PictureFailure>> {
+        let MapCommand { session, request } = self;
+        let alloc = session.alloc();
+        let set = session.into_set()?;
+        let text = framed_map_text(alloc, &set, request)?;
+        Ok((text, true))
+    }
+}
+
+/// The map of the session's lists, each list in its colour, as `framed_sets_map_text` makes it. The session has read
+/// the lists for an operation, as `Union`.
 ///
 /// | Status | On `faults` | When |
 /// |---|---|---|
-/// | 2 | as `run` reports it | the operation takes another number of lists, or lines of them are not entries |
+/// | 2 | as `AnswerCommand` says | the operation takes another number of lists, or lines of them are not entries |
 /// | 2 | `netset: no address to draw: name a network with --in` | as `PictureFailure::NoFrame` says |
 /// | 2 | `netset: out of memory` | memory runs out |
 /// | 2 | `netset: output cannot be written` | a write fails, or the flush after it; the map may be out in part |
@@ -69,46 +62,46 @@ pub fn run_map<W: Write, X: Write>(
 /// ```text
 /// "10.0.0.0/31\n" and "10.0.0.1/32\n", in 10.0.0.0/30: status 0, and out gets a document
 /// ```
-pub fn run_sets_map<W: Write, X: Write>(
-    session: Session,
-    request: MapRequest<'_>,
-    names: &[&str],
-    out: &mut W,
-    faults: &mut X,
-) -> u8
-    ensures status { (result ≡ 0) ⊎ (result ≡ 2) }
-    ensures drawn { result ≡ 0 → WritesAnswer (λ r lists.
-        IsSetsMapAnswer r lists (map (λ name. name.now) names.now) request.entry) session
-        (W.contents out.old) (W.contents out.new) }
-    ensures cut_short { result ≡ 2 → WritesFront (λ r lists.
-        IsSetsMapAnswer r lists (map (λ name. name.now) names.now) request.entry) session
-        (W.contents out.old) (W.contents out.new) }
-    ensures faultless { result ≡ 0 → Keeps (X.contents faults.old) (X.contents faults.new) }
-{
-    let alloc = session.alloc();
-    let sets = match session.into_sets() {
-        Ok(sets) => sets,
-        Err(failure) => {
-            let _ = report_failure(faults, names, &failure);
-            return 2;
-        }
-    };
-    let text = match framed_sets_map_text(alloc, sets.as_slice(), names, request) {
-        Ok(text) => text,
-        Err(failure) => return failure.report(faults),
-    };
-    write_answer(out, faults, text.as_bytes())
+pub struct SetsMapCommand<'a> {
+    /// The session.
+    pub session: Session,
+    /// The network and the look of the map.
+    pub request: MapRequest<'a>,
+    /// The names of the lists, in order.
+    pub names: &'a [&'a str],
 }
 
-/// Writes the map of the change from the first list to the second to `out`, as `framed_change_map_text` makes it, and
-/// returns the exit status. The session has read two lists for a comparison.
-///
-/// `names` are the names of the lists, in order, for the reports on `faults`. If a report cannot be written, the status
-/// is the same.
+impl<'a> TextCommand for SetsMapCommand<'a> {
+    type Text = String;
+
+    type Failure = Fault<Failure, PictureFailure>;
+
+    ghost is_answer = { λ c text. OfCombined (λ r lists.
+        IsSetsMapAnswer r lists (map (λ name. name.now) c.names.now) c.request text) c.session };
+
+    ghost is_outcome = { λ _ succeeded. IsTrue succeeded };
+
+    ghost is_failure = { λ c. IsFault (HasNoResult c.session) (λ _. ⊤) };
+
+    fn answer(self) -> Result<(String, bool), Fault<Failure, PictureFailure>> {
+        let SetsMapCommand {
+            session,
+            request,
+            names,
+        } = self;
+        let alloc = session.alloc();
+        let sets = session.into_sets()?;
+        let text = framed_sets_map_text(alloc, sets.as_slice(), names, request)?;
+        Ok((text, true))
+    }
+}
+
+/// The map of the change from the first list to the second, as `framed_change_map_text` makes it. The session has read
+/// two lists for a comparison.
 ///
 /// | Status | On `faults` | When |
 /// |---|---|---|
-/// | 2 | as `run` reports it | there are not two lists, or lines of them are not entries |
+/// | 2 | as `AnswerCommand` says | there are not two lists, or lines of them are not entries |
 /// | 2 | `netset: no address to draw: name a network with --in` | as `PictureFailure::NoFrame` says |
 /// | 2 | `netset: out of memory` | memory runs out |
 /// | 2 | `netset: output cannot be written` | a write fails, or the flush after it; the map may be out in part |
@@ -118,38 +111,30 @@ pub fn run_sets_map<W: Write, X: Write>(
 /// ```text
 /// "10.0.0.0/31\n" and "10.0.0.1/32\n", in 10.0.0.0/30: status 1, and out gets a document
 /// ```
-pub fn run_change_map<W: Write, X: Write>(
-    session: Session,
-    request: MapRequest<'_>,
-    names: &[&str],
-    out: &mut W,
-    faults: &mut X,
-) -> u8
-    ensures status { result ≤ 2 }
-    ensures drawn { result ≤ 1 → WritesComparison (λ grammar lists.
-        IsChangeMapAnswer grammar lists request.entry) session (W.contents out.old) (W.contents out.new) }
-    ensures different { result ≡ 1 → (grammar : Grammar) → (lists : List (List ℕ))
-        → WereCompared grammar lists session → AreOtherLists grammar lists }
-    ensures same { result ≡ 0 → (grammar : Grammar) → (lists : List (List ℕ))
-        → WereCompared grammar lists session → AreSameLists grammar lists }
-    ensures cut_short { result ≡ 2 → WritesComparisonFront (λ grammar lists.
-        IsChangeMapAnswer grammar lists request.entry) session (W.contents out.old) (W.contents out.new) }
-    ensures faultless { result ≤ 1 → Keeps (X.contents faults.old) (X.contents faults.new) }
-{
-    let alloc = session.alloc();
-    let (before, after) = match session.into_pair() {
-        Ok(pair) => pair,
-        Err(failure) => {
-            let _ = report_failure(faults, names, &failure);
-            return 2;
-        }
-    };
-    let text = match framed_change_map_text(alloc, &before, &after, request) {
-        Ok(text) => text,
-        Err(failure) => return failure.report(faults),
-    };
-    if !write_or_report(out, faults, text.as_bytes()) {
-        return 2;
+pub struct ChangeMapCommand<'a> {
+    /// The session.
+    pub session: Session,
+    /// The network and the look of the map.
+    pub request: MapRequest<'a>,
+}
+
+impl<'a> TextCommand for ChangeMapCommand<'a> {
+    type Text = String;
+
+    type Failure = Fault<Failure, PictureFailure>;
+
+    ghost is_answer = { λ c text. OfCompared (λ grammar lists.
+        IsChangeMapAnswer grammar lists c.request text) c.session };
+
+    ghost is_outcome = { λ c same. OfCompared (λ grammar lists. AreCompared grammar lists same) c.session };
+
+    ghost is_failure = { λ c. IsFault (HasNoPair c.session) (λ _. ⊤) };
+
+    fn answer(self) -> Result<(String, bool), Fault<Failure, PictureFailure>> {
+        let ChangeMapCommand { session, request } = self;
+        let alloc = session.alloc();
+        let (before, after) = session.into_pair()?;
+        let text = framed_change_map_text(alloc, &before, &after, request)?;
+        Ok((text, are_same(&before, &after)))
     }
-    if before == after { 0 } else { 1 }
 }

@@ -2,15 +2,15 @@
 ghost use Rattle.std.specs.Prelude.{◌≡◌, ◌↔◌, ◌⊎◌, ◌∷◌, [], IfOk, IsOk, IfErr, map, string_bytes};
 ghost use Rattle.ipnet_base.specs.Address.{Address};
 ghost use Rattle.ipnet.specs.NetworkOf.{ip_network};
-ghost use Rattle.ipnet_pictures.specs.Frames.{all_of};
-ghost use Rattle.ipnet_pictures.specs.Parts.{HasNone};
+ghost use Rattle.ipnet_bars.specs.Frames.{all_of};
+ghost use Rattle.ipnet_bars.specs.Parts.{HasNone};
 ghost use Rattle.ipnet_sets.specs.Members.{IsMember};
 ghost use Rattle.netset_lib.specs.PlanAnswers.{HasNoPlacement, IsPlanFailure};
 ghost use Rattle.netset_lib.specs.Planning.{family_of};
 ghost use Rattle.netset_pictures.specs.PlanBars.{IsTaken, IsBarOfPlan, IsPlanBarText};
 
 use ipnet::{IpNet, Ipv6Net};
-use ipnet_pictures::{BarForm, bar_text, frame_in};
+use ipnet_bars::{BarForm, bar_text, frame_in};
 use ipnet_sets::IpSet;
 use netset_lib::{Plan, PlanFailure, PlanFamily, PlanRequest, plan_networks};
 use std::alloc::{AllocError, Global};

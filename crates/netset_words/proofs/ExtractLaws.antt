@@ -9,9 +9,9 @@ use Rattle.std.specs.Io.KnownBytes.{Consumes, IsAtEnd}
 use Rattle.ipnet_text.proofs.ClosedLines.{IsClosed, closed_append, closed_behind}
 use Rattle.ipnet_text.specs.Inputs.{GaveWhole}
 use Rattle.ipnet_text.specs.Window.{held}
-use Rattle.netset_lib.specs.Lists.{after_mark}
-use Rattle.netset_lib.specs.RefusedLines.{HasMore, AreRefused}
-use Rattle.netset_lib.proofs.RefusalLaws.{HasMore-nil, HasMore-trans, more_refused}
+use Rattle.ipnet_lists.specs.Lists.{after_mark}
+use Rattle.ipnet_lists.specs.RefusedLines.{HasMore, AreRefused}
+use Rattle.ipnet_lists.proofs.RefusalLaws.{HasMore-nil, HasMore-trans, more_refused}
 use Rattle.netset_words.specs.declared.extraction.Extraction.{Extraction}
 use Rattle.netset_words.specs.declared.item.ExtractRequest.{ExtractRequest}
 use Rattle.netset_words.specs.declared.line_items.LineState.{LineState}

@@ -6,8 +6,8 @@ use Rattle.std.proofs.KnownBytes.{Consumes-trans}
 use Rattle.ipnet_text.specs.declared.window.Window.{Window}
 use Rattle.ipnet_text.specs.Inputs.{GaveWhole}
 use Rattle.ipnet_text.specs.Window.{held}
-use Rattle.netset_lib.specs.Lists.{after_mark}
-use Rattle.netset_lib.specs.Marks.{IsPastMark}
+use Rattle.ipnet_lists.specs.Lists.{after_mark}
+use Rattle.ipnet_lists.specs.Marks.{IsPastMark}
 
 -- the input returned a byte order mark, if it has one, the front, and what is pending
 pub record IsInputUpTo (more : Bool) (left left_now : Option (List ℕ)) (front pending : List ℕ) : Type 0 where

@@ -2,8 +2,8 @@
 use Rattle.std.proofs.Common.{ℕ, List, refl, inl, inr, subst}
 use Rattle.ipnet_base.specs.Address.{Address}
 use Rattle.ipnet.specs.declared.parser.Grammar.{Grammar}
-use Rattle.netset_lib.specs.Entries.{IsAddressText}
-use Rattle.netset_lib.proofs.EntryTexts.{one_address}
+use Rattle.ipnet_lists.specs.Entries.{IsAddressText}
+use Rattle.ipnet_lists.proofs.EntryTexts.{one_address}
 use Rattle.netset_words.specs.Items.{IsMask, IsMaskText, IsSomeEntry}
 
 -- an address is an entry

@@ -13,11 +13,11 @@ use Rattle.ipnet_sets.specs.Members.{IsMember}
 use Rattle.ipnet_sets.specs.declared.set.IpSet.{IpSet}
 use Rattle.ipnet.specs.Lines.{lines_of, onto_first_line}
 use Rattle.ipnet_text.proofs.ClosedLines.{IsClosed, closed_append}
-use Rattle.netset_lib.proofs.LineEnds.{ended, ended_closed, only, before_end, no_end, to_end}
+use Rattle.ipnet_lists.proofs.LineEnds.{ended, ended_closed, only, before_end, no_end, to_end}
 use Rattle.netset_words.specs.declared.line_filter.LineFilter.{LineFilter}
 use Rattle.netset_words.specs.declared.line_filter.Rest.TheVariants as Rests
 use Rattle.netset_words.specs.declared.log_line.LinesRequest.{LinesRequest}
-use Rattle.netset_lib.specs.RefusedLines.{AreRefused}
+use Rattle.ipnet_lists.specs.RefusedLines.{AreRefused}
 use Rattle.netset_words.specs.LogLines.{LogResult, AreLogLines, treated_front}
 use Rattle.netset_words.specs.FilterSteps.{IsFilterUpTo, IsLogUpTo, ReadsUpTo, GoesOn, ReadsEnd}
 use Rattle.netset_words.proofs.LogFilterLaws.{not_kept, or_false}

@@ -12,8 +12,8 @@ use Rattle.std.proofs.lemmas.Str.{IsUtf8-from_ascii}
 use Rattle.std.proofs.lemmas.Str.Ascii.{IsAscii-from_all}
 use Rattle.ipnet_base.specs.Ranges.{AddressRange}
 use Rattle.ipnet.specs.declared.parser.Grammar.{Grammar}
-use Rattle.netset_lib.proofs.AddressBytes.{IsAddressByte, cut_at, ipv4_bytes}
-use Rattle.netset_lib.proofs.ListLines.{entry_utf8}
+use Rattle.ipnet_lists.proofs.AddressBytes.{IsAddressByte, cut_at, ipv4_bytes}
+use Rattle.ipnet_lists.proofs.ListLines.{entry_utf8}
 use Rattle.netset_words.specs.LogEntries.{IsLogEntry}
 
 -- what nothing shows

@@ -17,14 +17,14 @@ use Rattle.netset_words.specs.declared.log_line.Treatment.TheVariants as Treatme
 use Rattle.netset_words.specs.declared.log_line.Verdict.{Verdict}
 use Rattle.netset_words.specs.declared.log_line.Verdict.TheVariants as Verdicts
 use Rattle.netset_words.specs.declared.refused_word.WordCause.TheVariants as Causes
-use Rattle.netset_lib.specs.RefusedLines.{HasMore, AreRefused}
+use Rattle.ipnet_lists.specs.RefusedLines.{HasMore, AreRefused}
 use Rattle.netset_words.specs.LogLines.{LogResult, no_result, joined, IsShortLine, IsLogLine, AreLogLines}
 use Rattle.netset_words.specs.LogLines.{IsVerdict, treated, treated_front, is_printed, report_of, result_of, front_of}
 use Rattle.netset_words.specs.LogLines.{has_none}
 use Rattle.netset_words.specs.LogSteps.{AddsResult, rest_of, after_front}
 use Rattle.netset_words.specs.FilterSteps.{IsFilterUpTo}
 use Rattle.netset_words.specs.Words.{cuts, words_of}
-use Rattle.netset_lib.proofs.RefusalLaws.{more_refused}
+use Rattle.ipnet_lists.proofs.RefusalLaws.{more_refused}
 
 -- ---- results
 

@@ -17,9 +17,9 @@ use Rattle.ipnet.specs.declared.parser.Grammar.{Grammar}
 use Rattle.ipnet_sets.specs.Members.{IsMember}
 use Rattle.ipnet_sets.specs.SetRanges.{IsInRange, range_of}
 use Rattle.ipnet_sets.specs.declared.set.IpSet.{IpSet}
-use Rattle.netset_lib.specs.declared.entry.Entry.TheVariants as Entries
-use Rattle.netset_lib.specs.Entries.{IsIpv4Text}
-use Rattle.netset_lib.specs.EntryOf.{entry_range}
+use Rattle.ipnet_lists.specs.declared.entry.Entry.TheVariants as Entries
+use Rattle.ipnet_lists.specs.Entries.{IsIpv4Text}
+use Rattle.ipnet_lists.specs.EntryOf.{entry_range}
 use Rattle.netset_lib.specs.Filtering.{HasAddresses}
 use Rattle.netset_words.specs.declared.log_line.LinesRequest.{LinesRequest}
 use Rattle.netset_words.specs.declared.log_line.Verdict.{Verdict}

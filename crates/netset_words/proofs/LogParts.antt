@@ -14,7 +14,7 @@ use Rattle.ipnet_sets.specs.Members.{IsMember}
 use Rattle.ipnet_sets.specs.declared.set.IpSet.{IpSet}
 use Rattle.ipnet_text.specs.declared.window.Window.{Window}
 use Rattle.ipnet_text.specs.Window.{held}
-use Rattle.netset_lib.specs.Lists.{after_mark}
+use Rattle.ipnet_lists.specs.Lists.{after_mark}
 use Rattle.netset_words.specs.declared.line_filter.LineFilter.{LineFilter}
 use Rattle.netset_words.specs.declared.log_line.LinesRequest.{LinesRequest}
 use Rattle.netset_words.specs.FilterSteps.{IsFilterUpTo, IsLogUpTo, IsTaken}

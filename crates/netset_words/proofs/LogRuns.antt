@@ -8,7 +8,7 @@ use Rattle.ipnet.specs.Lines.{lines_of}
 use Rattle.ipnet_sets.specs.Members.{IsMember}
 use Rattle.netset_lib.specs.declared.answer.Request.{Request}
 use Rattle.netset_lib.specs.Filters.{IsOnSide}
-use Rattle.netset_lib.specs.Lists.{IsInEntries, after_mark}
+use Rattle.ipnet_lists.specs.Lists.{IsInEntries, after_mark}
 use Rattle.netset_lib.specs.Operations.{IsInResult}
 use Rattle.netset_words.specs.declared.line_filter.LineFilter.{LineFilter}
 use Rattle.netset_words.specs.declared.lines_program.FilteredLog.{FilteredLog}

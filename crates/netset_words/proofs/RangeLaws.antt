@@ -1,7 +1,7 @@
 -- Ranges with blanks.
 use Rattle.std.proofs.Common.{◌≡◌, ℕ, Bool, not, true, false, List, ◌∷◌, refl}
 use Rattle.std.proofs.Common.{sym, ap, ◌∙◌, subst, codes}
-use Rattle.netset_lib.specs.Entries.{IsNoEntry}
+use Rattle.ipnet_lists.specs.Entries.{IsNoEntry}
 use Rattle.netset_words.specs.declared.item.ExtractRequest.{ExtractRequest}
 use Rattle.netset_words.specs.Items.{BeginsRange, IsRangeItem, IsSomeEntry, span}
 use Rattle.netset_words.specs.declared.item.Kind.TheVariants as Kinds

@@ -11,8 +11,8 @@ use Rattle.ipnet_base.specs.Ranges.{AddressRange}
 use Rattle.ipnet.specs.declared.parser.Grammar.{Grammar}
 use Rattle.ipnet.specs.AddressTexts.{IsIpv4AddressText, IsIpv6AddressText, IsGroups, EndsInIpv4}
 use Rattle.ipnet.proofs.Ipv4Texts.{Dots-from}
-use Rattle.netset_lib.specs.Entries.{IsAddressText, IsEntryText, IsNetworkOrMasked, before_blanks}
-use Rattle.netset_lib.proofs.AddressBytes.{cut_at, middle}
+use Rattle.ipnet_lists.specs.Entries.{IsAddressText, IsEntryText, IsNetworkOrMasked, before_blanks}
+use Rattle.ipnet_lists.proofs.AddressBytes.{cut_at, middle}
 use Rattle.netset_words.specs.LogEntries.{IsLogEntry}
 
 -- the byte is "." or ":"
@@ -105,8 +105,13 @@ no_entry grammar text range h (inr is) =
     (subst (All IsOther) (is.spelled ∙ append_assoc is.first_text (45 ∷ []) is.last_text) h)))
     is.ends.writes_first
 
--- a text without one is not an entry in a log
+-- a text without one is not an entry
+pub no_entry_without : (grammar : Grammar) (text : List ℕ) (range : AddressRange)
+    → list_any is_separator text ≡ false → IsEntryText grammar text range → ⊥
+no_entry_without grammar text range none = no_entry grammar text range (others text none)
+
+-- nor an entry in a log
 pub no_separator : (grammar : Grammar) (text : List ℕ) (range : AddressRange)
     → list_any is_separator text ≡ false → IsLogEntry grammar text range → ⊥
-no_separator grammar text range none (inl is) = no_entry grammar text range (others text none) is
+no_separator grammar text range none (inl is) = no_entry_without grammar text range none is
 no_separator grammar text range none (inr is) = no_colon text _ _ (others text none) (cut_at 58 text is.0)

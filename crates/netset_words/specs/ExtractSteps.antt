@@ -4,7 +4,7 @@ use Rattle.std.specs.Prelude.{◌≡◌, ◌+◌, ◌||◌, ℕ, Bool, true, fal
 use Rattle.std.specs.Prelude.{MatchOption}
 use Rattle.ipnet.specs.Lines.{lines_of}
 use Rattle.ipnet_text.specs.Window.{held}
-use Rattle.netset_lib.specs.RefusedLines.{HasMore}
+use Rattle.ipnet_lists.specs.RefusedLines.{HasMore}
 use Rattle.netset_words.specs.declared.extraction.Extraction.{Extraction}
 use Rattle.netset_words.specs.declared.item.ExtractRequest.{ExtractRequest}
 use Rattle.netset_words.specs.declared.item.Kind.TheVariants as Kinds

@@ -3,7 +3,7 @@ use Rattle.std.specs.Prelude.{◌≡◌, ◌≢◌, ◌↔◌, ℕ, Bool, true, 
 use Rattle.netset_words.specs.declared.extraction.Extraction.{Extraction}
 use Rattle.netset_words.specs.declared.item.ExtractRequest.{ExtractRequest}
 use Rattle.netset_words.specs.Extracts.{WordRefusal, IsExtract, AreExtracts, text_of_texts}
-use Rattle.netset_lib.specs.RefusedLines.{AreRefused}
+use Rattle.ipnet_lists.specs.RefusedLines.{AreRefused}
 
 -- The extraction has read exactly these texts, in this order.
 pub record WereExtracted (how : ExtractRequest) (texts : List (List ℕ)) (e : Extraction) : Type 0 where
@@ -14,6 +14,10 @@ pub record WereExtracted (how : ExtractRequest) (texts : List (List ℕ)) (e : E
   pub are : AreExtracts how 0 texts entries refusals
   pub text : e.words.answer.items ≡ text_of_texts entries
   pub kept : AreRefused e.words.refused refusals
+
+-- A text could not be read.
+abbrev pub IsBroken : Extraction → Type 0
+IsBroken e = e.is_broken ≡ true
 
 -- Whether an entry was found in the text that the extraction has read last.
 abbrev pub has_entry : Extraction → Bool

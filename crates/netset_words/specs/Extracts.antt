@@ -2,7 +2,7 @@
 use Rattle.std.specs.Prelude.{◌≡◌, ◌⊎◌, ◌==◌, ℕ, ◌+◌, true, List, [], ◌∷◌, ◌++◌}
 use Rattle.std.specs.List.{list_any}
 use Rattle.ipnet.specs.Lines.{lines_of}
-use Rattle.netset_lib.specs.Lists.{RefusalFor, after_mark}
+use Rattle.ipnet_lists.specs.Lists.{RefusalFor, after_mark}
 use Rattle.netset_words.specs.declared.item.ExtractRequest.{ExtractRequest}
 use Rattle.netset_words.specs.declared.refused_word.WordCause.{WordCause}
 use Rattle.netset_words.specs.declared.refused_word.WordCause.TheVariants.{NulByte, Netmask}

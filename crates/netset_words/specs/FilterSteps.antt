@@ -6,10 +6,10 @@ use Rattle.ipnet.specs.Lines.{lines_of}
 use Rattle.ipnet_sets.specs.Members.{IsMember}
 use Rattle.ipnet_sets.specs.declared.set.IpSet.{IpSet}
 use Rattle.ipnet_text.specs.Inputs.{GaveWhole}
-use Rattle.netset_lib.specs.Lists.{after_mark}
+use Rattle.ipnet_lists.specs.Lists.{after_mark}
 use Rattle.netset_words.specs.declared.line_filter.LineFilter.{LineFilter}
 use Rattle.netset_words.specs.declared.log_line.LinesRequest.{LinesRequest}
-use Rattle.netset_lib.specs.RefusedLines.{AreRefused}
+use Rattle.ipnet_lists.specs.RefusedLines.{AreRefused}
 use Rattle.netset_words.specs.LogLines.{AreLogLines, LogResult}
 use Rattle.netset_words.specs.LogSteps.{IsCurrentLine}
 

@@ -3,8 +3,8 @@ use Rattle.std.specs.Prelude.{◌≡◌, ◌≢◌, ◌⊎◌, ℕ, Bool, true, 
 use Rattle.ipnet_base.specs.Address.{Address, IPv4}
 use Rattle.ipnet_base.specs.Ranges.{AddressRange}
 use Rattle.ipnet.specs.declared.parser.Grammar.{Grammar}
-use Rattle.netset_lib.specs.Causes.{IsNetmaskNumber}
-use Rattle.netset_lib.specs.Entries.{IsAddressText, IsEntryText, IsNoEntry}
+use Rattle.ipnet_lists.specs.Causes.{IsNetmaskNumber}
+use Rattle.ipnet_lists.specs.Entries.{IsAddressText, IsEntryText, IsNoEntry}
 use Rattle.netset_words.specs.declared.item.Kind.{Kind}
 use Rattle.netset_words.specs.declared.item.Kind.TheVariants as Kinds
 use Rattle.netset_words.specs.declared.item.ExtractRequest.{ExtractRequest}

@@ -6,8 +6,8 @@ use Rattle.ipnet_base.specs.Address.{Address}
 use Rattle.ipnet_base.specs.Ranges.{AddressRange}
 use Rattle.ipnet.specs.declared.parser.Grammar.{Grammar}
 use Rattle.ipnet_sets.specs.SetRanges.{range_of}
-use Rattle.netset_lib.specs.Causes.{IsCutAt}
-use Rattle.netset_lib.specs.Entries.{IsEntryText, IsIpv4Text}
+use Rattle.ipnet_lists.specs.Causes.{IsCutAt}
+use Rattle.ipnet_lists.specs.Entries.{IsEntryText, IsIpv4Text}
 use Rattle.netset_words.specs.Words.{Word}
 
 -- The texts of an IPv4 address and of a port, which is decimal digits. They represent the address.

@@ -9,12 +9,12 @@ use Rattle.ipnet_text.specs.Inputs.{GaveWhole}
 use Rattle.netset_lib.specs.declared.answer.Request.{Request}
 use Rattle.netset_lib.specs.Answers.{AreListsRead}
 use Rattle.netset_lib.specs.Filters.{IsOnSide}
-use Rattle.netset_lib.specs.Lists.{ListEntry, IsInEntries, after_mark}
+use Rattle.ipnet_lists.specs.Lists.{ListEntry, IsInEntries, after_mark}
 use Rattle.netset_lib.specs.Operations.{IsInResult}
 use Rattle.netset_words.specs.declared.line_filter.LineFilter.{LineFilter}
 use Rattle.netset_words.specs.declared.lines_program.FilteredLog.{FilteredLog}
 use Rattle.netset_words.specs.declared.log_line.LinesRequest.{LinesRequest}
-use Rattle.netset_lib.specs.RefusedLines.{AreRefused}
+use Rattle.ipnet_lists.specs.RefusedLines.{AreRefused}
 use Rattle.netset_words.specs.LogLines.{LogResult, IsLog, AreLogLines}
 use Rattle.netset_words.specs.FilterSteps.{IsLogUpTo}
 

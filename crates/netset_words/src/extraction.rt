@@ -1,20 +1,21 @@
 //! The entries in texts that are read one after another.
-ghost use Rattle.std.specs.Prelude.{◌≡◌, ◌+◌, List, ℕ, [], ◌∷◌, ◌++◌, length, true, IfOk, OnOk};
+ghost use Rattle.std.specs.Prelude.{◌≡◌, ◌+◌, List, ℕ, [], ◌∷◌, ◌++◌, length, true, IfOk, OnOk, OnErr, IsErr};
 ghost use Rattle.ipnet.specs.Lines.{lines_of};
 ghost use Rattle.ipnet_text.specs.Inputs.{GaveWhole};
-ghost use Rattle.netset_lib.specs.Marks.{IsPastMark};
+ghost use Rattle.ipnet_lists.specs.Marks.{IsPastMark};
 ghost use Rattle.netset_words.specs.ExtractSteps.{ReadsFront};
 
 use crate::item::ExtractRequest;
 use crate::word_reader::WordReader;
+use ipnet_lists::{MOST_READS, ReadFailure, begin_input, next_number};
 use ipnet_text::{ReadError, Window, lines_len};
-use netset_lib::{MOST_READS, ReadFailure, begin_input, next_number};
 use std::alloc::{AllocError, Global};
 use std::io::Read;
 
 /// The texts of a call, which are read one after another, and the entries that were found.
 ///
-/// Kept are the entries, and of a text only the line that is not complete.
+/// Kept are the entries, and of a text only the line that is not complete. After a text could not be read, every later
+/// call of `read` fails, and so does the command `extract`.
 ///
 /// ```text
 /// new(the first of each line), read("allow 10.0.0.0/9;\n"), read("::1 ::2"): the answer is "10.0.0.0/9\n::1\n"
@@ -25,6 +26,8 @@ pub struct Extraction {
     /// The front of a line that is not complete.
     carry: Vec<u8>,
     pub(crate) words: WordReader,
+    /// Whether a text could not be read.
+    pub(crate) is_broken: bool,
 }
 
 /// Reads the lines of the bytes in `carry` and of complete lines that follow, and empties `carry`. If no line follows,
@@ -52,7 +55,7 @@ fn read_front(
 
 impl Extraction {
     ghost use Rattle.netset_words.specs.ExtractSteps.{TakesBytes, IsAtFirstLine};
-    ghost use Rattle.netset_words.specs.Extractions.{WereExtracted, IsNoted, has_entry, refused_count};
+    ghost use Rattle.netset_words.specs.Extractions.{WereExtracted, IsBroken, IsNoted, has_entry, refused_count};
 
     /// Returns an extraction that has read no text. Fails if memory runs out.
     pub fn new(alloc: Global, request: ExtractRequest) -> Result<Extraction, AllocError>
@@ -62,6 +65,7 @@ impl Extraction {
             window: Window::new(alloc)?,
             carry: Vec::new(alloc),
             words: WordReader::new(alloc, request),
+            is_broken: false,
         })
     }
 
@@ -109,14 +113,7 @@ impl Extraction {
     }
 
     /// Reads the next text up to its end.
-    ///
-    /// A byte order mark at the start is skipped. Words are cut at spaces, tabs, line ends, vertical tabs, form feeds,
-    /// and at `"`, `'`, a backquote, `,`, `;`, `(`, `)`, `[`, `]`, `{`, `}`, `<`, `>`, `=` and `|`. A word that is an
-    /// entry counts, and a word that is an IPv4 netmask of length 1 to 31 is refused with its line. So is a line with a
-    /// NUL byte. A refused line is not an error here: `run_extract` reports it.
-    ///
-    /// The error is `Unreadable` if a read fails, and `Memory` if memory runs out.
-    pub fn read<R: Read>(&mut self, input: &mut R) -> Result<(), ReadFailure>
+    fn read_text<R: Read>(&mut self, input: &mut R) -> Result<(), ReadFailure>
         ensures { OnOk result ((how : ExtractRequest) → (texts : List (List ℕ)) → WereExtracted how texts self.old
             → ((bytes : List ℕ) × GaveWhole (R.remaining input.old) (R.remaining input.new) bytes
             × WereExtracted how (texts ++ bytes ∷ []) self.new
@@ -133,7 +130,35 @@ impl Extraction {
         Err(ReadFailure::Unreadable)
     }
 
-    /// The number of refused lines of all texts that were read.
+    /// Reads the next text up to its end.
+    ///
+    /// A byte order mark at the start is skipped. Words are cut at spaces, tabs, line ends, vertical tabs, form feeds,
+    /// and at `"`, `'`, a backquote, `,`, `;`, `(`, `)`, `[`, `]`, `{`, `}`, `<`, `>`, `=` and `|`. A word that is an
+    /// entry counts, and a word that is an IPv4 netmask of length 1 to 31 is refused with its line. So is a line with a
+    /// NUL byte. A refused line is not an error here: the command `extract` reports it.
+    ///
+    /// The error is `Unreadable` if a read fails, now or in a call before, and `Memory` if memory runs out.
+    pub fn read<R: Read>(&mut self, input: &mut R) -> Result<(), ReadFailure>
+        ensures read { OnOk result ((how : ExtractRequest) → (texts : List (List ℕ)) → WereExtracted how texts self.old
+            → ((bytes : List ℕ) × GaveWhole (R.remaining input.old) (R.remaining input.new) bytes
+            × WereExtracted how (texts ++ bytes ∷ []) self.new
+            × IsNoted how (length texts) bytes (has_entry self.new))) }
+        ensures broken { OnErr result (IsBroken self.new) }
+        ensures fails { IsBroken self.old → IsErr result }
+    {
+        if self.is_broken {
+            return Err(ReadFailure::Unreadable);
+        }
+        match self.read_text(input) {
+            Ok(()) => Ok(()),
+            Err(failure) => {
+                self.is_broken = true;
+                Err(failure)
+            }
+        }
+    }
+
+    /// Returns the number of refused lines of all texts that were read.
     ///
     /// ```text
     /// after read("10.0.0.0 255.0.0.0\n") and read("255.0.0.0\n"): 2
@@ -144,7 +169,7 @@ impl Extraction {
         self.words.refused.count
     }
 
-    /// Whether the text that was read last has an entry.
+    /// Returns whether the text that was read last has an entry.
     ///
     /// ```text
     /// after read("allow 10.0.0.1;\n"): true; after read("allow all;\n"): false

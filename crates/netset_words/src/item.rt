@@ -5,9 +5,10 @@ ghost use Rattle.netset_words.specs.Items.{BeginsRange, IsKind, IsMask, IsNextIt
 ghost use Rattle.netset_words.specs.Words.{words_of};
 ghost use Rattle.netset_words.specs.WordSteps.{item_of, word_of};
 
+use crate::log_entry::has_separator;
 use crate::word::{NextWord, next_word};
 use ipnet::{Grammar, IpAddr};
-use netset_lib::{is_netmask, parse_address, read_entry, read_text};
+use ipnet_lists::{is_netmask, parse_address, read_entry, read_text};
 use std::str;
 
 /// The entries to extract from texts.
@@ -71,6 +72,10 @@ fn text_kind(text: &str, grammar: Grammar) -> Kind
 fn word_kind(word: &[u8], grammar: Grammar) -> Kind
     ensures { IsKind grammar word.now result }
 {
+    // Most words are cheap to refuse.
+    if !has_separator(word) {
+        return Kind::Other;
+    }
     match str::from_utf8(word) {
         Ok(text) => text_kind(text, grammar),
         Err(_) => Kind::Other,
@@ -103,6 +108,9 @@ fn range_at<'a>(
         return None;
     };
     let text = &bytes[first.before.len()..bytes.len() - last.after.len()];
+    if !has_separator(text) {
+        return None;
+    }
     match read_text(text, request.grammar) {
         Some(_) => Some(LineItem {
             kind: Kind::Entry,

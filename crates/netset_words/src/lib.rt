@@ -13,7 +13,6 @@ pub mod refused_word;
 mod word;
 mod word_reader;
 
-pub use extract_program::run_extract;
 pub use extraction::Extraction;
 pub use item::ExtractRequest;
 pub use line_filter::LineFilter;

@@ -12,7 +12,7 @@ ghost use Rattle.netset_lib.specs.declared.answer.Request.{Request};
 ghost use Rattle.netset_lib.specs.declared.command.Work.TheVariants.{Combine};
 ghost use Rattle.netset_words.specs.declared.log_line.LinesRequest.{LinesRequest};
 ghost use Rattle.netset_words.specs.declared.line_filter.Rest.TheVariants.{Kept};
-ghost use Rattle.netset_lib.specs.RefusedLines.{HasMore};
+ghost use Rattle.ipnet_lists.specs.RefusedLines.{HasMore};
 ghost use Rattle.netset_words.specs.LogLines.{LogResult, IsShortLine, has_none, is_printed, report_of};
 ghost use Rattle.netset_words.specs.LogSteps.{AddsResult, rest_of, after_front};
 ghost use Rattle.netset_words.specs.Words.{cuts};
@@ -22,10 +22,11 @@ use crate::log_line::{
 };
 use crate::refused_word::{RefusedWords, WordCause};
 use crate::word::is_cut;
+use ipnet_lists::{RefusedPart, next_number};
 use ipnet_sets::IpSet;
 use memchr::memchr;
 use netset_lib::filter::side_set;
-use netset_lib::{Failure, RefusedPart, Session, next_number};
+use netset_lib::{Failure, Session};
 use std::alloc::{AllocError, Global};
 
 /// At most this many bytes of a line are kept: 1 MiB.

@@ -6,7 +6,7 @@ ghost use Rattle.ipnet.specs.Lines.{lines_of};
 ghost use Rattle.ipnet_sets.specs.Members.{IsMember};
 ghost use Rattle.ipnet_sets.specs.declared.set.IpSet.{IpSet};
 ghost use Rattle.ipnet_text.specs.Inputs.{GaveWhole};
-ghost use Rattle.netset_lib.specs.Lists.{after_mark};
+ghost use Rattle.ipnet_lists.specs.Lists.{after_mark};
 ghost use Rattle.netset_lib.specs.declared.answer.Request.{Request};
 ghost use Rattle.netset_words.specs.declared.log_line.LinesRequest.{LinesRequest};
 ghost use Rattle.netset_words.specs.LogLines.{LogResult};
@@ -16,8 +16,9 @@ ghost use Rattle.netset_words.specs.FilterSteps.{IsLogUpTo, IsTaken, IsStreamed}
 
 use crate::line_filter::LineFilter;
 use crate::refused_word::RefusedWords;
+use ipnet_lists::{MOST_READS, ReadFailure, begin_input, report_since};
 use ipnet_text::{ReadError, Window};
-use netset_lib::{MOST_READS, ReadFailure, begin_input, report_since, write_and_flush};
+use netset_lib::write_and_flush;
 use std::alloc::AllocError;
 use std::io;
 use std::io::{Read, Write};

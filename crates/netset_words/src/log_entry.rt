@@ -3,16 +3,16 @@ ghost use Rattle.std.specs.Prelude.{◌≡◌, ◌≢◌, ◌↔◌, ◌==◌, �
 ghost use Rattle.std.specs.Char.{is_ascii_digit};
 ghost use Rattle.std.specs.List.{list_all, list_any};
 ghost use Rattle.ipnet_base.specs.Ranges.{AddressRange};
-ghost use Rattle.netset_lib.specs.EntryOf.{entry_range};
+ghost use Rattle.ipnet_lists.specs.EntryOf.{entry_range};
 ghost use Rattle.netset_words.specs.LogEntries.{AreWithPort, IsLogEntry, IsWithPort};
 
 use ipnet::{Grammar, IpAddr};
-use netset_lib::{Entry, are_digits, parse_address, read_entry};
+use ipnet_lists::{Entry, are_digits, parse_address, read_entry};
 use std::str;
 
 /// Whether one of the bytes is "." or ":". Each entry has one, and most words have none.
 #[inline]
-fn has_separator(word: &[u8]) -> bool
+pub(crate) fn has_separator(word: &[u8]) -> bool
     ensures { result ≡ list_any (λ b. (b == 46) || (b == 58)) word.now }
 {
     word.iter().any(|byte| *byte == b'.' || *byte == b':')

@@ -3,8 +3,8 @@ ghost use Rattle.std.specs.Prelude.{◌≡◌, ◌<◌, ◌↔◌, All, length, 
 ghost use Rattle.ipnet_base.specs.Address.{ip_address};
 ghost use Rattle.ipnet_sets.specs.Members.{IsMember};
 ghost use Rattle.ipnet.specs.declared.parser.Grammar.{Grammar};
-ghost use Rattle.netset_lib.specs.EntryOf.{entry_range};
-ghost use Rattle.netset_lib.specs.declared.entry.Entry.TheVariants as Entries;
+ghost use Rattle.ipnet_lists.specs.EntryOf.{entry_range};
+ghost use Rattle.ipnet_lists.specs.declared.entry.Entry.TheVariants as Entries;
 ghost use Rattle.netset_words.specs.LogEntries.{IsNoEntryWord};
 ghost use Rattle.netset_words.specs.LogLines.{IsVerdict, LiesIn, treated, treated_front};
 ghost use Rattle.netset_words.specs.LogSteps.{IsNextLogEntry};
@@ -13,10 +13,11 @@ ghost use Rattle.netset_words.specs.Words.{words_of};
 use crate::log_entry::read_log_entry;
 use crate::word::{is_cut, next_word};
 use ipnet::{Grammar, IpAddr};
+use ipnet_lists::Entry;
 use ipnet_sets::IpSet;
 use ipnet_text::ipv4_addr_at;
+use netset_lib::Side;
 use netset_lib::filter::{address_fits, covers_entry};
-use netset_lib::{Entry, Side};
 
 /// Which lines of a log are printed.
 #[derive(Clone, Copy, Debug, PartialEq, Eq)]

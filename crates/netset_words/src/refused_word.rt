@@ -1,5 +1,5 @@
 //! The lines that are refused for one of their words.
-use netset_lib::{LineCause, Refusals, Refused, report_text};
+use ipnet_lists::{LineCause, Refusals, Refused, report_text};
 use std::io;
 use std::io::Write;
 

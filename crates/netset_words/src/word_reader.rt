@@ -5,7 +5,7 @@ ghost use Rattle.ipnet.specs.Lines.{lines_of};
 use crate::item::ExtractRequest;
 use crate::line_items::read_items;
 use crate::refused_word::{RefusedWords, WordCause};
-use netset_lib::{RefusedPart, first_line_of_bytes, has_byte, next_number};
+use ipnet_lists::{RefusedPart, first_line_of_bytes, has_byte, next_number};
 use std::alloc::{AllocError, Global};
 
 /// Reads the lines of texts.
@@ -25,7 +25,7 @@ pub(crate) struct WordReader {
 }
 
 impl WordReader {
-    ghost use Rattle.netset_lib.specs.RefusedLines.{AreRefused};
+    ghost use Rattle.ipnet_lists.specs.RefusedLines.{AreRefused};
     ghost use Rattle.netset_words.specs.ExtractSteps.{ReadsWords};
 
     /// A reader of the first text.

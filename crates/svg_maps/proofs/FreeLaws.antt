@@ -10,7 +10,7 @@ use Rattle.ipnet_base.specs.Blocks.{AreMaximalBlocks}
 use Rattle.ipnet_base.specs.Network.{Network, IsSubnetOf}
 use Rattle.ipnet_base.proofs.ListLaws.{contains_nil, contains_here, contains_there, contains_cases, all_from_members}
 use Rattle.ipnet_base.proofs.UniqueLaws.{AreMaximalBlocks-same_set}
-use Rattle.ipnet_pictures.specs.Summaries.{IsFree}
+use Rattle.ipnet_bars.specs.Summaries.{IsFree}
 use Rattle.svg_maps.specs.declared.outline.Outline.{Outline}
 use Rattle.svg_maps.specs.FreeOutlines.{with_len, largest_first, AreOutlinesOf}
 

@@ -6,10 +6,10 @@ use Rattle.ipnet_base.specs.Address.{Address}
 use Rattle.ipnet_base.specs.Network.{Network, IsSubnetOf, IsTruncated, truncation}
 use Rattle.ipnet_base.proofs.ListLaws.{all_at, all_from_members}
 use Rattle.ipnet_base.proofs.NetworkLaws.{truncation_of_truncated}
-use Rattle.ipnet_sets.specs.declared.routes.RouteTable.{RouteTable}
-use Rattle.ipnet_sets.specs.Routes.{Route, networks_of, ip_networks, AreWithin}
-use Rattle.ipnet_sets.specs.RoutesOf.{routes_of}
-use Rattle.ipnet_sets.proofs.RouteLaws.{network_of_route, same_networks}
+use Rattle.ipnet_routes.specs.declared.routes.RouteTable.{RouteTable}
+use Rattle.ipnet_routes.specs.Routes.{Route, networks_of, ip_networks, AreWithin}
+use Rattle.ipnet_routes.specs.RoutesOf.{routes_of}
+use Rattle.ipnet_routes.proofs.RouteLaws.{network_of_route, same_networks}
 use Rattle.svg_maps.specs.declared.outline.Outline.{Outline}
 use Rattle.svg_maps.specs.declared.overlay.Look.{Look}
 use Rattle.svg_maps.specs.declared.square.Counted.{Counted}

@@ -5,7 +5,7 @@ use Rattle.std.specs.List.{AllZip}
 use Rattle.ipnet_base.specs.Address.{Address}
 use Rattle.ipnet_base.specs.Blocks.{AreMaximalBlocks}
 use Rattle.ipnet_base.specs.Network.{Network}
-use Rattle.ipnet_pictures.specs.Summaries.{IsFree}
+use Rattle.ipnet_bars.specs.Summaries.{IsFree}
 use Rattle.ipnet_maps.specs.Places.{IsRectangleIn}
 use Rattle.svg_maps.specs.declared.outline.Outline.{Outline}
 use Rattle.svg_maps.specs.declared.outline.OutlineClass.TheVariants.{Free}

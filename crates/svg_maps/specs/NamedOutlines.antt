@@ -7,9 +7,9 @@ use Rattle.std.specs.Global.{Global}
 use Rattle.std.specs.List.{AllZip}
 use Rattle.ipnet_base.specs.Network.{Network, truncation}
 use Rattle.ipnet.specs.CanonicalTexts.{canonical_text}
-use Rattle.ipnet_sets.specs.Routes.{Route, networks_of, AreWithin}
+use Rattle.ipnet_routes.specs.Routes.{Route, networks_of, AreWithin}
 use Rattle.ipnet_maps.specs.Places.{IsRectangleIn}
-use Rattle.ipnet_pictures.specs.ShortTexts.{IsShortened}
+use Rattle.ipnet_bars.specs.ShortTexts.{IsShortened}
 use Rattle.svg_maps.specs.declared.outline.Outline.{Outline}
 use Rattle.svg_maps.specs.declared.outline.OutlineClass.TheVariants.{Named}
 use Rattle.svg_maps.specs.FreeOutlines.{largest_first}

@@ -7,7 +7,7 @@ use Rattle.ipnet.specs.CanonicalTexts.{canonical_text}
 use Rattle.ipnet.specs.NetworkParts.{AreSubnetsOfLength}
 use Rattle.ipnet_sets.specs.Members.{IsMember, IsCountOf}
 use Rattle.ipnet_sets.specs.Parts.{IsInPart}
-use Rattle.ipnet_pictures.specs.Parts.{block_size}
+use Rattle.ipnet_bars.specs.Parts.{block_size}
 use Rattle.ipnet_maps.specs.Places.{IsRectangleIn}
 use Rattle.svg_maps.specs.declared.square.Counted.{Counted}
 use Rattle.svg_maps.specs.declared.chart.Square.{Square}

@@ -6,13 +6,13 @@ ghost use Rattle.ipnet_base.specs.Blocks.{AreMaximalBlocks};
 ghost use Rattle.ipnet_base.specs.Network.{IsSubnetOf};
 ghost use Rattle.ipnet.specs.NetworkOf.{ip_network};
 ghost use Rattle.ipnet_sets.specs.Members.{IsMember};
-ghost use Rattle.ipnet_pictures.specs.Summaries.{IsFree};
+ghost use Rattle.ipnet_bars.specs.Summaries.{IsFree};
 ghost use Rattle.svg_maps.specs.FreeOutlines.{with_len, largest_first, IsFreeOutline, AreFreeOutlines};
 
 use crate::outline::{Outline, OutlineClass};
 use ipnet::IpNet;
+use ipnet_bars::{free_in, largest_of};
 use ipnet_maps::rectangle_in;
-use ipnet_pictures::{free_in, largest_of};
 use ipnet_sets::IpSet;
 use std::alloc::{AllocError, Global};
 

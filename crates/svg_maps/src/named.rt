@@ -6,8 +6,8 @@ ghost use Rattle.ipnet_base.specs.Address.{width};
 ghost use Rattle.ipnet_base.specs.Network.{Network, IsSubnetOf};
 ghost use Rattle.ipnet.specs.CanonicalTexts.{canonical_text};
 ghost use Rattle.ipnet.specs.NetworkOf.{ip_network};
-ghost use Rattle.ipnet_sets.specs.Routes.{ip_networks};
-ghost use Rattle.ipnet_sets.specs.RoutesOf.{routes_of};
+ghost use Rattle.ipnet_routes.specs.Routes.{ip_networks};
+ghost use Rattle.ipnet_routes.specs.RoutesOf.{routes_of};
 ghost use Rattle.svg_maps.specs.FreeOutlines.{largest_first};
 ghost use Rattle.svg_maps.specs.NamedOutlines.{blank_for_tab, spaced_text, IsShownName, name_part};
 ghost use Rattle.svg_maps.specs.NamedOutlines.{IsNamedOutline, HasName, AreNamedOutlines};
@@ -15,9 +15,9 @@ ghost use Rattle.svg_maps.specs.NamedOutlines.{IsNamedOutline, HasName, AreNamed
 use crate::free::{MOST, largest_blocks};
 use crate::outline::{Outline, OutlineClass};
 use ipnet::IpNet;
+use ipnet_bars::shorten;
 use ipnet_maps::rectangle_in;
-use ipnet_pictures::shorten;
-use ipnet_sets::RouteTable;
+use ipnet_routes::RouteTable;
 use std::alloc::{AllocError, Global};
 
 /// Appends the character, or a blank for a tab.

@@ -3,7 +3,7 @@ ghost use Rattle.std.specs.Prelude.{◌+◌, ◌≤◌, ◌≡◌, ◌++◌, [],
 ghost use Rattle.ipnet_base.specs.Address.{width};
 ghost use Rattle.ipnet.specs.NetworkOf.{ip_network};
 ghost use Rattle.ipnet_sets.specs.Members.{IsMember};
-ghost use Rattle.ipnet_sets.specs.RoutesOf.{routes_of};
+ghost use Rattle.ipnet_routes.specs.RoutesOf.{routes_of};
 ghost use Rattle.svg_maps.specs.EntryOutlines.{AreEntryOutlines};
 ghost use Rattle.svg_maps.specs.FreeOutlines.{AreFreeOutlines, AreOutlinesOf};
 ghost use Rattle.svg_maps.specs.NamedOutlines.{AreNamedOutlines};
@@ -18,9 +18,10 @@ use crate::square::Counted;
 use crate::style::Theme;
 use crate::whole::{entry_lines, name_lines};
 use ipnet::IpNet;
-use ipnet_pictures::summary::{push_free, push_largest};
-use ipnet_pictures::{free_in, largest_of};
-use ipnet_sets::{IpSet, RouteTable};
+use ipnet_bars::summary::{push_free, push_largest};
+use ipnet_bars::{free_in, largest_of};
+use ipnet_routes::RouteTable;
+use ipnet_sets::IpSet;
 use std::alloc::{AllocError, Global};
 
 /// How a map looks, which networks on it have names, and which are entries of its lists.

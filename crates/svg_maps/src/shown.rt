@@ -10,8 +10,8 @@ use crate::overlay::{Extent, Look, overlay_of};
 use crate::square::Counted;
 use crate::style::style_of;
 use ipnet::IpNet;
+use ipnet_bars::outside_of;
 use ipnet_maps::{draw_change, draw_set, draw_sets};
-use ipnet_pictures::outside_of;
 use ipnet_sets::IpSet;
 use std::alloc::{AllocError, Global};
 

@@ -5,7 +5,7 @@ ghost use Rattle.ipnet_base.specs.Network.{IsSubnetOf};
 ghost use Rattle.ipnet.specs.NetworkOf.{ip_network};
 ghost use Rattle.ipnet.specs.NetworkParts.{AreSubnetsOfLength};
 ghost use Rattle.ipnet.specs.SubnetsLeft.{ip_subnets_left};
-ghost use Rattle.ipnet_pictures.specs.Parts.{counted, block_size};
+ghost use Rattle.ipnet_bars.specs.Parts.{counted, block_size};
 ghost use Rattle.svg_maps.specs.Squares.{IsCountText, AreCountTexts, title_start, IsTitle, IsSquareOf};
 ghost use Rattle.svg_maps.specs.Squares.{AreSquaresOf, first_bits, square_bits};
 
@@ -13,8 +13,8 @@ use crate::chart::Square;
 use crate::extent::extent_of;
 use crate::name::short_name;
 use ipnet::IpNet;
+use ipnet_bars::{count_in, push_count, size_of, subnets_of};
 use ipnet_maps::rectangle_in;
-use ipnet_pictures::{count_in, push_count, size_of, subnets_of};
 use ipnet_sets::IpSet;
 use std::alloc::{AllocError, Global};
 

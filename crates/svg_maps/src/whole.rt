@@ -5,7 +5,7 @@ use crate::entry::MapEntry;
 use crate::named::{name_title, shown_name};
 use crate::outline_labels::columns_of;
 use ipnet::IpNet;
-use ipnet_sets::RouteTable;
+use ipnet_routes::RouteTable;
 use std::alloc::{AllocError, Global};
 
 /// How many such entries, and how many such names, the legend has at most.

@@ -1,21 +1,20 @@
 //! The addresses of a pool: sets and counts of them, and pools that grow or shrink.
 ghost use Rattle.std.specs.Prelude.{◌≡◌, ◌↔◌, ◌⊎◌, Err, IfOk, OnOk, IsErr, IfSome, IfNone, IsNone};
 ghost use Rattle.ipnet_base.specs.Address.{Address, IPv4, IPv6, IsAddress};
-ghost use Rattle.ipnet_base.specs.Network.{InBlock};
-ghost use Rattle.ipnet.specs.NetworkOf.{ip_network};
 ghost use Rattle.ipnet.specs.declared.net.IpNet.{IpNet as Net};
 ghost use Rattle.ipnet_sets.specs.Members.{IsMember, IsCountOf};
 ghost use Rattle.ipnet_pools.specs.declared.error.PoolError.TheVariants.{NotFree, Memory};
 
 use super::IpPool;
 use crate::error::PoolError;
+use crate::leases;
 use ipnet::IpNet;
 use ipnet_sets::IpSet;
 use std::alloc::{AllocError, Global};
 
 impl<V: Drop> IpPool<V> {
-    ghost use Rattle.ipnet_pools.specs.PoolOf.{IsOfPool, IsFree, IsLeaseOf, IsOfPoolIn, IsFreeIn, IsInUse, IsLeasedIn};
-    ghost use Rattle.ipnet_pools.specs.PoolOf.{IsSamePool, IsExtended, IsShrunk};
+    ghost use Rattle.ipnet_pools.specs.PoolOf.{IsOfPool, IsFree, IsOfPoolIn, IsFreeIn, IsInUse, IsLeasedIn};
+    ghost use Rattle.ipnet_pools.specs.PoolOf.{IsSamePool, IsExtended, IsShrunk, IsFirstInTheWay};
 
     /// Returns the set of the free addresses; its ranges are the free ranges. Fails only if memory runs out.
     ///
@@ -134,41 +133,40 @@ impl<V: Drop> IpPool<V> {
         Ok(())
     }
 
-    /// Returns a lease that shares an address with the set, or `None` if there is no such lease. Fails only if memory
-    /// runs out.
-    fn lease_in(&self, alloc: Global, set: &IpSet) -> Result<Option<IpNet>, AllocError>
-        ensures found { IfOk result (λ o. IfSome o (λ n. IsLeaseOf self.now n
-            × ((x : Address) × InBlock (ip_network n) x × IsMember set.now x))) }
-        ensures none { IfOk result (λ o. IfNone o ((x : Address) → IsMember set.now x → IsOfPool self.now x
-            → IsFree self.now x)) }
+    /// Returns the first lease that shares an address with the set, or `None` if there is no such lease. Allocates
+    /// nothing.
+    fn first_lease_in(&self, set: &IpSet) -> Option<IpNet>
+        ensures found { IfSome result (IsFirstInTheWay self.now (IsMember set.now)) }
+        ensures none { IfNone result ((x : Address) → IsMember set.now x → IsOfPool self.now x
+            → IsFree self.now x) }
     {
-        let leased = self.leased_set(alloc)?;
-        let both = leased.intersection(alloc, set)?;
-        let Some(address) = both.first() else {
-            return Ok(None);
-        };
-        match self.lease_of(address) {
-            Some((lease, _)) => Ok(Some(*lease)),
-            None => unreachable!(),
+        for network in set.iter_networks() {
+            if let Some(lease) = leases::first_touching(&self.leases, &network) {
+                return Some(lease);
+            }
         }
+        None
     }
 
     /// Removes the addresses of the set from the pool. No lease changes.
     ///
-    /// The error is `NotFree`, with a lease in the way, if some address of the set is leased. After an error the pool
-    /// is as it was.
+    /// The error is `NotFree` exactly if some address of the set is leased, also if no memory is left. The error has
+    /// the first lease that shares an address with the set. After an error the pool is as it was.
     ///
     /// ```text
     /// 10.0.0.0/24 after take 10.0.0.0/26, without 10.0.0.128/25: 10.0.0.64/26 is free
+    /// 10.0.0.0/24 after take 10.0.0.0/26, without 10.0.0.32/27: NotFree, with 10.0.0.0/26
     /// ```
     pub fn shrink(&mut self, alloc: Global, set: &IpSet) -> Result<(), PoolError>
         ensures shrunk { OnOk result (IsShrunk self.old self.new set.now) }
-        ensures in_the_way { (n : Net) → result ≡ Err (NotFree n) → IsLeaseOf self.old n
-            × ((x : Address) × InBlock (ip_network n) x × IsMember set.now x) }
+        ensures not_free { ((n : Net) × (result ≡ Err (NotFree n)))
+            ↔ ¬ ((x : Address) → IsMember set.now x → IsOfPool self.old x → IsFree self.old x) }
+        ensures in_the_way { (n : Net) → result ≡ Err (NotFree n)
+            → IsFirstInTheWay self.old (IsMember set.now) n }
         ensures unchanged { IsErr result → IsSamePool self.old self.new }
         ensures errors { IsErr result → ((n : Net) × (result ≡ Err (NotFree n))) ⊎ (result ≡ Err Memory) }
     {
-        if let Some(lease) = self.lease_in(alloc, set)? {
+        if let Some(lease) = self.first_lease_in(set) {
             return Err(PoolError::NotFree(lease));
         }
         let whole = self.whole.difference(alloc, set)?;

@@ -54,19 +54,56 @@ pub fn read_u32(bytes: &[u8], at: usize) -> u32
         + u32::from(bytes[at + 3]) * 0x100_0000
 }
 
-/// Appends the four bytes of the number.
-pub(crate) fn append_u32(bytes: &mut Vec<u8>, number: u32) -> Result<(), AllocError>
+/// Returns the number in the sixteen bytes from byte `at` on, the least significant first.
+///
+/// ```text
+/// the bytes 0, 1, 2 and fourteen times 0, from byte 1 on    513
+/// ```
+#[inline(always)]
+pub fn read_u128(bytes: &[u8], at: usize) -> u128
+    requires { at + 16 ≤ length bytes.now }
+    ensures { result ≡ number_from 16 bytes.now at }
+{
+    let low = u128::from(read_u64(bytes, at));
+    let high = u128::from(read_u64(bytes, at + 8));
+    low + high * 0x1_0000_0000_0000_0000
+}
+
+/// Appends the four bytes of the number, the least significant first. Fails only if memory runs out.
+///
+/// ```text
+/// of 513: 1, 2, 0, 0
+/// ```
+pub fn append_u32(bytes: &mut Vec<u8>, number: u32) -> Result<(), AllocError>
     ensures { OnOk result (IsAppended 4 number bytes.old.items bytes.new.items) }
 {
     bytes.extend_from_slice(&number.to_le_bytes())?;
     Ok(())
 }
 
-/// Appends the eight bytes of the number.
-pub(crate) fn append_u64(bytes: &mut Vec<u8>, number: u64) -> Result<(), AllocError>
+/// Appends the eight bytes of the number, the least significant first. Fails only if memory runs out.
+///
+/// ```text
+/// of 513: 1, 2, 0, 0, 0, 0, 0, 0
+/// ```
+pub fn append_u64(bytes: &mut Vec<u8>, number: u64) -> Result<(), AllocError>
     ensures { OnOk result (IsAppended 8 number bytes.old.items bytes.new.items) }
 {
-    bytes.extend_from_slice(&number.to_le_bytes())?;
+    let eight = number.to_le_bytes();
+    bytes.extend_from_slice(&eight)?;
+    Ok(())
+}
+
+/// Appends the sixteen bytes of the number, the least significant first. Fails only if memory runs out.
+///
+/// ```text
+/// of 513: 1, 2, and fourteen times 0
+/// ```
+pub fn append_u128(bytes: &mut Vec<u8>, number: u128) -> Result<(), AllocError>
+    ensures { OnOk result (IsAppended 16 number bytes.old.items bytes.new.items) }
+{
+    append_u64(bytes, (number % 0x1_0000_0000_0000_0000) as u64)?;
+    append_u64(bytes, (number / 0x1_0000_0000_0000_0000) as u64)?;
     Ok(())
 }
 
@@ -86,16 +123,11 @@ impl StoredNumber for u128 {
     ghost width = { 16 };
 
     fn read(bytes: &[u8], start: usize, index: usize) -> u128 {
-        let at = start + index * 16;
-        let low = u128::from(read_u64(bytes, at));
-        let high = u128::from(read_u64(bytes, at + 8));
-        low + high * 0x1_0000_0000_0000_0000
+        read_u128(bytes, start + index * 16)
     }
 
     fn append_to(self, bytes: &mut Vec<u8>) -> Result<(), AllocError> {
-        append_u64(bytes, (self % 0x1_0000_0000_0000_0000) as u64)?;
-        append_u64(bytes, (self / 0x1_0000_0000_0000_0000) as u64)?;
-        Ok(())
+        append_u128(bytes, self)
     }
 }
 
@@ -195,6 +227,17 @@ pub(crate) fn read_all<T: StoredNumber>(
         numbers.push(T::read(bytes, place.start, index))?;
     }
     Ok(numbers)
+}
+
+/// Appends the four bytes of each number, as `append_u32` does. Fails only if memory runs out.
+///
+/// ```text
+/// of 513 and 1: 1, 2, 0, 0, 1, 0, 0, 0
+/// ```
+pub fn append_u32s(bytes: &mut Vec<u8>, numbers: &[u32]) -> Result<(), AllocError>
+    ensures { OnOk result (AreAppended 4 numbers.now bytes.old.items bytes.new.items) }
+{
+    append_all(bytes, numbers)
 }
 
 /// Appends the bytes of the numbers.

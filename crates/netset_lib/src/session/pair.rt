@@ -2,7 +2,7 @@
 ghost use Rattle.std.specs.Prelude.{◌≡◌, ◌≢◌, List, ℕ, length, Err, IfOk, IfErr};
 ghost use Rattle.ipnet.specs.declared.parser.Grammar.{Grammar};
 ghost use Rattle.netset_lib.specs.PairSets.{ArePairSets};
-ghost use Rattle.netset_lib.specs.Replies.{IsWorkFailure, TakesCount};
+ghost use Rattle.netset_lib.specs.Replies.{AreCompared, IsWorkFailure, TakesCount};
 ghost use Rattle.netset_lib.specs.declared.command.Work.TheVariants.{Ask};
 ghost use Rattle.netset_lib.specs.declared.query.Query.TheVariants.{Compare};
 
@@ -41,4 +41,16 @@ impl Session {
             _ => Err(Failure::Memory),
         }
     }
+}
+
+/// Whether the sets of two lists have the same addresses.
+///
+/// ```text
+/// of "10.0.0.0/8\n" and "10.0.0.0-10.255.255.255\n": true
+/// ```
+pub fn are_same(before: &IpSet, after: &IpSet) -> bool
+    ensures { (grammar : Grammar) → (lists : List (List ℕ)) → ArePairSets grammar lists before.now after.now
+        → AreCompared grammar lists result }
+{
+    before == after
 }

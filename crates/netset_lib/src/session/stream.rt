@@ -3,22 +3,20 @@ ghost use Rattle.std.specs.Prelude.{◌≡◌, ◌↔◌, List, ℕ, [], length,
 ghost use Rattle.std.specs.Prelude.{false, string_bytes};
 ghost use Rattle.std.specs.Io.{StartsWith};
 ghost use Rattle.std.specs.Io.KnownBytes.{Appends, Keeps};
-ghost use Rattle.netset_lib.specs.Reading.{WasMadeOf};
+ghost use Rattle.ipnet_lists.specs.Reading.{WasMadeOf};
 ghost use Rattle.netset_lib.specs.Streams.{IsWorkStreamed, IsWritten, IsWrittenInPart, HasStream, CanStream};
 ghost use Rattle.netset_lib.specs.Streams.{IsStreamFailure, IsBroken, found_by_stream};
 ghost use Rattle.netset_lib.specs.declared.failure.Failure.TheVariants as Failures;
-ghost use Rattle.netset_lib.specs.declared.reading.ReadFailure.TheVariants.{Unreadable, Memory};
+ghost use Rattle.ipnet_lists.specs.declared.reading.ReadFailure.TheVariants.{Unreadable, Memory};
 ghost use Rattle.netset_lib.specs.declared.session.stream.StreamFailure.TheVariants as StreamFailures;
 
 use super::Session;
 use crate::answerer::{Answerer, Answers};
 use crate::command::Work;
 use crate::failure::Failure;
-use crate::mark::MOST_READS;
 use crate::query::Query;
-use crate::reading::{ReadFailure, Reading};
-use crate::refused::report_since;
 use crate::write::write_and_flush;
+use ipnet_lists::{MOST_READS, ReadFailure, Reading, report_since};
 use ipnet_text::ReadError;
 use std::alloc::AllocError;
 use std::io::{Read, Write};

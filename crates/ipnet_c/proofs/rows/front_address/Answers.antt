@@ -3,9 +3,9 @@ use Rattle.std.proofs.Common.{take, subst}
 use Rattle.ipnet_base.specs.Address.{ip_address, ipv4_address}
 use Rattle.ipnet.specs.declared.parser.Grammar.TheVariants.{Strict}
 use Rattle.std.specs.declared.net.ip_addr.IpAddr.TheVariants as Ip
-use Rattle.netset_lib.specs.Entries.{IsAddressText}
-use Rattle.netset_lib.proofs.EntryTexts.{reads_some}
-use Rattle.netset_lib.proofs.FrontEntries.{address_text}
+use Rattle.ipnet_lists.specs.Entries.{IsAddressText}
+use Rattle.ipnet_lists.proofs.EntryTexts.{reads_some}
+use Rattle.ipnet_lists.proofs.FrontEntries.{address_text}
 use Rattle.ipnet_c.proofs.rows.front_address.Goals as goal
 
 pub returns-then-end-len : goal.returns-then-end-len

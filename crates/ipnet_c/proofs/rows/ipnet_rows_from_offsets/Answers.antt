@@ -3,7 +3,7 @@ use Rattle.std.proofs.Common.{rules, length, take, drop, ◌+◌, ◌-◌, sym, 
 use Rattle.std.proofs.lemmas.Slice.{between_to_end}
 use Rattle.ipnet_base.specs.Address.{ip_address}
 use Rattle.ipnet.specs.declared.parser.Grammar.TheVariants.{Strict}
-use Rattle.netset_lib.specs.Entries.{IsAddressText, ReadsAs}
+use Rattle.ipnet_lists.specs.Entries.{IsAddressText, ReadsAs}
 use Rattle.ipnet_c.specs.TextRows.{text_at}
 use Rattle.ipnet_c.proofs.TextRowReplies.{AreRowsTo, one_row}
 use Rattle.ipnet_c.proofs.rows.ipnet_rows_from_offsets.Goals as goal

@@ -2,9 +2,9 @@
 use Rattle.std.proofs.Common.{subst}
 use Rattle.ipnet_base.specs.Address.{ip_address}
 use Rattle.ipnet.specs.declared.parser.Grammar.TheVariants.{Strict}
-use Rattle.netset_lib.specs.Entries.{IsAddressText, ReadsAs}
-use Rattle.netset_lib.proofs.EntryTexts.{reads_none}
-use Rattle.netset_lib.proofs.ListLines.{address_utf8}
+use Rattle.ipnet_lists.specs.Entries.{IsAddressText, ReadsAs}
+use Rattle.ipnet_lists.proofs.EntryTexts.{reads_none}
+use Rattle.ipnet_lists.proofs.ListLines.{address_utf8}
 use Rattle.ipnet_c.proofs.rows.text_address.Goals as goal
 
 pub returns-in_default : goal.returns-in_default

@@ -2,7 +2,7 @@
 use Rattle.std.proofs.Common.{string_bytes}
 use Rattle.std.proofs.lemmas.Result.{IfOk-weaker}
 use Rattle.ipnet_sets.specs.Members.{IsMember}
-use Rattle.netset_lib.specs.Answers.{AreRangeLines}
+use Rattle.ipnet_lists.specs.SetLines.{AreRangeLines}
 use Rattle.ipnet_c.specs.SetReplies.{IsRangesOfImage}
 use Rattle.ipnet_c.proofs.set_images.image_ranges.Goals as goal
 

@@ -2,7 +2,7 @@
 use Rattle.std.proofs.Common.{string_bytes}
 use Rattle.std.proofs.lemmas.Result.{IfOk-weaker}
 use Rattle.ipnet_sets.specs.Members.{IsMember}
-use Rattle.netset_lib.specs.Answers.{AreNetworkLines}
+use Rattle.ipnet_lists.specs.SetLines.{AreNetworkLines}
 use Rattle.ipnet_c.specs.SetReplies.{IsTextOfImage}
 use Rattle.ipnet_c.proofs.set_images.image_text.Goals as goal
 

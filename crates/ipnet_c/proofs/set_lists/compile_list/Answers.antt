@@ -2,7 +2,7 @@
 use Rattle.std.proofs.Common.{◌≡◌, ◌<◌, ◌∙◌, length, get_or, sym, ap, subst, arith}
 use Rattle.ipnet_sets.specs.Images.{IsImageOf}
 use Rattle.ipnet_text.proofs.LineCuts.{some_bytes, no_bytes}
-use Rattle.netset_lib.specs.RefusedLines.{RefusedLine}
+use Rattle.ipnet_lists.specs.RefusedLines.{RefusedLine}
 use Rattle.ipnet_c.specs.ListReplies.{IsListReply}
 use Rattle.ipnet_c.proofs.RefusedLists.{list_refused, list_compiled}
 use Rattle.ipnet_c.proofs.set_lists.compile_list.Goals as goal

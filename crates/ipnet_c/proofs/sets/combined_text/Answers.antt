@@ -3,7 +3,7 @@ use Rattle.std.proofs.Common.{string_bytes}
 use Rattle.std.proofs.lemmas.Result.{IfOk-weaker}
 use Rattle.ipnet_sets.specs.declared.set.IpSet.{IpSet}
 use Rattle.ipnet_sets.specs.Members.{IsMember, IsResultOf}
-use Rattle.netset_lib.specs.Answers.{AreNetworkLines}
+use Rattle.ipnet_lists.specs.SetLines.{AreNetworkLines}
 use Rattle.ipnet_c.proofs.sets.combined_text.Goals as goal
 
 pub returns : goal.returns

@@ -4,7 +4,7 @@ use Rattle.std.proofs.Common.{[], sym, ◌∙◌, subst}
 use Rattle.std.proofs.lemmas.Bool.{false≢true}
 use Rattle.ipnet.specs.declared.parser.Grammar.TheVariants.{Strict}
 use Rattle.ipnet_sets.specs.Members.{IsMember}
-use Rattle.netset_lib.specs.Answers.{AreNetworkLines}
+use Rattle.ipnet_lists.specs.SetLines.{AreNetworkLines}
 use Rattle.ipnet_c.specs.Replies.{IsSetReply}
 use Rattle.ipnet_c.proofs.BadTexts.{later_no_memory}
 use Rattle.ipnet_c.proofs.ListReplies.{good_at_once}

@@ -14,7 +14,7 @@ returns-in-Some-longest_match c =
     c.in-Ok.ensures c.in-Ok.image.header c.in-Some.ensures.some (omega (arith, c.if-network-lt-LONGEST_FORM.false))
     c.write_network.ensures c.in-Some-longest_match.ensures.some
     (λ t image out. let apart : true ≡ false = (c.in-Some-longest_match.ensures.none t image).1 out in absurd (cc))
-    (ip_valid route.0)
+    (ip_valid route.0) c.in-Some-longest_match.ensures.stored c.in-Some-longest_match.ensures.holds
 
 pub returns-in-None : goal.returns-in-None
 returns-in-None c =

@@ -12,6 +12,11 @@ returns-in-Some-longest_match c =
     (ip_network route.0) c.args.value.now route.1 c.in-Ok.ensures c.in-Ok.image.header c.in-Some.ensures.some
     c.in-Some-longest_match.ensures.some
     (λ t image out. let apart : true ≡ false = (c.in-Some-longest_match.ensures.none t image).1 out in absurd (cc))
+    (record {
+      network = ip_network route.0;
+      stored = c.in-Some-longest_match.ensures.stored;
+      holds = c.in-Some-longest_match.ensures.holds;
+    })
 
 pub returns-in-None : goal.returns-in-None
 returns-in-None c =

@@ -1,6 +1,6 @@
 -- Each turn writes the value for one address more.
 use Rattle.std.proofs.Common.{refl, subst, arith}
-use Rattle.ipnet_sets.specs.TableImages.{HasTableHeader}
+use Rattle.ipnet_routes.specs.TableImages.{HasTableHeader}
 use Rattle.ipnet_c.proofs.TableReplies.{AreValuesTo, valued_more, valued_all}
 use Rattle.ipnet_c.proofs.tables.ipnet_table_longest_match_all.Goals as goal
 

@@ -2,7 +2,7 @@
 use Rattle.std.proofs.Common.{◌+◌, map, take, get_or, sym, subst, arith}
 use Rattle.ipnet_base.proofs.ListLaws.{at_place}
 use Rattle.ipnet.specs.NetworkOf.{ip_network}
-use Rattle.ipnet_sets.specs.Routes.{ip_routes}
+use Rattle.ipnet_routes.specs.Routes.{ip_routes}
 use Rattle.ipnet_c.specs.TableReplies.{ArePairs}
 use Rattle.ipnet_c.proofs.TableReplies.{paired_more, paired_all}
 use Rattle.ipnet_c.proofs.tables.with_values.Goals as goal

@@ -4,7 +4,7 @@ use Rattle.ipnet_base.specs.Address.{Address}
 use Rattle.ipnet_sets.specs.Members.{IsMember, IsDifference}
 use Rattle.ipnet_sets.proofs.ManyLaws.{both_ways}
 use Rattle.ipnet_sets.proofs.SetEqualLaws.{member_or_not}
-use Rattle.ipnet_pictures.specs.Parts.{HasAll}
+use Rattle.ipnet_bars.specs.Parts.{HasAll}
 use Rattle.ipnet_maps.specs.Cells.{IsInCell}
 use Rattle.ipnet_maps.proofs.CellLaws.{all_by_missing}
 use Rattle.ipnet_maps.proofs.cells.cells_with_all.Goals as goal

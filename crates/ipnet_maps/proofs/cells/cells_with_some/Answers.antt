@@ -8,7 +8,7 @@ use Rattle.ipnet_sets.specs.NetworksLeft.{networks_left}
 use Rattle.ipnet_sets.specs.Pushed.{IsPushed}
 use Rattle.ipnet_sets.proofs.ManyLaws.{both_ways}
 use Rattle.ipnet_sets.proofs.SetEqualLaws.{member_or_not}
-use Rattle.ipnet_pictures.specs.Parts.{HasSome}
+use Rattle.ipnet_bars.specs.Parts.{HasSome}
 use Rattle.ipnet_maps.specs.Cells.{IsInCell}
 use Rattle.ipnet_maps.proofs.CellLaws.{AreCellsOf, cells_begin, cells_more, cells_end}
 use Rattle.ipnet_maps.proofs.cells.cells_with_some.Goals as goal

@@ -8,8 +8,8 @@ use Rattle.ipnet_sets.specs.Members.{IsMember}
 use Rattle.ipnet_sets.specs.NetworksLeft.{networks_left}
 use Rattle.ipnet_sets.proofs.ManyLaws.{both_ways}
 use Rattle.ipnet_sets.proofs.SetEqualLaws.{member_or_not}
-use Rattle.ipnet_pictures.specs.declared.share.Level.TheVariants.{BelowThird, FromThird, FromTwoThirds, Whole}
-use Rattle.ipnet_pictures.specs.Parts.{IsLevelOf}
+use Rattle.ipnet_bars.specs.declared.share.Level.TheVariants.{BelowThird, FromThird, FromTwoThirds, Whole}
+use Rattle.ipnet_bars.specs.Parts.{IsLevelOf}
 use Rattle.ipnet_maps.specs.Cells.{IsInCell}
 use Rattle.ipnet_maps.specs.LevelSteps.{IsPushedAs}
 use Rattle.ipnet_maps.proofs.LevelWalkLaws.{IsWalk, walk_begin, walk_large, joined_fits, walk_joined, none_in_open}

@@ -1,5 +1,5 @@
 use Rattle.ipnet.specs.NetworkOf.{ip_network}
-use Rattle.ipnet_pictures.proofs.PartLaws.{one_value_more}
+use Rattle.ipnet_bars.proofs.PartLaws.{one_value_more}
 use Rattle.ipnet_maps.specs.Places.{IsRectangleIn}
 use Rattle.ipnet_maps.proofs.places.rectangles_in.Goals as goal
 

@@ -1,6 +1,6 @@
 use Rattle.ipnet_sets.specs.Members.{IsMember}
 use Rattle.ipnet_sets.proofs.ManyLaws.{both_ways}
-use Rattle.ipnet_pictures.specs.Parts.{HasSome}
+use Rattle.ipnet_bars.specs.Parts.{HasSome}
 use Rattle.ipnet_maps.specs.Cells.{IsInCell}
 use Rattle.ipnet_maps.proofs.SharedLaws.{two_more, two_whole, two_of_cells, in_either, in_both}
 use Rattle.ipnet_maps.proofs.shared.cells_in_two_of.Goals as goal

@@ -1,6 +1,6 @@
 -- After i sets the two sets have the cells in which one of them has addresses, and in which two of them have.
 use Rattle.ipnet_sets.specs.Members.{IsMember}
-use Rattle.ipnet_pictures.specs.Parts.{HasSome}
+use Rattle.ipnet_bars.specs.Parts.{HasSome}
 use Rattle.ipnet_maps.specs.Cells.{IsInCell}
 use Rattle.ipnet_maps.proofs.SharedLaws.{HasTwoOf}
 use Rattle.ipnet_maps.proofs.shared.cells_in_two_of.Given as goal

@@ -3,7 +3,7 @@ use Rattle.std.proofs.Common.{◌≡◌, ◌+◌, [], ◌∷◌, map, drop, sym,
 use Rattle.std.proofs.Common.{Err, inl, inr}
 use Rattle.std.proofs.lemmas.List.{drop_more, map-append}
 use Rattle.std.proofs.lemmas.Result.{err_from_is_err_and}
-use Rattle.ipnet_base.proofs.ResultLaws.{false_gives}
+use Rattle.ipnet_base.proofs.ResultLaws.{true_gives, false_gives}
 use Rattle.ipnet.specs.NetworkOf.{ip_network}
 use Rattle.ipnet_sets.specs.Members.{IsMember}
 use Rattle.ipnet_base.proofs.DecidedLaws.{IsDecided-cover}
@@ -11,8 +11,9 @@ use Rattle.ipnet_pools.specs.BlocksOf.{blocks_of}
 use Rattle.ipnet_pools.specs.Fits.{HasRoom, IsBestFit, Without}
 use Rattle.ipnet_pools.specs.PlanSteps.{IsPlannedSoFar}
 use Rattle.ipnet_pools.specs.FreeOf.{IsIn}
+use Rattle.ipnet_pools.proofs.RoomLaws.{room_for_placed}
 use Rattle.ipnet_pools.proofs.PlacementLaws.{best_fit_keeps_placements, CanPlace-more}
-use Rattle.ipnet_pools.proofs.PlanLaws.{planned_start, planned_more, planned_none, planned_end}
+use Rattle.ipnet_pools.proofs.PlanLaws.{planned_start, planned_more, planned_none, planned_end, planned_keeps}
 use Rattle.ipnet_pools.proofs.plan.plan.Goals as goal
 
 pub loop-index-init : goal.loop-index-init
@@ -22,6 +23,15 @@ loop-index-init c =
     lengths 0 (map ip_network z)) (sym c.new-networks.ensures.items)
     (planned_start (IsMember c.args.set.now) (IsIn c.in_ok-free.free) (ip_network c.args.family).family lengths
     (λ x h. (c.in_ok-free.ensures x).0 h) (λ x h. (c.in_ok-free.ensures x).1 h))
+
+pub returns-then-not-has_room_for_each-clause-exhausted : goal.returns-then-not-has_room_for_each-clause-exhausted
+returns-then-not-has_room_for_each-clause-exhausted c = λ _ place.
+    false_gives c.has_room_for_each.result c.has_room_for_each.ensures c.if-not-has_room_for_each.true
+    (room_for_placed (IsMember c.args.set.now) (ip_network c.args.family).family c.args.lengths.now place)
+
+pub returns-in_err-push-clause-memory : goal.returns-in_err-push-clause-memory
+returns-in_err-push-clause-memory c = λ _.
+    true_gives c.has_room_for_each.result c.has_room_for_each.ensures c.if-not-has_room_for_each.false
 
 pub returns-in_err-network-clause-prefix_len : goal.returns-in_err-network-clause-prefix_len
 returns-in_err-network-clause-prefix_len c =
@@ -87,6 +97,15 @@ pub returns-clause-plan : goal.returns-clause-plan
 returns-clause-plan c =
     let lengths = c.args.lengths.now in
     planned_end (IsMember c.args.set.now) (IsIn c.loop-index.free) (ip_network c.args.family).family lengths
+    (map ip_network c.loop-index.networks.items)
+    (subst (λ z. IsPlannedSoFar (IsMember c.args.set.now) (IsIn c.loop-index.free) (ip_network c.args.family).family
+    lengths z (map ip_network c.loop-index.networks.items))
+    (omega (arith, c.loop-index-test.false, c.loop-index.auto.index-end)) c.loop-index.invariant)
+
+pub returns-clause-keeps : goal.returns-clause-keeps
+returns-clause-keeps c =
+    let lengths = c.args.lengths.now in
+    planned_keeps (IsMember c.args.set.now) (IsIn c.loop-index.free) (ip_network c.args.family).family lengths
     (map ip_network c.loop-index.networks.items)
     (subst (λ z. IsPlannedSoFar (IsMember c.args.set.now) (IsIn c.loop-index.free) (ip_network c.args.family).family
     lengths z (map ip_network c.loop-index.networks.items))

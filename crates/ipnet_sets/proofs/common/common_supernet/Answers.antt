@@ -2,8 +2,8 @@
 use Rattle.std.proofs.Common.{◌∙◌, ap, subst₂, arith}
 use Rattle.ipnet.specs.NetworkOf.{ip_network}
 use Rattle.ipnet.specs.NetLaws.{ip_valid}
-use Rattle.ipnet_sets.specs.RouteMapSteps.{AreSharedBits}
-use Rattle.ipnet_sets.proofs.ClimbLaws.{common_from_bits}
+use Rattle.ipnet_sets.specs.CommonSupernets.{AreSharedBits}
+use Rattle.ipnet_sets.proofs.CommonLaws.{common_from_bits}
 use Rattle.ipnet_sets.proofs.common.common_supernet.Goals as goal
 
 pub returns-clause-some : goal.returns-clause-some

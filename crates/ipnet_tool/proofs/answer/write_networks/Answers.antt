@@ -1,10 +1,10 @@
 -- Each loop keeps this: the written bytes and the piece are the text of the networks so far (`one_line_more`); the
 -- second loop begins after the first has printed all of IPv4. A front of the piece is a front of the whole text.
 use Rattle.std.proofs.Common.{◌≡◌, List, ℕ, [], ◌∷◌, ◌++◌, length, map, take, drop, take_all, refl, sym, ap, ◌∙◌, subst}
-use Rattle.std.proofs.Common.{append-nil, append_assoc, OnOk, Result, Ok, Err, ◌+◌, ◌≤◌}
+use Rattle.std.proofs.Common.{append-nil, append_assoc, Option, ◌+◌, ◌≤◌}
 use Rattle.std.specs.Io.{StartsWith}
 use Rattle.std.specs.Io.KnownBytes.{Appends}
-use Rattle.std.proofs.KnownBytes.{Appends-kept}
+use Rattle.std.proofs.lemmas.Result.{on_ok_weaker}
 use Rattle.ipnet.specs.CanonicalTexts.{canonical_text}
 use Rattle.ipnet.specs.NetworkOf.{ipv4_network, ipv6_network}
 use Rattle.ipnet_text.specs.LineTexts.{text_of_lines}
@@ -13,7 +13,7 @@ use Rattle.ipnet_text.specs.Pieces.{IsInPieces}
 use Rattle.ipnet_text.specs.declared.net_lists.NetLists.{NetLists}
 use Rattle.ipnet.specs.declared.net.ipv6_net.Ipv6Net.{Ipv6Net}
 use Rattle.ipnet_text.proofs.LineTextLaws.{one_line_more, text_of_lines-append}
-use Rattle.ipnet_text.proofs.WritingLaws.{pieces_more, front_written, all_written, whole_front, text_cut}
+use Rattle.ipnet_text.proofs.WritingLaws.{pieces_more, front_written, all_written, text_cut}
 use Rattle.ipnet_tool.proofs.answer.write_networks.Goals as goal
 
 pub loop-network-preserved : goal.loop-network-preserved
@@ -87,26 +87,13 @@ whole_text families items i all is =
     (take_all i items all ∙ is)
     ∙ sym (text_of_lines-append (map ipv4_network families.ipv4.items) (map ipv6_network families.ipv6.items))
 
-pub returns-in_err-write_whole-clause-front : goal.returns-in_err-write_whole-clause-front
-returns-in_err-write_whole-clause-front g c =
-    let held = g.W.Write.contents in
-    let start = held c.args.out.now in
-    let here = held c.loop-network-2.out in
-    let families = c.args.families.now in
-    let whole = text_of_lines (networks_of families) in
-    let bytes = c.loop-network-2.piece.bytes in
-    let piece : c.as_bytes.result.now ≡ bytes = c.as_bytes.ensures.value ∙ c.as_str.ensures.value in
-    let all : IsInPieces start here bytes whole =
-    subst (IsInPieces start here bytes) (whole_text families c.deref-network-items-2.result.now
-    c.loop-network-2.network-index c.loop-network-2-test.false c.deref-network-items-2.ensures.value)
-    c.loop-network-2.invariant in
-    front_written start here (held c.write_whole.new.out) bytes whole [] whole all (sym (append-nil whole))
-    (subst (λ z. (front : List ℕ) × StartsWith z front × Appends here (held c.write_whole.new.out) front) piece
-    c.in_err-write_whole.ensures.front)
-
-on_ok : {T E P : Type 0} (result : Result T E) → P → OnOk result P
-on_ok (Ok x) p = p
-on_ok (Err e) p = tt
+-- the whole text, after the second loop
+ended : (start here : Option (List ℕ)) (families : NetLists) (items : List Ipv6Net) (i : ℕ) (piece : List ℕ)
+    → length items ≤ i → items ≡ families.ipv6.items → IsInPieces start here piece
+    (text_of_lines (map ipv4_network families.ipv4.items) ++ text_of_lines (map ipv6_network (take i items)))
+    → IsInPieces start here piece (text_of_lines (networks_of families))
+ended start here families items i piece all is h =
+    subst (IsInPieces start here piece) (whole_text families items i all is) h
 
 pub returns-clause-whole : goal.returns-clause-whole
 returns-clause-whole g c =
@@ -114,19 +101,13 @@ returns-clause-whole g c =
     let start = held c.args.out.now in
     let here = held c.loop-network-2.out in
     let families = c.args.families.now in
-    let whole = text_of_lines (networks_of families) in
     let bytes = c.loop-network-2.piece.bytes in
     let piece : c.as_bytes.result.now ≡ bytes = c.as_bytes.ensures.value ∙ c.as_str.ensures.value in
-    let all : IsInPieces start here bytes whole =
-    subst (IsInPieces start here bytes) (whole_text families c.deref-network-items-2.result.now
-    c.loop-network-2.network-index c.loop-network-2-test.false c.deref-network-items-2.ensures.value)
-    c.loop-network-2.invariant in
-    let written : Appends start (held c.flush.new.self) whole =
-    Appends-kept start (held c.write_whole.new.out) (held c.flush.new.self) whole
-    (all_written start here (held c.write_whole.new.out) bytes whole all
-    (subst (Appends here (held c.write_whole.new.out)) piece c.in_ok-write_whole.ensures.whole))
-    c.flush.ensures.bytes in
-    on_ok c.flush.result written
+    let all = ended start here families c.deref-network-items-2.result.now c.loop-network-2.network-index bytes
+    c.loop-network-2-test.false c.deref-network-items-2.ensures.value c.loop-network-2.invariant in
+    on_ok_weaker c.write_whole.result (λ written. all_written start here (held c.write_whole.new.out) bytes
+    (text_of_lines (networks_of families)) all (subst (Appends here (held c.write_whole.new.out)) piece written))
+    c.write_whole.ensures.whole
 
 pub returns-clause-front : goal.returns-clause-front
 returns-clause-front g c =
@@ -137,13 +118,8 @@ returns-clause-front g c =
     let whole = text_of_lines (networks_of families) in
     let bytes = c.loop-network-2.piece.bytes in
     let piece : c.as_bytes.result.now ≡ bytes = c.as_bytes.ensures.value ∙ c.as_str.ensures.value in
-    let all : IsInPieces start here bytes whole =
-    subst (IsInPieces start here bytes) (whole_text families c.deref-network-items-2.result.now
-    c.loop-network-2.network-index c.loop-network-2-test.false c.deref-network-items-2.ensures.value)
-    c.loop-network-2.invariant in
-    let written : Appends start (held c.flush.new.self) whole =
-    Appends-kept start (held c.write_whole.new.out) (held c.flush.new.self) whole
-    (all_written start here (held c.write_whole.new.out) bytes whole all
-    (subst (Appends here (held c.write_whole.new.out)) piece c.in_ok-write_whole.ensures.whole))
-    c.flush.ensures.bytes in
-    (whole, whole_front whole, written)
+    let all = ended start here families c.deref-network-items-2.result.now c.loop-network-2.network-index bytes
+    c.loop-network-2-test.false c.deref-network-items-2.ensures.value c.loop-network-2.invariant in
+    front_written start here (held c.write_whole.new.out) bytes whole [] whole all (sym (append-nil whole))
+    (subst (λ z. (front : List ℕ) × StartsWith z front × Appends here (held c.write_whole.new.out) front) piece
+    c.write_whole.ensures.front)

@@ -1,7 +1,7 @@
 -- Each line gives one entry or one refused line.
 use Rattle.std.proofs.Common.{map, ap, sym, subst}
-use Rattle.netset_lib.specs.ContentLineOf.{line_of, refused_of}
-use Rattle.netset_lib.specs.ContentLines.{AreContentLines}
+use Rattle.ipnet_lists.specs.ContentLineOf.{line_of, refused_of}
+use Rattle.ipnet_lists.specs.ContentLines.{AreContentLines}
 use Rattle.netset_entries.specs.EntryLineOf.{numbered}
 use Rattle.netset_entries.proofs.EntryLineLaws.{line_next, lines_all}
 use Rattle.netset_entries.proofs.entry_list.entry_list.Goals as goal
@@ -21,7 +21,7 @@ pub returns : goal.returns
 returns c =
     let items = c.as_slice-line-items.result.now in (
       map line_of items,
-      subst (λ z. AreContentLines c.args.grammar c.args.bytes.now (map line_of z))
+      subst (λ z. AreContentLines c.args.bytes.now (map line_of z))
           (sym c.as_slice-line-items.ensures.value) c.in_ok-lines.ensures,
       lines_all c.args.grammar line_of items c.loop-line.line-index (map numbered c.loop-line.entries.items)
           (map refused_of c.loop-line.refused.items) c.loop-line-test.false c.loop-line.invariant,

@@ -1,5 +1,5 @@
 use Rattle.std.proofs.Common.{map, take}
-use Rattle.netset_lib.specs.ContentLineOf.{line_of, refused_of}
+use Rattle.ipnet_lists.specs.ContentLineOf.{line_of, refused_of}
 use Rattle.netset_entries.specs.EntryLineOf.{numbered}
 use Rattle.netset_entries.specs.NumberedEntries.{AreEntryLines}
 use Rattle.netset_entries.proofs.entry_list.entry_list.Given as goal

@@ -1,7 +1,7 @@
 use Rattle.std.proofs.Common.{◌+◌, ◌-◌, ◌∙◌, ap, drop, length, take}
-use Rattle.netset_lib.specs.Lists.{without_blanks}
-use Rattle.netset_lib.proofs.CommentLaws.{behind}
-use Rattle.netset_lib.proofs.ListLines.{trimmed}
+use Rattle.ipnet_lists.specs.Lists.{without_blanks}
+use Rattle.ipnet_lists.proofs.CommentLaws.{behind}
+use Rattle.ipnet_lists.proofs.ListLines.{trimmed}
 use Rattle.netset_entries.proofs.TitleLaws.{no_comment, some_comment}
 use Rattle.netset_entries.proofs.noted.comment_of.Goals as goal
 

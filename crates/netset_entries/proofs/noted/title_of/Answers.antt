@@ -1,6 +1,6 @@
 use Rattle.std.proofs.Common.{◌≡◌, ◌++◌, ◌∙◌, ap, codes, length, subst, string_bytes}
 use Rattle.std.specs.Str.Lossy.{utf8_lossy}
-use Rattle.ipnet_pictures.specs.ShortTexts.{IsShortened}
+use Rattle.ipnet_bars.specs.ShortTexts.{IsShortened}
 use Rattle.ipnet_text.proofs.LineCuts.{no_bytes, some_bytes}
 use Rattle.netset_entries.proofs.TitleLaws.{plain_title, full_title}
 use Rattle.netset_entries.proofs.noted.title_of.Goals as goal

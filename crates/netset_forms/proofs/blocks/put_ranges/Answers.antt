@@ -6,7 +6,7 @@ use Rattle.ipnet_sets.specs.Members.{IsMember}
 use Rattle.ipnet_sets.specs.RangesLeft.{ranges_left}
 use Rattle.ipnet_text.proofs.ListsLaws.{OnOk_then}
 use Rattle.ipnet_text.specs.Pieces.{IsInPieces}
-use Rattle.netset_lib.specs.Answers.{range_text}
+use Rattle.ipnet_lists.specs.SetLines.{range_text}
 use Rattle.netset_forms.specs.FormSteps.{layout_of, lead_of, IsCut}
 use Rattle.netset_forms.proofs.PieceLaws.{put_then, cut_first, cut_then, if_err}
 use Rattle.netset_forms.proofs.RangeItems.{IsPuttingRanges, ranges_start, first_some, ranges_more, ranges_cut}

@@ -64,5 +64,6 @@ returns-in_ok-ipset_parts-in-Ipset-clause-parts c =
     let parts = c.in_ok-ipset_parts-in-Ipset.field-0 in
     let least : c.least_of-least.result ≡ n = c.least_of-least.ensures ∙ ap (λ f. least_in f n) c.in-Ipset.is in
     subst (λ f. MakeParts (IsFormText f n S) parts) (sym c.in-Ipset.is)
-    (subst (λ m. MakeParts (AreFamilyTexts (ipset_layout (ipset_kind IPv4)) (ipset_layout (ipset_kind IPv6))
-    c.in-Ipset.names (max m 1) S) parts) least c.in_ok-ipset_parts-in-Ipset.ensures)
+    (subst (λ m. MakeParts (AreFamilyTexts (ipset_layout (ipset_kind c.in-Ipset.most IPv4))
+    (ipset_layout (ipset_kind c.in-Ipset.most IPv6)) c.in-Ipset.names (max m 1) S) parts) least
+    c.in_ok-ipset_parts-in-Ipset.ensures)

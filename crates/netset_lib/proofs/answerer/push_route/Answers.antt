@@ -1,6 +1,6 @@
 use Rattle.std.proofs.Common.{refl, subst}
 use Rattle.std.proofs.lemmas.Result.{on_ok_weaker}
-use Rattle.netset_lib.specs.FoundEntry.{entry_of}
+use Rattle.ipnet_lists.specs.FoundEntry.{entry_of}
 use Rattle.netset_lib.specs.Routing.{InTable, HoldsEnds, IsLongestIfAny}
 use Rattle.netset_lib.proofs.AnsweringLaws.{routed_some, routed_none}
 use Rattle.netset_lib.proofs.answerer.push_route.Goals as goal

@@ -4,10 +4,10 @@ use Rattle.ipnet_sets.specs.Members.{IsMember}
 use Rattle.netset_lib.specs.declared.answerer.Answerer.TheVariants as Answerers
 use Rattle.netset_lib.specs.Answering.{IsAnswererFor}
 use Rattle.netset_lib.specs.Filters.{IsOnSide}
-use Rattle.netset_lib.specs.Lists.{HaveAddresses, IsInEntries}
-use Rattle.netset_lib.specs.Reading.{WasMadeOf}
+use Rattle.ipnet_lists.specs.Lists.{HaveAddresses, IsInEntries}
+use Rattle.ipnet_lists.specs.Reading.{WasMadeOf}
 use Rattle.netset_lib.proofs.FilterLaws.{side_same}
-use Rattle.netset_lib.proofs.ListsReading.{made_weaker}
+use Rattle.ipnet_lists.proofs.MadeLaws.{made_weaker}
 use Rattle.netset_lib.proofs.answerer.read_answerer.Goals as goal
 
 pub returns-in_ok-side_set-in-Filter : goal.returns-in_ok-side_set-in-Filter

@@ -1,6 +1,6 @@
 use Rattle.netset_lib.specs.Answering.{AreAnswersBy}
 use Rattle.netset_lib.proofs.AnsweringLaws.{none_made}
-use Rattle.netset_lib.proofs.ListsReading.{made_of}
+use Rattle.ipnet_lists.proofs.MadeLaws.{made_of}
 use Rattle.netset_lib.proofs.answerer.read_answers.Goals as goal
 
 pub returns : goal.returns

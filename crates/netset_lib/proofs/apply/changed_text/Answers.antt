@@ -5,9 +5,9 @@ use Rattle.ipnet_text.proofs.LineCuts.{no_bytes}
 use Rattle.netset_lib.specs.ChangeLists.{IsAnswerNetwork, Fits, IsFittingChange, IsChangeCause, IsInChanged}
 use Rattle.netset_lib.specs.ChangeLists.{IsChangeList}
 use Rattle.netset_lib.specs.ChangeSteps.{change_of}
-use Rattle.netset_lib.specs.ContentLineOf.{refused_of}
+use Rattle.ipnet_lists.specs.ContentLineOf.{refused_of}
 use Rattle.netset_lib.proofs.AnswerTexts.{text_of_same}
-use Rattle.netset_lib.proofs.ContentLaws.{items_all, no_refused}
+use Rattle.ipnet_lists.proofs.ContentLaws.{items_all, no_refused}
 use Rattle.netset_lib.proofs.apply.changed_text.Goals as goal
 
 pub changed_set-requires : goal.changed_set-requires

@@ -3,7 +3,7 @@ use Rattle.ipnet.specs.NetworkOf.{ip_network}
 use Rattle.netset_lib.specs.ApplySteps.{AreParts, parts_of}
 use Rattle.netset_lib.specs.ChangeSteps.{change_of}
 use Rattle.netset_lib.proofs.ApplyLaws.{no_parts, parts_more}
-use Rattle.netset_lib.proofs.ContentLaws.{map_take_more}
+use Rattle.ipnet_lists.proofs.ContentLaws.{map_take_more}
 use Rattle.netset_lib.proofs.apply.part_changes.Goals as goal
 
 pub loop-change-init : goal.loop-change-init

@@ -3,9 +3,9 @@ use Rattle.std.proofs.Common.{map, ap, sym, subst}
 use Rattle.ipnet_sets.specs.Members.{IsMember}
 use Rattle.netset_lib.specs.ChangeLists.{IsAnswerNetwork, IsFittingChange, IsChangeCause}
 use Rattle.netset_lib.specs.ChangeSteps.{change_of}
-use Rattle.netset_lib.specs.ContentLineOf.{line_of, refused_of}
-use Rattle.netset_lib.specs.ContentLines.{AreContentLines}
-use Rattle.netset_lib.proofs.ContentLaws.{read_next, read_all, items_map}
+use Rattle.ipnet_lists.specs.ContentLineOf.{line_of, refused_of}
+use Rattle.ipnet_lists.specs.ContentLines.{AreContentLines}
+use Rattle.ipnet_lists.proofs.ContentLaws.{read_next, read_all, items_map}
 use Rattle.netset_lib.proofs.apply.read_changes.Goals as goal
 
 pub loop-line-init : goal.loop-line-init
@@ -26,7 +26,7 @@ returns c =
     let Has = IsAnswerNetwork (IsMember c.args.set.now) in
     let items = c.as_slice-line-items.result.now in record {
       lines = map line_of items;
-      contents = subst (λ z. AreContentLines c.args.grammar c.args.bytes.now (map line_of z))
+      contents = subst (λ z. AreContentLines c.args.bytes.now (map line_of z))
           (sym c.as_slice-line-items.ensures.value) c.in_ok-lines.ensures;
       items = items_map change_of (IsFittingChange c.args.grammar Has) (IsChangeCause c.args.grammar Has)
           (map line_of items) c.loop-line.changes.items (map refused_of c.loop-line.refused.items)

@@ -2,8 +2,8 @@ use Rattle.std.proofs.Common.{map, take}
 use Rattle.ipnet_sets.specs.Members.{IsMember}
 use Rattle.netset_lib.specs.ChangeLists.{IsAnswerNetwork, IsFittingChange, IsChangeCause}
 use Rattle.netset_lib.specs.ChangeSteps.{change_of}
-use Rattle.netset_lib.specs.ContentLineOf.{line_of, refused_of}
-use Rattle.netset_lib.specs.ContentLines.{AreItems}
+use Rattle.ipnet_lists.specs.ContentLineOf.{line_of, refused_of}
+use Rattle.ipnet_lists.specs.ContentLines.{AreItems}
 use Rattle.netset_lib.proofs.apply.read_changes.Given as goal
 
 -- what is kept was read of the lines before the next

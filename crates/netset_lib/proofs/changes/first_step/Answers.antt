@@ -1,7 +1,7 @@
 -- Neither of the two networks comes before the other, so they are one network.
 use Rattle.std.proofs.Common.{◌≡◌, ◌∷◌, map, sym, ◌∙◌, ap}
 use Rattle.ipnet.specs.NetworkOf.{ip_network}
-use Rattle.ipnet_sets.proofs.RouteLaws.{not_less_gives}
+use Rattle.ipnet_routes.proofs.RouteLaws.{not_less_gives}
 use Rattle.netset_lib.proofs.ChangeLaws.{neither_before}
 use Rattle.netset_lib.proofs.changes.first_step.Goals as goal
 

@@ -1,9 +1,9 @@
 use Rattle.ipnet_base.specs.Address.{ip_address}
 use Rattle.ipnet_sets.specs.Members.{IsMember, IsFromTo}
 use Rattle.ipnet_sets.specs.SetRanges.{IsInRange}
-use Rattle.netset_lib.specs.EntryOf.{entry_range}
+use Rattle.ipnet_lists.specs.EntryOf.{entry_range}
 use Rattle.netset_lib.proofs.FilterLaws.{covers_same, range_fits}
-use Rattle.netset_lib.proofs.RangeCovers.{ends_in_range}
+use Rattle.ipnet_lists.proofs.RangeCovers.{ends_in_range}
 use Rattle.netset_lib.proofs.filter.covers_entry.Goals as goal
 
 pub returns : goal.returns

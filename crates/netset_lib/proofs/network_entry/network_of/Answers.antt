@@ -2,7 +2,7 @@ use Rattle.std.proofs.Common.{subst}
 use Rattle.ipnet_base.specs.Address.{ip_address}
 use Rattle.ipnet.specs.NetLaws.{ip_valid}
 use Rattle.ipnet.specs.NetworkOf.{ip_network}
-use Rattle.netset_lib.specs.EntryOf.{IsWrittenAs}
+use Rattle.ipnet_lists.specs.EntryOf.{IsWrittenAs}
 use Rattle.netset_lib.proofs.NetworkEntryLaws.{network_word, address_word}
 use Rattle.netset_lib.proofs.network_entry.network_of.Goals as goal
 

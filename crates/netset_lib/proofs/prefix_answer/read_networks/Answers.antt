@@ -1,10 +1,10 @@
 -- Each line gives one network or one refused line.
 use Rattle.std.proofs.Common.{map, ap, sym, subst}
-use Rattle.netset_lib.specs.ContentLineOf.{line_of, refused_of}
-use Rattle.netset_lib.specs.ContentLines.{AreContentLines}
+use Rattle.ipnet_lists.specs.ContentLineOf.{line_of, refused_of}
+use Rattle.ipnet_lists.specs.ContentLines.{AreContentLines}
 use Rattle.netset_lib.specs.PrefixAnswers.{IsListNetwork, IsNoListNetwork}
 use Rattle.netset_lib.specs.PrefixReading.{network_in}
-use Rattle.netset_lib.proofs.ContentLaws.{read_next, read_all, items_map}
+use Rattle.ipnet_lists.proofs.ContentLaws.{read_next, read_all, items_map}
 use Rattle.netset_lib.proofs.prefix_answer.read_networks.Goals as goal
 
 pub loop-line-init : goal.loop-line-init
@@ -22,7 +22,7 @@ pub returns : goal.returns
 returns c =
     let items = c.as_slice-line-items.result.now in record {
       lines = map line_of items;
-      contents = subst (λ z. AreContentLines c.args.grammar c.args.bytes.now (map line_of z))
+      contents = subst (λ z. AreContentLines c.args.bytes.now (map line_of z))
           (sym c.as_slice-line-items.ensures.value) c.in_ok-lines.ensures;
       items = items_map network_in (IsListNetwork c.args.grammar) (IsNoListNetwork c.args.grammar) (map line_of items)
           c.loop-line.networks.items (map refused_of c.loop-line.refused.items)

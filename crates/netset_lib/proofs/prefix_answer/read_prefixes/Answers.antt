@@ -1,9 +1,9 @@
 -- Each line gives one rule or one refused line.
 use Rattle.std.proofs.Common.{map, ap, sym, subst}
-use Rattle.netset_lib.specs.ContentLineOf.{line_of, refused_of}
-use Rattle.netset_lib.specs.ContentLines.{AreContentLines}
+use Rattle.ipnet_lists.specs.ContentLineOf.{line_of, refused_of}
+use Rattle.ipnet_lists.specs.ContentLines.{AreContentLines}
 use Rattle.netset_lib.specs.PrefixLines.{IsPrefixText, IsPrefixCause}
-use Rattle.netset_lib.proofs.ContentLaws.{read_next, read_all}
+use Rattle.ipnet_lists.proofs.ContentLaws.{read_next, read_all}
 use Rattle.netset_lib.proofs.prefix_answer.read_prefixes.Goals as goal
 
 pub loop-line-init : goal.loop-line-init
@@ -21,7 +21,7 @@ pub returns : goal.returns
 returns c =
     let items = c.as_slice-line-items.result.now in record {
       lines = map line_of items;
-      contents = subst (λ z. AreContentLines c.args.grammar c.args.bytes.now (map line_of z))
+      contents = subst (λ z. AreContentLines c.args.bytes.now (map line_of z))
           (sym c.as_slice-line-items.ensures.value) c.in_ok-lines.ensures;
       items = read_all (IsPrefixText c.args.grammar) (IsPrefixCause c.args.grammar) line_of items c.loop-line.line-index
           c.loop-line.rules.items (map refused_of c.loop-line.refused.items) c.loop-line-test.false

@@ -1,6 +1,6 @@
 use Rattle.std.proofs.Common.{map, take}
-use Rattle.netset_lib.specs.ContentLineOf.{line_of, refused_of}
-use Rattle.netset_lib.specs.ContentLines.{AreItems}
+use Rattle.ipnet_lists.specs.ContentLineOf.{line_of, refused_of}
+use Rattle.ipnet_lists.specs.ContentLines.{AreItems}
 use Rattle.netset_lib.specs.PrefixLines.{IsPrefixText, IsPrefixCause}
 use Rattle.netset_lib.proofs.prefix_answer.read_prefixes.Given as goal
 

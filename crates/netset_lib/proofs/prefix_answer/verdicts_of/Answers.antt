@@ -1,8 +1,9 @@
 use Rattle.std.proofs.Common.{◌↔◌, IsTrue, map, take, sym, subst, take_all}
+use Rattle.ipnet_rules.specs.CompiledListOf.{rules_of}
 use Rattle.ipnet_rules.proofs.VerdictLaws.{any_nil}
 use Rattle.netset_lib.specs.PrefixAnswers.{AreVerdicts, IsOneDenied}
 use Rattle.netset_lib.specs.PrefixReading.{network_in}
-use Rattle.netset_lib.proofs.ContentLaws.{map_take_more}
+use Rattle.ipnet_lists.proofs.ContentLaws.{map_take_more}
 use Rattle.netset_lib.proofs.PrefixLaws.{verdicts_last, denied_last}
 use Rattle.netset_lib.proofs.prefix_answer.verdicts_of.Goals as goal
 
@@ -14,7 +15,7 @@ loop-network-init c = record {
 
 pub loop-network-preserved : goal.loop-network-preserved
 loop-network-preserved c =
-    let rules = c.args.list.now.list.items in
+    let rules = rules_of c.args.list.now in
     let networks = map network_in (take c.loop-network.network-index c.args.networks.now) in
     let n = network_in c.network-item.result in
     let more = sym (map_take_more network_in c.args.networks.now c.loop-network.network-index c.network-item.result
@@ -30,11 +31,11 @@ loop-network-preserved c =
 
 pub returns-clause-text : goal.returns-clause-text
 returns-clause-text c =
-    subst (λ z. AreVerdicts c.args.list.now.list.items (map network_in z) c.loop-network.verdicts.text.items)
+    subst (λ z. AreVerdicts (rules_of c.args.list.now) (map network_in z) c.loop-network.verdicts.text.items)
     (take_all c.loop-network.network-index c.args.networks.now c.loop-network-test.false) c.loop-network.invariant.text
 
 pub returns-clause-denied : goal.returns-clause-denied
 returns-clause-denied c =
-    subst (λ z. IsTrue c.loop-network.verdicts.denied ↔ IsOneDenied c.args.list.now.list.items (map network_in z))
+    subst (λ z. IsTrue c.loop-network.verdicts.denied ↔ IsOneDenied (rules_of c.args.list.now) (map network_in z))
     (take_all c.loop-network.network-index c.args.networks.now c.loop-network-test.false)
     c.loop-network.invariant.denied

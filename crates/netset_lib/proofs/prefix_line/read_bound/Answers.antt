@@ -1,7 +1,7 @@
 use Rattle.std.proofs.Common.{◌≡◌, Some, sym, ap, ◌∙◌, subst, rules}
 use Rattle.ipnet.specs.Numerals.{IsDecimal}
 use Rattle.ipnet.specs.declared.parser.Grammar.TheVariants.{Strict}
-use Rattle.netset_lib.specs.RuleLines.{leading_word, after_word}
+use Rattle.ipnet_lists.specs.Words.{leading_word, after_word}
 use Rattle.netset_lib.proofs.prefix_line.read_bound.Goals as goal
 
 pub returns-in_err-number-clause-none : goal.returns-in_err-number-clause-none

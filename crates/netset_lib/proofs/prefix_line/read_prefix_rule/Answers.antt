@@ -1,7 +1,7 @@
 use Rattle.std.proofs.Common.{◌≡◌, sym, ap, ◌∙◌, subst}
 use Rattle.netset_lib.specs.NetworkEntries.{IsNoNetworkWord, IsNetworkCause}
 use Rattle.netset_lib.specs.PrefixLines.{network_word}
-use Rattle.netset_lib.specs.RuleLines.{leading_word}
+use Rattle.ipnet_lists.specs.Words.{leading_word}
 use Rattle.netset_lib.proofs.prefix_line.read_prefix_rule.Goals as goal
 
 pub returns-in-Err-clause-cause : goal.returns-in-Err-clause-cause

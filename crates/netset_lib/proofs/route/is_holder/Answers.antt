@@ -1,7 +1,7 @@
 use Rattle.std.proofs.Common.{sym, ◌∙◌}
 use Rattle.ipnet_base.specs.Network.{truncation}
 use Rattle.ipnet.specs.NetworkOf.{ip_network}
-use Rattle.ipnet_sets.specs.RoutesOf.{routes_of}
+use Rattle.ipnet_routes.specs.RoutesOf.{routes_of}
 use Rattle.netset_lib.proofs.TableLaws.{got_or_not}
 use Rattle.netset_lib.proofs.route.is_holder.Goals as goal
 

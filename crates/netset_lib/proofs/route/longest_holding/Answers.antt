@@ -4,7 +4,7 @@ use Rattle.ipnet_base.specs.Network.{InBlock}
 use Rattle.ipnet_base.proofs.NetworkLaws.{truncation_of_truncated}
 use Rattle.ipnet.specs.NetworkOf.{ip_network}
 use Rattle.ipnet.specs.NetLaws.{ip_valid}
-use Rattle.netset_lib.specs.EntryOf.{entry_range}
+use Rattle.ipnet_lists.specs.EntryOf.{entry_range}
 use Rattle.netset_lib.specs.Routing.{InTable}
 use Rattle.netset_lib.proofs.RouteLaws.{climb_start, climbed_on, none_above, not_holder}
 use Rattle.netset_lib.proofs.route.longest_holding.Goals as goal

@@ -1,5 +1,5 @@
 use Rattle.ipnet.specs.NetworkOf.{ip_network}
-use Rattle.netset_lib.specs.EntryOf.{entry_range}
+use Rattle.ipnet_lists.specs.EntryOf.{entry_range}
 use Rattle.netset_lib.specs.Routing.{InTable}
 use Rattle.netset_lib.proofs.RouteLaws.{IsClimbedTo}
 use Rattle.netset_lib.proofs.route.longest_holding.Given as goal

@@ -1,9 +1,9 @@
 use Rattle.std.proofs.Common.{◌≡◌, ◌++◌, refl, sym, ◌∙◌, subst, append-nil}
 use Rattle.ipnet.specs.SubnetsLeft.{ip_subnets_left}
 use Rattle.ipnet_base.specs.Blocks.{AreMaximalBlocks}
-use Rattle.ipnet_sets.specs.Routes.{ip_networks}
+use Rattle.ipnet_routes.specs.Routes.{ip_networks}
 use Rattle.ipnet_sets.specs.SetRanges.{IsInRange}
-use Rattle.netset_lib.specs.EntryOf.{entry_range}
+use Rattle.ipnet_lists.specs.EntryOf.{entry_range}
 use Rattle.netset_lib.proofs.TableLaws.{adds_blocks}
 use Rattle.netset_lib.proofs.route.push_entry.Goals as goal
 

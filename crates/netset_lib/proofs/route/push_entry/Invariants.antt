@@ -1,6 +1,6 @@
 use Rattle.std.proofs.Common.{◌≡◌, ◌++◌}
 use Rattle.ipnet.specs.SubnetsLeft.{ip_subnets_left}
-use Rattle.ipnet_sets.specs.Routes.{ip_networks}
+use Rattle.ipnet_routes.specs.Routes.{ip_networks}
 use Rattle.netset_lib.proofs.route.push_entry.Given as goal
 
 -- the networks of the routes, and then those that are left

@@ -1,7 +1,7 @@
-use Rattle.ipnet_sets.specs.Routes.{ip_networks}
-use Rattle.ipnet_sets.specs.RoutesOf.{routes_of}
+use Rattle.ipnet_routes.specs.Routes.{ip_networks}
+use Rattle.ipnet_routes.specs.RoutesOf.{routes_of}
 use Rattle.netset_lib.specs.Routing.{AreTableNetworks, InTable, IsTruncatedOne}
-use Rattle.netset_lib.proofs.ListsReading.{made_of, made_weaker}
+use Rattle.ipnet_lists.proofs.MadeLaws.{made_of, made_weaker}
 use Rattle.netset_lib.proofs.TableLaws.{table_of_entries, no_networks}
 use Rattle.netset_lib.proofs.route.read_table.Goals as goal
 

@@ -1,4 +1,4 @@
-use Rattle.netset_lib.proofs.OneReading.{one_reading, one_cause}
+use Rattle.ipnet_lists.proofs.OneReading.{one_reading, one_cause}
 use Rattle.netset_lib.proofs.script_laws.a_list_is_read_in_one_way.Goals as goal
 
 pub returns-clause-entries : goal.returns-clause-entries

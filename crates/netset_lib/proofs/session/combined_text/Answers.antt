@@ -2,7 +2,7 @@ use Rattle.std.proofs.Common.{List, string_bytes}
 use Rattle.std.proofs.lemmas.Result.{IfOk-weaker}
 use Rattle.ipnet_sets.specs.Members.{IsMember}
 use Rattle.netset_lib.specs.Answers.{IsSetText}
-use Rattle.netset_lib.specs.Lists.{ListEntry, IsInEntries}
+use Rattle.ipnet_lists.specs.Lists.{ListEntry, IsInEntries}
 use Rattle.netset_lib.specs.ListSets.{HaveMembers}
 use Rattle.netset_lib.specs.Operations.{IsInResult}
 use Rattle.netset_lib.proofs.SessionLaws.{combined_right}

@@ -1,6 +1,6 @@
 use Rattle.std.proofs.Common.{refl, sym, ◌∙◌, subst}
 use Rattle.std.specs.Str.{IsUtf8}
-use Rattle.netset_lib.specs.EntryOf.{entry_range}
+use Rattle.ipnet_lists.specs.EntryOf.{entry_range}
 use Rattle.netset_lib.specs.TextSteps.{line_in}
 use Rattle.netset_lib.specs.TextTables.{IsTextLine}
 use Rattle.netset_lib.proofs.TextLineLaws.{none_read, some_read, no_line_word, no_line_text, line_with_text}

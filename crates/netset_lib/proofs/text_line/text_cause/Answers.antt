@@ -1,7 +1,7 @@
 use Rattle.std.proofs.Common.{refl, subst, inl, inr}
-use Rattle.netset_lib.specs.Causes.{IsReportedCause}
-use Rattle.netset_lib.specs.Entries.{IsEntryText, IsNoEntry}
-use Rattle.netset_lib.specs.EntryOf.{entry_range}
+use Rattle.ipnet_lists.specs.Causes.{IsReportedCause}
+use Rattle.ipnet_lists.specs.Entries.{IsEntryText, IsNoEntry}
+use Rattle.ipnet_lists.specs.EntryOf.{entry_range}
 use Rattle.netset_lib.proofs.text_line.text_cause.Goals as goal
 
 pub returns-in-Some : goal.returns-in-Some

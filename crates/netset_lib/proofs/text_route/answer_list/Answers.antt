@@ -1,5 +1,5 @@
 use Rattle.netset_lib.specs.TextSteps.{AreTextAnswersBy}
-use Rattle.netset_lib.proofs.ListTexts.{made_list}
+use Rattle.ipnet_lists.proofs.ListTexts.{made_list}
 use Rattle.netset_lib.proofs.TextAnswerLaws.{no_text_made}
 use Rattle.netset_lib.proofs.text_route.answer_list.Goals as goal
 

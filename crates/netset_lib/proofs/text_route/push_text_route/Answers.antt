@@ -2,8 +2,8 @@ use Rattle.std.proofs.Common.{Contains, refl, sym, subst}
 use Rattle.std.proofs.lemmas.Result.{on_ok_weaker}
 use Rattle.ipnet_base.proofs.NetworkLaws.{truncation_of_truncated}
 use Rattle.ipnet.specs.NetworkOf.{ip_network}
-use Rattle.ipnet_sets.specs.RoutesOf.{routes_of}
-use Rattle.netset_lib.specs.FoundEntry.{entry_of}
+use Rattle.ipnet_routes.specs.RoutesOf.{routes_of}
+use Rattle.ipnet_lists.specs.FoundEntry.{entry_of}
 use Rattle.netset_lib.specs.Routing.{InTable}
 use Rattle.netset_lib.proofs.TableLaws.{table_good}
 use Rattle.netset_lib.proofs.TextAnswerLaws.{text_some}

@@ -1,7 +1,7 @@
 use Rattle.std.proofs.Common.{subst, rules}
-use Rattle.netset_lib.specs.ContentLineOf.{refused_of}
+use Rattle.ipnet_lists.specs.ContentLineOf.{refused_of}
 use Rattle.netset_lib.specs.TextTables.{IsTextTable}
-use Rattle.netset_lib.proofs.ContentLaws.{no_refused}
+use Rattle.ipnet_lists.proofs.ContentLaws.{no_refused}
 use Rattle.netset_lib.proofs.TextLaws.{table_of_lines}
 use Rattle.netset_lib.proofs.text_route.table_of_texts.Goals as goal
 

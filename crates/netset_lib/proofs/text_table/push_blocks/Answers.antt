@@ -4,7 +4,7 @@ use Rattle.ipnet.specs.NetworkOf.{ip_network}
 use Rattle.ipnet.specs.SubnetsLeft.{ip_subnets_left}
 use Rattle.ipnet_base.specs.Blocks.{AreMaximalBlocks}
 use Rattle.ipnet_sets.specs.SetRanges.{IsInRange}
-use Rattle.netset_lib.specs.EntryOf.{entry_range}
+use Rattle.ipnet_lists.specs.EntryOf.{entry_range}
 use Rattle.netset_lib.specs.TextSteps.{texts_in}
 use Rattle.netset_lib.proofs.TextLaws.{put_more}
 use Rattle.netset_lib.proofs.text_table.push_blocks.Goals as goal

@@ -1,7 +1,7 @@
 -- Each line gives routes or one refused line.
 use Rattle.std.proofs.Common.{map, sym, subst}
-use Rattle.netset_lib.specs.ContentLineOf.{line_of}
-use Rattle.netset_lib.specs.ContentLines.{AreContentLines}
+use Rattle.ipnet_lists.specs.ContentLineOf.{line_of}
+use Rattle.ipnet_lists.specs.ContentLines.{AreContentLines}
 use Rattle.netset_lib.proofs.TextLaws.{read_none, read_more, read_whole}
 use Rattle.netset_lib.proofs.text_table.read_text_routes.Goals as goal
 
@@ -18,6 +18,6 @@ pub returns : goal.returns
 returns c =
     let items = c.as_slice-line-items.result.now in
     read_whole c.args.grammar c.args.bytes.now items c.loop-line.line-index c.loop-line.made c.loop-line-test.false
-    (subst (λ z. AreContentLines c.args.grammar c.args.bytes.now (map line_of z))
+    (subst (λ z. AreContentLines c.args.bytes.now (map line_of z))
     (sym c.as_slice-line-items.ensures.value) c.in_ok-lines.ensures)
     c.loop-line.invariant

@@ -1,5 +1,5 @@
 use Rattle.std.proofs.Common.{map, take}
-use Rattle.netset_lib.specs.ContentLineOf.{line_of}
+use Rattle.ipnet_lists.specs.ContentLineOf.{line_of}
 use Rattle.netset_lib.proofs.TextLaws.{IsReadTo}
 use Rattle.netset_lib.proofs.text_table.read_text_routes.Given as goal
 

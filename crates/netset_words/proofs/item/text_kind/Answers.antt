@@ -1,6 +1,6 @@
 use Rattle.std.proofs.Common.{◌≡◌, refl, sym, ◌∙◌, true, false}
 use Rattle.ipnet_base.specs.Address.{ip_address}
-use Rattle.netset_lib.specs.EntryOf.{entry_range}
+use Rattle.ipnet_lists.specs.EntryOf.{entry_range}
 use Rattle.netset_words.proofs.KindLaws.{address_is_entry, not_mask, no_mask}
 use Rattle.netset_words.proofs.item.text_kind.Goals as goal
 

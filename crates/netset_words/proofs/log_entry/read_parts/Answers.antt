@@ -1,7 +1,7 @@
 use Rattle.std.proofs.Common.{◌≡◌, sym, ap, ◌∙◌, inl}
 use Rattle.ipnet_base.specs.Address.{IPv4, IPv6, ip_address}
-use Rattle.netset_lib.specs.Entries.{IsAddressText}
-use Rattle.netset_lib.proofs.EntryTexts.{some_of, none_of, one_address}
+use Rattle.ipnet_lists.specs.Entries.{IsAddressText}
+use Rattle.ipnet_lists.proofs.EntryTexts.{some_of, none_of, one_address}
 use Rattle.netset_words.proofs.log_entry.read_parts.Goals as goal
 
 pub returns-in-Some-V6-clause-none : goal.returns-in-Some-V6-clause-none

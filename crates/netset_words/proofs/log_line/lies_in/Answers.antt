@@ -1,4 +1,4 @@
-use Rattle.netset_lib.specs.EntryOf.{entry_range}
+use Rattle.ipnet_lists.specs.EntryOf.{entry_range}
 use Rattle.netset_words.proofs.LogLaws.{lies_so}
 use Rattle.netset_words.proofs.log_line.lies_in.Goals as goal
 

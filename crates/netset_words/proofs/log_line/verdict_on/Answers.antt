@@ -1,6 +1,6 @@
 use Rattle.std.proofs.Common.{◌≡◌, All, true, false, sym, ◌∙◌}
 use Rattle.ipnet_sets.specs.Members.{IsMember}
-use Rattle.netset_lib.specs.EntryOf.{entry_range}
+use Rattle.ipnet_lists.specs.EntryOf.{entry_range}
 use Rattle.netset_words.specs.LogEntries.{IsNoEntryWord}
 use Rattle.netset_words.specs.LogSteps.{IsNextLogEntry}
 use Rattle.netset_words.specs.Words.{words_of}

@@ -1,5 +1,5 @@
 use Rattle.ipnet.specs.NetworkOf.{ip_network}
-use Rattle.ipnet_pictures.proofs.PartLaws.{one_value_more}
+use Rattle.ipnet_bars.proofs.PartLaws.{one_value_more}
 use Rattle.svg_maps.specs.FreeOutlines.{IsFreeOutline}
 use Rattle.svg_maps.proofs.free.free_outlines.Goals as goal
 

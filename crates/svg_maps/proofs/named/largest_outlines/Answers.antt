@@ -5,7 +5,7 @@ use Rattle.std.proofs.lemmas.Result.{IfOk-weaker}
 use Rattle.ipnet_base.specs.Network.{IsSubnetOf}
 use Rattle.ipnet.specs.NetworkOf.{ip_network}
 use Rattle.ipnet_maps.proofs.PlaceLaws.{all_back}
-use Rattle.ipnet_sets.specs.RoutesOf.{routes_of}
+use Rattle.ipnet_routes.specs.RoutesOf.{routes_of}
 use Rattle.svg_maps.specs.FreeOutlines.{largest_first}
 use Rattle.svg_maps.specs.NamedOutlines.{IsNamedOutline, HasName}
 use Rattle.svg_maps.proofs.FreeLaws.{all_chosen, all_large, front_taken}

@@ -2,9 +2,9 @@ use Rattle.std.proofs.Common.{◌≡◌, ◌+◌, ◌∙◌, Contains, map, take
 use Rattle.std.specs.List.{AllZip}
 use Rattle.std.proofs.lemmas.Result.{IfOk-weaker}
 use Rattle.ipnet.specs.NetworkOf.{ip_network}
-use Rattle.ipnet_sets.specs.Routes.{networks_of, ip_routes}
-use Rattle.ipnet_sets.specs.RoutesOf.{routes_of}
-use Rattle.ipnet_sets.proofs.RouteLaws.{same_networks}
+use Rattle.ipnet_routes.specs.Routes.{networks_of, ip_routes}
+use Rattle.ipnet_routes.specs.RoutesOf.{routes_of}
+use Rattle.ipnet_routes.proofs.RouteLaws.{same_networks}
 use Rattle.svg_maps.specs.FreeOutlines.{largest_first}
 use Rattle.svg_maps.specs.NamedOutlines.{IsNamedOutline, AreNamedOutlines}
 use Rattle.svg_maps.proofs.NamedLaws.{within_inside, within_named}

@@ -1,7 +1,7 @@
 use Rattle.std.proofs.Common.{sym, subst}
 use Rattle.ipnet.specs.NetworkOf.{ip_network}
-use Rattle.ipnet_pictures.proofs.PartLaws.{one_value_more}
-use Rattle.ipnet_sets.specs.RoutesOf.{routes_of}
+use Rattle.ipnet_bars.proofs.PartLaws.{one_value_more}
+use Rattle.ipnet_routes.specs.RoutesOf.{routes_of}
 use Rattle.svg_maps.specs.NamedOutlines.{HasName, IsNamedOutline}
 use Rattle.svg_maps.proofs.named.outlines_in_order.Goals as goal
 

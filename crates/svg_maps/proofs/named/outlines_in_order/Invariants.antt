@@ -2,7 +2,7 @@
 use Rattle.std.proofs.Common.{map, take}
 use Rattle.std.specs.List.{AllZip}
 use Rattle.ipnet.specs.NetworkOf.{ip_network}
-use Rattle.ipnet_sets.specs.RoutesOf.{routes_of}
+use Rattle.ipnet_routes.specs.RoutesOf.{routes_of}
 use Rattle.svg_maps.specs.NamedOutlines.{IsNamedOutline}
 use Rattle.svg_maps.proofs.named.outlines_in_order.Given as goal
 

@@ -1,5 +1,5 @@
 use Rattle.std.proofs.Common.{◌++◌, codes, decimal, refl, string_bytes}
-use Rattle.ipnet_pictures.specs.Parts.{counted}
+use Rattle.ipnet_bars.specs.Parts.{counted}
 use Rattle.svg_maps.proofs.PageLaws.{four_texts}
 use Rattle.svg_maps.proofs.square.push_counted.Goals as goal
 

@@ -1,6 +1,6 @@
 use Rattle.std.proofs.Common.{◌+◌, ◌≤◌, subst, sym}
 use Rattle.ipnet.specs.NetworkOf.{ip_network}
-use Rattle.ipnet_pictures.proofs.PartLaws.{one_value_more}
+use Rattle.ipnet_bars.proofs.PartLaws.{one_value_more}
 use Rattle.svg_maps.specs.Squares.{IsSquareOf}
 use Rattle.svg_maps.proofs.SquareLaws.{all_squares, at_large}
 use Rattle.svg_maps.proofs.square.squares_of.Goals as goal

@@ -4,7 +4,7 @@ use Rattle.ipnet_base.specs.Blocks.{IsMaximal}
 use Rattle.ipnet_base.specs.Network.{Network}
 use Rattle.ipnet.specs.SubnetsLeft.{ip_subnets_left}
 use Rattle.ipnet_sets.specs.SetRanges.{IsInRange}
-use Rattle.netset_lib.specs.EntryOf.{entry_range}
+use Rattle.ipnet_lists.specs.EntryOf.{entry_range}
 use Rattle.netset_entries.specs.NoteSteps.{largest_of}
 use Rattle.netset_entries.proofs.noted.NotedBlocks.count_small.Given as goal
 

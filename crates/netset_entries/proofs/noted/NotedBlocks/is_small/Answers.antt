@@ -7,7 +7,7 @@ returns-in-Some c = λ small.
     let b = c.args.self.now in
     let line = c.args.line.now in
     let network = c.in-Some.network in
-    small_line b line line (family_if network.is_ipv6) network.len (c.in-Some.ensures.contents b.grammar)
+    small_line b line line (family_if network.is_ipv6) network.len c.in-Some.ensures.contents
     c.in-Some.ensures.blocks (c.is_past.ensures.0 small)
 
 pub returns-in-Some-plain_network : goal.returns-in-Some-plain_network

@@ -4,7 +4,7 @@ use Rattle.ipnet_base.proofs.ListLaws.{contains_here, contains_there}
 use Rattle.ipnet.specs.NetworkOf.{ip_network}
 use Rattle.ipnet.specs.SubnetsLeft.{ip_subnets_left}
 use Rattle.ipnet_sets.specs.SetRanges.{IsInRange}
-use Rattle.netset_lib.specs.EntryOf.{entry_range}
+use Rattle.ipnet_lists.specs.EntryOf.{entry_range}
 use Rattle.netset_entries.specs.NotedEntries.{IsTitledBlock, IsTitleOf}
 use Rattle.netset_entries.proofs.NotedBlockLaws.{ReadsPart, line_empty, line_skipped, part_none, part_more, part_all}
 use Rattle.netset_entries.proofs.TitledBlocks.{none_titled, small_entry, titled_in, titled_as}

@@ -1,7 +1,7 @@
 use Rattle.std.proofs.Common.{sym, subst}
 use Rattle.std.proofs.lemmas.Result.{on_ok_weaker}
 use Rattle.netset_lib.specs.Answering.{AddsAnswer}
-use Rattle.netset_lib.specs.FoundEntry.{entry_of}
+use Rattle.ipnet_lists.specs.FoundEntry.{entry_of}
 use Rattle.netset_lib.proofs.AnsweringLaws.{made_push}
 use Rattle.netset_lib.proofs.answerer.AnswererCollectorAnswers.push.Goals as goal
 

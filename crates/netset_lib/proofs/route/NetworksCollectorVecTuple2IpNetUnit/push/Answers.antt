@@ -1,6 +1,6 @@
 use Rattle.std.proofs.lemmas.Result.{on_ok_weaker}
-use Rattle.ipnet_sets.specs.Routes.{ip_networks}
-use Rattle.netset_lib.specs.FoundEntry.{entry_of}
+use Rattle.ipnet_routes.specs.Routes.{ip_networks}
+use Rattle.ipnet_lists.specs.FoundEntry.{entry_of}
 use Rattle.netset_lib.proofs.TableLaws.{more_networks}
 use Rattle.netset_lib.proofs.route.NetworksCollectorVecTuple2IpNetUnit.push.Goals as goal
 

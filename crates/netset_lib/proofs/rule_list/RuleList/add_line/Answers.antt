@@ -1,5 +1,5 @@
 use Rattle.ipnet_text.proofs.ListsLaws.{OnOk_then}
-use Rattle.netset_lib.specs.ContentLineOf.{line_of}
+use Rattle.ipnet_lists.specs.ContentLineOf.{line_of}
 use Rattle.netset_lib.specs.RuleContentsOf.{contents_of}
 use Rattle.netset_lib.proofs.RuleLaws.{adds_rule, adds_refusal}
 use Rattle.netset_lib.proofs.rule_list.RuleList.add_line.Goals as goal

@@ -1,7 +1,7 @@
 -- Each line gives one rule or one refused line.
 use Rattle.std.proofs.Common.{map, sym, subst}
-use Rattle.netset_lib.specs.ContentLineOf.{line_of}
-use Rattle.netset_lib.specs.ContentLines.{AreContentLines}
+use Rattle.ipnet_lists.specs.ContentLineOf.{line_of}
+use Rattle.ipnet_lists.specs.ContentLines.{AreContentLines}
 use Rattle.netset_lib.specs.RuleContentsOf.{contents_of}
 use Rattle.netset_lib.proofs.RuleLaws.{rules_more, rules_whole}
 use Rattle.netset_lib.proofs.rule_list.RuleList.from_bytes.Goals as goal
@@ -19,6 +19,6 @@ returns c =
     let items = c.as_slice-line-items.result.now in
     rules_whole c.args.grammar c.args.bytes.now items c.loop-line.line-index (contents_of c.loop-line.list)
     c.loop-line-test.false
-    (subst (λ z. AreContentLines c.args.grammar c.args.bytes.now (map line_of z))
+    (subst (λ z. AreContentLines c.args.bytes.now (map line_of z))
     (sym c.as_slice-line-items.ensures.value) c.in_ok-lines.ensures)
     c.loop-line.invariant

@@ -1,5 +1,5 @@
 use Rattle.std.proofs.Common.{map, take}
-use Rattle.netset_lib.specs.ContentLineOf.{line_of}
+use Rattle.ipnet_lists.specs.ContentLineOf.{line_of}
 use Rattle.netset_lib.specs.RuleContentsOf.{contents_of}
 use Rattle.netset_lib.proofs.RuleLaws.{AreLineRules}
 use Rattle.netset_lib.proofs.rule_list.RuleList.from_bytes.Given as goal

@@ -1,7 +1,7 @@
 use Rattle.std.proofs.Common.{refl, ◌∙◌, Some}
 use Rattle.netset_lib.specs.declared.session.Session.{Session}
 use Rattle.netset_lib.specs.Answering.{IsAnswererFor, AreAnswersBy}
-use Rattle.netset_lib.proofs.ListsReading.{made_weaker}
+use Rattle.ipnet_lists.proofs.MadeLaws.{made_weaker}
 use Rattle.netset_lib.proofs.SessionLaws.{asked_first, asked_second}
 use Rattle.netset_lib.proofs.session.Session.read_asked.Goals as goal
 

@@ -1,8 +1,9 @@
 use Rattle.std.proofs.Common.{refl, sym, subst, ◌++◌, ◌∷◌, []}
 use Rattle.ipnet_sets.specs.Members.{IsMember}
-use Rattle.netset_lib.specs.Lists.{HaveAddresses}
+use Rattle.ipnet_lists.specs.Lists.{HaveAddresses}
 use Rattle.netset_lib.specs.ListSets.{HaveMembers}
-use Rattle.netset_lib.proofs.ListsReading.{made_weaker, members_push}
+use Rattle.ipnet_lists.proofs.MadeLaws.{made_weaker}
+use Rattle.netset_lib.proofs.ListsReading.{members_push}
 use Rattle.netset_lib.proofs.session.Session.read_into_sets.Goals as goal
 
 pub returns : goal.returns

@@ -1,13 +1,13 @@
 use Rattle.std.proofs.Common.{◌||◌, refl, sym, ap, ◌∙◌, subst, false, string_bytes}
 use Rattle.std.proofs.KnownBytes.{Keeps-refl}
 use Rattle.netset_lib.specs.Answering.{AreAnswersBy}
-use Rattle.netset_lib.specs.Reading.{TakesLines, at_first_line}
+use Rattle.ipnet_lists.specs.Reading.{TakesLines, at_first_line}
 use Rattle.netset_lib.specs.Streams.{IsWritten}
 use Rattle.netset_lib.proofs.AnsweringLaws.{none_made}
-use Rattle.netset_lib.proofs.ListsReading.{made_of}
+use Rattle.ipnet_lists.proofs.MadeLaws.{made_of}
 use Rattle.netset_lib.proofs.StreamLaws.{written_none, taken_written}
 use Rattle.netset_lib.proofs.StreamParts.{none_part, up_to_part, taken_part, starts_with_all, still_quiet, on_err}
-use Rattle.netset_lib.proofs.WindowReading.{IsListUpTo, up_to_begin, up_to_lines, up_to_bytes, up_to_whole}
+use Rattle.ipnet_lists.proofs.WindowReading.{IsListUpTo, up_to_begin, up_to_lines, up_to_bytes, up_to_whole}
 use Rattle.netset_lib.proofs.session.stream.stream_entries.Goals as goal
 
 pub loop-preserved : goal.loop-preserved

@@ -1,8 +1,8 @@
 use Rattle.std.proofs.Common.{◌≡◌, false, [], string_bytes}
 use Rattle.std.specs.Io.KnownBytes.{Keeps}
-use Rattle.netset_lib.specs.Reading.{at_first_line}
+use Rattle.ipnet_lists.specs.Reading.{at_first_line}
 use Rattle.netset_lib.specs.Streams.{IsWritten}
-use Rattle.netset_lib.proofs.WindowReading.{IsListUpTo}
+use Rattle.ipnet_lists.proofs.WindowReading.{IsListUpTo}
 use Rattle.netset_lib.proofs.session.stream.stream_entries.Given as goal
 
 -- the list was read up to what is pending, the answers to its entries were written, and if no line was refused, nothing

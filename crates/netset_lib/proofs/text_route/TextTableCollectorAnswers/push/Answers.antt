@@ -1,6 +1,6 @@
 use Rattle.std.proofs.Common.{subst}
 use Rattle.std.proofs.lemmas.Result.{on_ok_weaker}
-use Rattle.netset_lib.specs.FoundEntry.{entry_of}
+use Rattle.ipnet_lists.specs.FoundEntry.{entry_of}
 use Rattle.netset_lib.specs.TextSteps.{AddsTextAnswer}
 use Rattle.netset_lib.proofs.TextAnswerLaws.{text_push}
 use Rattle.netset_lib.proofs.text_route.TextTableCollectorAnswers.push.Goals as goal

@@ -1,7 +1,7 @@
 use Rattle.std.proofs.Common.{[], ◌↔◌, sym, subst}
 use Rattle.ipnet_sets.specs.Members.{IsMember}
 use Rattle.netset_lib.specs.Filters.{IsOnSide}
-use Rattle.netset_lib.specs.Lists.{IsInEntries}
+use Rattle.ipnet_lists.specs.Lists.{IsInEntries}
 use Rattle.netset_lib.specs.Operations.{IsInResult}
 use Rattle.netset_words.specs.FilterSteps.{IsLogUpTo}
 use Rattle.netset_words.proofs.LogSets.{on_same_side}

@@ -1,7 +1,7 @@
 use Rattle.std.proofs.Common.{◌≡◌, ◌+◌, ◌∷◌, [], List, ℕ, true, false, refl, sym, ap, ◌∙◌, subst}
 use Rattle.ipnet_text.proofs.ListsLaws.{OnOk_then}
-use Rattle.netset_lib.specs.RefusedLines.{HasMore}
-use Rattle.netset_lib.proofs.RefusalLaws.{HasMore-nil}
+use Rattle.ipnet_lists.specs.RefusedLines.{HasMore}
+use Rattle.ipnet_lists.proofs.RefusalLaws.{HasMore-nil}
 use Rattle.netset_words.specs.declared.refused_word.WordCause.TheVariants.{NulByte, Netmask}
 use Rattle.netset_words.specs.Extracts.{mask_refusals}
 use Rattle.netset_words.specs.Items.{mask_texts}

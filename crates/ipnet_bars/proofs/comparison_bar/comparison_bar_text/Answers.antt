@@ -1,0 +1,50 @@
+use Rattle.std.proofs.Common.{◌≤◌, ◌++◌, ◌∙◌, All, map, ap, sym, subst, string_bytes}
+use Rattle.ipnet.specs.NetworkOf.{ip_network}
+use Rattle.ipnet_base.specs.Address.{width}
+use Rattle.ipnet_sets.specs.Members.{IsMember}
+use Rattle.ipnet_bars.specs.Bars.{AreRows, first_line}
+use Rattle.ipnet_bars.specs.ComparisonBars.{IsChangeRow}
+use Rattle.ipnet_bars.specs.MarkTexts.{mark_len}
+use Rattle.ipnet_bars.proofs.BarLaws.{four_joined}
+use Rattle.ipnet_bars.proofs.comparison_bar.comparison_bar_text.Goals as goal
+
+pub push_change_rows-requires-clause-fit : goal.push_change_rows-requires-clause-fit
+push_change_rows-requires-clause-fit c =
+    let len = c.in_ok-rows.rows.form.mark_len in
+    subst (All (λ r. ((ip_network r).prefix_len ≤ len) × (len ≤ width (ip_network r).family)))
+    (sym c.as_slice.ensures.value) c.in_ok-rows.ensures.fit
+
+pub returns : goal.returns
+returns c =
+    let n = ip_network c.args.network.now in
+    let form = c.args.form in
+    let rows = c.in_ok-rows.rows in
+    let len = c.in_ok-rows.ensures.len in
+    let before = IsMember c.args.before.now in
+    let after = IsMember c.args.after.now in
+    let (lines, are_lines, rows_pushed) = c.in_ok-push_change_rows.ensures in
+    let (below, is_legend, legend_pushed) = c.in_ok-push_legend.ensures in
+    let (rest, is_rest, rest_pushed) = c.in_ok-push_changes_outside.ensures in
+    record {
+      rows = map ip_network rows.networks.items;
+      column = rows.form.column;
+      are_rows = c.in_ok-rows.ensures.rows;
+      lines = lines;
+      are_lines = subst (λ z. AreRows (IsChangeRow before after z (mark_len n form.row_width) rows.form.column)
+          (map ip_network rows.networks.items) lines) c.in_ok-rows.ensures.marks
+          (subst (λ z. AreRows (IsChangeRow before after rows.form.marks z rows.form.column)
+          (map ip_network rows.networks.items) lines) len
+          (subst (λ z. AreRows (IsChangeRow before after rows.form.marks rows.form.mark_len rows.form.column)
+          (map ip_network z) lines) c.as_slice.ensures.value are_lines));
+      below = below;
+      is_legend = is_legend;
+      rest = rest;
+      is_rest = is_rest;
+      spelled = four_joined (string_bytes c.new-text.result) (string_bytes c.push_first_line.new.text)
+          (string_bytes c.push_change_rows.new.text) (string_bytes c.push_legend.new.text)
+          (string_bytes c.push_changes_outside.new.text) (first_line n (mark_len n form.row_width)) lines below rest
+          (c.in_ok-push_first_line.ensures
+          ∙ ap (λ z. string_bytes c.new-text.result ++ first_line n z) len) rows_pushed legend_pushed rest_pushed
+          ∙ ap (λ z. z ++ (first_line n (mark_len n form.row_width) ++ lines ++ below ++ rest))
+          c.new-text.ensures.bytes;
+    }

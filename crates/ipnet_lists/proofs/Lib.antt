@@ -1,0 +1,26 @@
+-- Lemmas of this crate.
+pub mod AddressBytes
+pub mod AddressLengths
+pub mod BlankTexts
+pub mod EntryTexts
+pub mod RefusalLaws
+pub mod RangeCovers
+pub mod LineEnds
+pub mod ListLines
+pub mod FrontEntries
+pub mod PlainLines
+pub mod CauseTexts
+pub mod CauseOrder
+pub mod ListReading
+pub mod MarkLaws
+pub mod WindowReading
+pub mod ListTexts
+pub mod CommentLaws
+pub mod FollowLaws
+pub mod ContentLaws
+pub mod OneReading
+pub mod OneRanges
+pub mod WordTexts
+pub mod MadeLaws
+pub mod EndLaws
+pub mod SetLineLaws

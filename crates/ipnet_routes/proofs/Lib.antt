@@ -1,0 +1,26 @@
+-- Lemmas of this crate.
+pub mod RouteLaws
+pub mod CoveringLaws
+pub mod LastPassing
+pub mod RouteOrderLaws
+pub mod RouteMatchLaws
+pub mod RouteWithinLaws
+pub mod RouteChangeLaws
+pub mod RouteValueLaws
+pub mod RouteLackingLaws
+pub mod ChunkLaws
+pub mod RouteMapLaws
+pub mod RouteMapChanges
+pub mod ClimbLaws
+pub mod RouteMapParts
+pub mod RouteMapMatches
+pub mod BucketLaws
+pub mod TableRowLaws
+pub mod TableImageLaws
+pub mod TableCheckLaws
+pub mod TableOnceLaws
+pub mod TableRestoredLaws
+pub mod ByteTableLaws
+pub mod ByteTableWrittenLaws
+pub mod ByteTableOnceLaws
+pub mod ByteTableCheckLaws

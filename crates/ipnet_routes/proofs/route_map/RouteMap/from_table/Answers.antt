@@ -1,0 +1,19 @@
+-- The chunks have the routes of the table, in their order.
+use Rattle.std.proofs.Common.{◌≡◌, length, ap, ◌∙◌, sym}
+use Rattle.std.proofs.lemmas.List.{length-map}
+use Rattle.ipnet.specs.NetworkOf.{ip_network}
+use Rattle.ipnet_routes.specs.Routes.{ip_routes}
+use Rattle.ipnet_routes.specs.RouteMapSteps.{all_of}
+use Rattle.ipnet_routes.proofs.RouteMapChanges.{table_of_routes}
+use Rattle.ipnet_routes.proofs.route_map.RouteMap.from_table.Goals as goal
+
+pub invariant_of-result : goal.invariant_of-result
+invariant_of-result g c =
+    let list = all_of c.in_ok-chunks.chunks.items in
+    let same : ip_routes list ≡ ip_routes c.args.table.routes.items
+    = ap ip_routes c.in_ok-chunks.ensures.routes ∙ c.into_routes.ensures in
+    record {
+      table = table_of_routes c.args.table.routes.items list same c.args.table.table;
+      filled = c.in_ok-chunks.ensures.filled;
+      size = c.len-count.ensures ∙ ap length (sym same) ∙ length-map list (λ z. (ip_network z.0, z.1));
+    }

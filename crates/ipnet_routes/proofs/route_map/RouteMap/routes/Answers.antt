@@ -1,0 +1,17 @@
+use Rattle.std.proofs.Common.{All, sym, subst}
+use Rattle.ipnet_base.specs.Network.{IsTruncated}
+use Rattle.ipnet_base.specs.Blocks.{IsAscending}
+use Rattle.ipnet_routes.specs.Routes.{ip_networks}
+use Rattle.ipnet_routes.specs.RouteMapSteps.{all_of}
+use Rattle.ipnet_routes.proofs.RouteLaws.{ascending_of, same_networks}
+use Rattle.ipnet_routes.proofs.route_map.RouteMap.routes.Goals as goal
+
+pub returns-clause-ascending : goal.returns-clause-ascending
+returns-clause-ascending g c =
+    let list = all_of c.args.self.now.chunks.items in
+    subst IsAscending (sym (same_networks list)) (ascending_of (ip_networks list) c.args.self.now.table)
+
+pub returns-clause-truncated : goal.returns-clause-truncated
+returns-clause-truncated g c =
+    let list = all_of c.args.self.now.chunks.items in
+    subst (All IsTruncated) (sym (same_networks list)) c.args.self.now.table.truncated

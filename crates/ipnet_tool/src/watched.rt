@@ -1,0 +1,98 @@
+//! A writer that remembers whether a write failed, and whether its last call was a flush.
+ghost use Rattle.std.specs.Prelude.{◌≡◌, ◌↔◌, ℕ, List, IsOk, IsErr, IsTrue, OnOk};
+ghost use Rattle.std.specs.Io.{StartsWith};
+ghost use Rattle.std.specs.Io.KnownBytes.{Appends, Keeps};
+ghost use Rattle.ipnet_text.specs.LineTexts.{text_of_lines};
+ghost use Rattle.ipnet_text.specs.NetLists.{networks_of};
+ghost use Rattle.ipnet_tool.specs.Watched.{writer_of, place_of, IsFlushed, HasFailed};
+
+use crate::answer::write_networks;
+use ipnet_text::{NetLists, write_whole};
+use std::io;
+use std::io::Write;
+
+/// A writer, and what became of the bytes that it was given.
+///
+/// ```text
+/// of a writer to a full disk:  after `put` of some bytes, it has failed
+/// of one with room:            after `put` of some bytes and `flush`, it is flushed and has not failed
+/// ```
+#[derive(Drop)]
+pub struct Watched<'a, W> {
+    writer: &'a mut W,
+    is_flushed: bool,
+    has_failed: bool,
+}
+
+impl<'a, W: Write> Watched<'a, W> {
+    /// Watches the writer, before it is given anything: it is not flushed, and has not failed.
+    pub fn new(writer: &'a mut W) -> Watched<'a, W>
+        ensures writer { writer_of result ≡ writer.old }
+        ensures same_reference { place_of result ≡ writer.entry.ghost_name }
+        ensures unflushed { ¬ (IsFlushed result) }
+        ensures sound { ¬ (HasFailed result) }
+    {
+        Watched {
+            writer,
+            is_flushed: false,
+            has_failed: false,
+        }
+    }
+
+    /// Whether the last call of the writer was a flush, and it succeeded.
+    pub fn is_flushed(&self) -> bool
+        ensures { IsTrue result ↔ IsFlushed self.now }
+    {
+        let Watched { is_flushed, .. } = self;
+        *is_flushed
+    }
+
+    /// Whether the last bytes that `put` was given were not all written.
+    pub fn has_failed(&self) -> bool
+        ensures { IsTrue result ↔ HasFailed self.now }
+    {
+        let Watched { has_failed, .. } = self;
+        *has_failed
+    }
+
+    /// Writes all the bytes, and does not flush. If a write fails, the writer has taken a front of the bytes.
+    pub fn put(&mut self, bytes: &[u8]) -> io::Result<()>
+        ensures whole { OnOk result
+            (Appends (W.contents (writer_of self.old)) (W.contents (writer_of self.new)) bytes.now) }
+        ensures front { (front : List ℕ) × StartsWith bytes.now front
+            × Appends (W.contents (writer_of self.old)) (W.contents (writer_of self.new)) front }
+        ensures failed { HasFailed self.new ↔ IsErr result }
+        ensures same_reference { place_of self.new ≡ place_of self.old }
+    {
+        self.is_flushed = false;
+        let result = write_whole(&mut *self.writer, bytes);
+        self.has_failed = result.is_err();
+        result
+    }
+
+    /// Flushes the writer. It is flushed if and only if that succeeds.
+    pub fn flush(&mut self) -> io::Result<()>
+        ensures bytes { Keeps (W.contents (writer_of self.old)) (W.contents (writer_of self.new)) }
+        ensures flushed { IsFlushed self.new ↔ IsOk result }
+        ensures same_reference { place_of self.new ≡ place_of self.old }
+    {
+        let result = self.writer.flush();
+        self.is_flushed = result.is_ok();
+        result
+    }
+
+    /// Writes the canonical texts of the networks, one per line, IPv4 first, and flushes the writer. If a write or the
+    /// flush fails, a front of the lines has been written.
+    pub(crate) fn put_networks(&mut self, families: &NetLists) -> io::Result<()>
+        ensures whole { OnOk result (Appends (W.contents (writer_of self.old)) (W.contents (writer_of self.new))
+            (text_of_lines (networks_of families.now))) }
+        ensures front { (front : List ℕ) × StartsWith (text_of_lines (networks_of families.now)) front
+            × Appends (W.contents (writer_of self.old)) (W.contents (writer_of self.new)) front }
+        ensures flushed { IsOk result → IsFlushed self.new }
+        ensures same_reference { place_of self.new ≡ place_of self.old }
+    {
+        self.is_flushed = false;
+        write_networks(&mut *self.writer, families)?;
+        self.flush()
+    }
+}

@@ -1,0 +1,63 @@
+//! The command `apply`: its arguments, and its run.
+use crate::arguments::{
+    ArgumentFailure, FIRST, OTHERS, command_of, first, flag, other, reads_input_twice,
+    report_argument_failure,
+};
+use crate::input::STANDARD_INPUT;
+use crate::lists::{Empties, Reports};
+use crate::output::Writers;
+use crate::reading::{bytes_of, reading_work, session_of, whole_of};
+use clap::{ArgMatches, Command};
+use netset_lib::{ApplyCommand, run_text};
+use std::alloc::{AllocError, Global};
+
+/// The name of the command.
+pub const APPLY: &str = "apply";
+
+/// The command `apply`.
+#[inline(never)]
+pub fn apply_command<'a>(alloc: Global) -> Result<Command<'a>, AllocError> {
+    let about = "The addresses of OLD after the changes of CHANGES, which netset changes prints";
+    let old = first(alloc, "OLD", "The list before, - for standard input");
+    let help = "The changes, one a line: + or - and a network; standard input if it is omitted";
+    let changes = other(alloc, help).value_name("CHANGES").required(false);
+    let ranges = "Print the fewest ranges, such as 10.0.0.0-10.0.0.5, instead of networks";
+    command_of(alloc, APPLY, about)?
+        .arg(flag(alloc, "ranges", ranges))?
+        .arg(old)?
+        .arg(changes)
+}
+
+/// Reads the bytes of the changes of this name. Without --no-empty, a file without a change is like any other.
+fn changes_of(rt: &HostRuntime, name: &str, reports: Reports) -> Result<Vec<u8>, u8> {
+    if reports.empties == Empties::Refuse {
+        bytes_of(rt, name, "changes", reports)
+    } else {
+        whole_of(rt, name, reports)
+    }
+}
+
+/// Reads the arguments, the list and the changes, prints the answer, and returns the exit status.
+#[inline(never)]
+pub fn applied(rt: &HostRuntime, matches: &ArgMatches, writers: &mut Writers<'_>) -> u8 {
+    let Some(old) = matches.get_str(FIRST) else {
+        return report_argument_failure(rt, ArgumentFailure::NoCommand);
+    };
+    let changes = matches.get_str(OTHERS).unwrap_or(STANDARD_INPUT);
+    if reads_input_twice(&[old, changes]) {
+        return report_argument_failure(rt, ArgumentFailure::InputTwice);
+    }
+    let session = match session_of(rt, reading_work(matches), &[old], writers.reports) {
+        Ok(session) => session,
+        Err(status) => return status,
+    };
+    match changes_of(rt, changes, writers.reports) {
+        Ok(bytes) => {
+            let names = [old, changes];
+            let changes = bytes.as_slice();
+            let (out, faults) = (&mut writers.answer, &mut writers.faults);
+            run_text(ApplyCommand { session, changes }, &names, out, faults)
+        }
+        Err(status) => status,
+    }
+}

@@ -1,0 +1,125 @@
+//! The commands about the entries of lists: their arguments, and their runs.
+use crate::arguments::{
+    ArgumentFailure, FIRST, OTHERS, command_of, flags_of, one_file, other, reads_input_twice,
+    report_argument_failure,
+};
+use crate::input::STANDARD_INPUT;
+use crate::output::Writers;
+use crate::reading::{bytes_of, reading_work, session_of};
+use clap::{ArgMatches, Command};
+use netset_entries::{OverlapsCommand, RedundantCommand, SupernetCommand};
+use netset_lib::{run, run_text};
+use std::alloc::{AllocError, Global};
+
+/// The names of the commands.
+pub const SUPERNET: &str = "supernet";
+
+pub const REDUNDANT: &str = "redundant";
+
+pub const OVERLAPS: &str = "overlaps";
+
+/// The command `overlaps`.
+#[inline(never)]
+pub fn overlaps_command<'a>(alloc: Global) -> Result<Command<'a>, AllocError> {
+    let about =
+        "The pairs of entries that share an address; of two lists, of an entry of each; status 1 if there are any";
+    let help = "The other list; the pairs are then of an entry of each";
+    command_of(alloc, OVERLAPS, about)?
+        .arg(one_file(alloc))?
+        .arg(other(alloc, help).required(false))
+}
+
+/// The command `supernet`.
+#[inline(never)]
+pub fn supernet_command<'a>(alloc: Global) -> Result<Command<'a>, AllocError> {
+    let about =
+        "The smallest network that contains all addresses of the list, for each address family that occurs in it";
+    command_of(alloc, SUPERNET, about)?.arg(one_file(alloc))
+}
+
+/// The command `redundant`.
+#[inline(never)]
+pub fn redundant_command<'a>(alloc: Global) -> Result<Command<'a>, AllocError> {
+    let about =
+        "The entries that the others make unnecessary, and the fewest that cover each; status 1 if there are any";
+    command_of(alloc, REDUNDANT, about)?.arg(one_file(alloc))
+}
+
+/// Reads the list, and prints the smallest networks around its addresses.
+#[inline(never)]
+pub fn supernet(rt: &HostRuntime, matches: &ArgMatches, writers: &mut Writers<'_>) -> u8 {
+    let names = [matches.get_str(FIRST).unwrap_or(STANDARD_INPUT)];
+    match session_of(rt, reading_work(matches), &names, writers.reports) {
+        Ok(session) => {
+            let (out, faults) = (&mut writers.answer, &mut writers.faults);
+            run_text(SupernetCommand { session }, &names, out, faults)
+        }
+        Err(status) => status,
+    }
+}
+
+/// Reads the list, and prints the entries that the others make unnecessary.
+#[inline(never)]
+pub fn redundant(rt: &HostRuntime, matches: &ArgMatches, writers: &mut Writers<'_>) -> u8 {
+    let name = matches.get_str(FIRST).unwrap_or(STANDARD_INPUT);
+    match bytes_of(rt, name, "entries", writers.reports) {
+        Ok(bytes) => {
+            let command = RedundantCommand {
+                alloc: rt.alloc(),
+                list: bytes.as_slice(),
+                grammar: flags_of(matches).grammar(),
+            };
+            run(command, &[name], &mut writers.answer, &mut writers.faults)
+        }
+        Err(status) => status,
+    }
+}
+
+/// Reads the lists, and prints the pairs of an entry of each that share addresses.
+fn overlaps_of_two(
+    rt: &HostRuntime,
+    matches: &ArgMatches,
+    (name, other): (&str, &str),
+    writers: &mut Writers<'_>,
+) -> u8 {
+    if reads_input_twice(&[name, other]) {
+        return report_argument_failure(rt, ArgumentFailure::InputTwice);
+    }
+    let bytes = match bytes_of(rt, name, "entries", writers.reports) {
+        Ok(bytes) => bytes,
+        Err(status) => return status,
+    };
+    let others = match bytes_of(rt, other, "entries", writers.reports) {
+        Ok(bytes) => bytes,
+        Err(status) => return status,
+    };
+    let command = OverlapsCommand {
+        alloc: rt.alloc(),
+        list: bytes.as_slice(),
+        other: Some(others.as_slice()),
+        grammar: flags_of(matches).grammar(),
+    };
+    let (out, faults) = (&mut writers.answer, &mut writers.faults);
+    run(command, &[name, other], out, faults)
+}
+
+/// Reads the list, or two lists, and prints the pairs of entries that share addresses.
+#[inline(never)]
+pub fn overlaps(rt: &HostRuntime, matches: &ArgMatches, writers: &mut Writers<'_>) -> u8 {
+    let name = matches.get_str(FIRST).unwrap_or(STANDARD_INPUT);
+    if let Some(other) = matches.get_str(OTHERS) {
+        return overlaps_of_two(rt, matches, (name, other), writers);
+    }
+    match bytes_of(rt, name, "entries", writers.reports) {
+        Ok(bytes) => {
+            let command = OverlapsCommand {
+                alloc: rt.alloc(),
+                list: bytes.as_slice(),
+                other: None,
+                grammar: flags_of(matches).grammar(),
+            };
+            run(command, &[name], &mut writers.answer, &mut writers.faults)
+        }
+        Err(status) => status,
+    }
+}

@@ -1,0 +1,63 @@
+//! The command `extract`: its arguments, and its run.
+use crate::arguments::{
+    ArgumentFailure, FIRST, any_files, command_of, flag, flags_of, reads_input_twice,
+    report_argument_failure,
+};
+use crate::input::STANDARD_INPUT;
+use crate::output::Writers;
+use crate::reading::fill;
+use clap::{Arg, ArgAction, ArgMatches, Command};
+use netset_lib::run_text;
+use netset_words::{ExtractRequest, Extraction};
+use std::alloc::{AllocError, Global};
+
+/// The name of the command.
+pub const EXTRACT: &str = "extract";
+
+/// The id of the flag `--first`. The id `first` belongs to the first list.
+const FIRST_ENTRY: &str = "first-entry";
+
+/// The name of its other flag.
+const RANGES: &str = "ranges";
+
+/// The command `extract`.
+#[inline(never)]
+pub fn extract_command<'a>(alloc: Global) -> Result<Command<'a>, AllocError> {
+    let about =
+        "The entries in any text, one a line, as written; a word such as 255.0.0.0 is refused";
+    let first = "Print only the first entry of each line";
+    let ranges =
+        "Read two addresses around a - with blanks as a range; without it, as two addresses";
+    let first = Arg::new(alloc, FIRST_ENTRY)
+        .long("first")
+        .action(ArgAction::SetTrue)
+        .help(first);
+    command_of(alloc, EXTRACT, about)?
+        .arg(first)?
+        .arg(flag(alloc, RANGES, ranges))?
+        .arg(any_files(alloc))
+}
+
+/// Reads the arguments and the texts, prints the entries, and returns the exit status.
+#[inline(never)]
+pub fn extracted(rt: &HostRuntime, matches: &ArgMatches, writers: &mut Writers<'_>) -> u8 {
+    let names = matches.get_strs(FIRST).unwrap_or(&[STANDARD_INPUT]);
+    if reads_input_twice(names) {
+        return report_argument_failure(rt, ArgumentFailure::InputTwice);
+    }
+    let request = ExtractRequest {
+        grammar: flags_of(matches).grammar(),
+        first: matches.get_flag(FIRST_ENTRY),
+        ranges: matches.get_flag(RANGES),
+    };
+    let Ok(mut extraction) = Extraction::new(rt.alloc(), request) else {
+        return report_argument_failure(rt, ArgumentFailure::Memory);
+    };
+    match fill(rt, &mut extraction, names, writers.reports) {
+        Ok(()) => {
+            let (out, faults) = (&mut writers.answer, &mut writers.faults);
+            run_text(extraction, names, out, faults)
+        }
+        Err(status) => status,
+    }
+}

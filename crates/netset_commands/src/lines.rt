@@ -1,0 +1,101 @@
+//! The command `filter --lines`: its flags, and its run.
+use crate::arguments::{
+    ArgumentFailure, FIRST, OTHERS, flag, flags_of, reads_input_twice, report_argument_failure,
+};
+use crate::input::{STANDARD_INPUT, open_log, report_unread};
+use crate::output::Writers;
+use crate::reading::{reading_work, session_of};
+use clap::{Arg, ArgAction, ArgMatches, Command};
+use netset_lib::report_failure;
+use netset_words::{LineFilter, LinesRequest, run_lines};
+use std::alloc::{AllocError, Global};
+use std::io::Write;
+
+/// The name of the flag for whole lines.
+pub const LINES: &str = "lines";
+
+/// The name of the flag for any entry of a line.
+const ANY: &str = "any";
+
+/// The id of the flag `--others`. The id `others` belongs to the lists after the first.
+const OTHER_LINES: &str = "other-lines";
+
+/// Adds the flags for whole lines to the command `filter`.
+#[inline(never)]
+pub fn with_lines<'a>(alloc: Global, command: Command<'a>) -> Result<Command<'a>, AllocError> {
+    let lines =
+        "Print the whole lines of FILE, any text, whose first entry lies inside SET; not with --stream";
+    let any =
+        "With --lines: the lines of which any entry lies inside SET, or outside it with --outside";
+    let others = "With --lines: the other lines, with those that have no entry";
+    let others = Arg::new(alloc, OTHER_LINES)
+        .long("others")
+        .action(ArgAction::SetTrue)
+        .help(others)
+        .requires_arg(LINES)?;
+    command
+        .arg(flag(alloc, LINES, lines).conflicts_with("stream")?)?
+        .arg(flag(alloc, ANY, any).requires_arg(LINES)?)?
+        .arg(others)
+}
+
+/// Reads the set and the arguments, and prints the lines of the log while it is read. Returns the exit status.
+#[inline(never)]
+pub fn filtered(rt: &HostRuntime, matches: &ArgMatches, writers: &mut Writers<'_>) -> u8 {
+    let Some(set) = matches.get_str(FIRST) else {
+        return report_argument_failure(rt, ArgumentFailure::NoCommand);
+    };
+    let log = matches.get_str(OTHERS).unwrap_or(STANDARD_INPUT);
+    let names = [set, log];
+    if reads_input_twice(&names) {
+        return report_argument_failure(rt, ArgumentFailure::InputTwice);
+    }
+    let flags = flags_of(matches);
+    let how = LinesRequest {
+        grammar: flags.grammar(),
+        side: flags.side(),
+        any: matches.get_flag(ANY),
+        others: matches.get_flag(OTHER_LINES),
+    };
+    let session = match session_of(rt, reading_work(matches), &names[..1], writers.reports) {
+        Ok(session) => session,
+        Err(status) => return status,
+    };
+    match LineFilter::from_session(rt.alloc(), session, how) {
+        Ok(filter) => filter_named(rt, filter, &names, log, writers),
+        Err(failure) => {
+            let _ = report_failure(&mut writers.faults, &names, &failure);
+            2
+        }
+    }
+}
+
+/// Opens the log of this name, prints its lines, and returns the exit status. A text of UTF-16 is refused, since its
+/// entries are not found.
+fn filter_named(
+    rt: &HostRuntime,
+    filter: LineFilter,
+    names: &[&str],
+    log: &str,
+    writers: &mut Writers<'_>,
+) -> u8 {
+    let (out, faults) = (&mut writers.answer, &mut writers.faults);
+    match open_log(rt, log) {
+        Ok(mut input) => {
+            let status = run_lines(filter, names, &mut input, out, faults);
+            if !input.is_utf16() {
+                return status;
+            }
+            let shown = log.as_bytes().escape_ascii();
+            let _ = writeln!(
+                faults,
+                "netset: {shown}: begins like UTF-16: is the file UTF-16?"
+            );
+            2
+        }
+        Err(unread) => {
+            report_unread(rt, log, &unread);
+            2
+        }
+    }
+}

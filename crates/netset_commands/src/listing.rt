@@ -1,0 +1,115 @@
+//! The commands `split` and `hosts`: their arguments, and their runs.
+use crate::arguments::{FIRST, OTHERS, first, flag, flags_of, output_option};
+use crate::output::Writers;
+use clap::{Arg, ArgMatches, Command};
+use ipnet::{Grammar, IpNet};
+use netset_lib::{ArgumentCause, read_length, read_network_argument, run_hosts, run_split};
+use std::alloc::{AllocError, Global};
+use std::io::Write;
+
+/// The names of the two commands.
+pub const SPLIT: &str = "split";
+
+pub const HOSTS: &str = "hosts";
+
+/// The network that is listed.
+fn network<'a>(alloc: Global) -> Arg<'a> {
+    first(
+        alloc,
+        "NETWORK",
+        "A network, such as 10.0.0.0/24; host bits do not matter",
+    )
+}
+
+/// A command that lists what a network contains.
+#[inline(never)]
+fn listing_command<'a>(
+    alloc: Global,
+    name: &'a str,
+    about: &'a str,
+) -> Result<Command<'a>, AllocError> {
+    let legacy = "Accept leading zeros (numbers stay decimal), and a :: that replaces no group";
+    Command::new(alloc, name)
+        .about(about)
+        .arg(flag(alloc, "legacy", legacy))?
+        .arg(output_option(alloc))?
+        .arg(network(alloc))
+}
+
+/// The command `split`.
+#[inline(never)]
+pub fn split_command<'a>(alloc: Global) -> Result<Command<'a>, AllocError> {
+    let about = "The subnets of a network that have this prefix length";
+    let length = Arg::new(alloc, OTHERS)
+        .value_name("LEN")
+        .required(true)
+        .help("The prefix length of the subnets, such as 26 or /26");
+    listing_command(alloc, SPLIT, about)?.arg(length)
+}
+
+/// The command `hosts`.
+#[inline(never)]
+pub fn hosts_command<'a>(alloc: Global) -> Result<Command<'a>, AllocError> {
+    let about =
+        "The hosts of a network: its addresses, without both ends if it is IPv4 and larger than /31";
+    listing_command(alloc, HOSTS, about)
+}
+
+/// Prints that the word is not a network, with the cause that a line of a list has.
+fn report_network(rt: &HostRuntime, word: &str, cause: ArgumentCause) {
+    let word = word.as_bytes().escape_ascii();
+    let mut faults = rt.stderr();
+    let _ = match cause {
+        ArgumentCause::Address => writeln!(
+            faults,
+            "netset: not a network: {word} (an address: write a prefix length, as in 10.0.0.0/8)"
+        ),
+        ArgumentCause::Range => writeln!(
+            faults,
+            "netset: not a network: {word} (a range: write a network, as in 10.0.0.0/8)"
+        ),
+        ArgumentCause::NoEntry(Some(cause)) => {
+            writeln!(faults, "netset: not a network: {word} ({cause})")
+        }
+        ArgumentCause::NoEntry(None) => writeln!(faults, "netset: not a network: {word}"),
+    };
+}
+
+/// Reads a network. If the word is not one, it is reported with the cause, and the result is `None`.
+pub fn network_or_report(rt: &HostRuntime, word: &str, grammar: Grammar) -> Option<IpNet> {
+    match read_network_argument(word, grammar) {
+        Ok(network) => Some(network),
+        Err(cause) => {
+            report_network(rt, word, cause);
+            None
+        }
+    }
+}
+
+/// Reads the network that is listed. If the word is not one, it is reported, and the result is `None`.
+fn network_of(rt: &HostRuntime, matches: &ArgMatches) -> Option<IpNet> {
+    let word = matches.get_str(FIRST).unwrap_or("");
+    network_or_report(rt, word, flags_of(matches).grammar())
+}
+
+/// Reads the arguments of `split`, and prints the subnets.
+pub fn split(rt: &HostRuntime, matches: &ArgMatches, writers: &mut Writers<'_>) -> u8 {
+    let Some(network) = network_of(rt, matches) else {
+        return 2;
+    };
+    let word = matches.get_str(OTHERS).unwrap_or("");
+    let Some(length) = read_length(word) else {
+        let word = word.as_bytes().escape_ascii();
+        let _ = writeln!(rt.stderr(), "netset: not a prefix length: {word}");
+        return 2;
+    };
+    run_split(&network, length, &mut writers.answer, &mut writers.faults)
+}
+
+/// Reads the argument of `hosts`, and prints the hosts.
+pub fn hosts(rt: &HostRuntime, matches: &ArgMatches, writers: &mut Writers<'_>) -> u8 {
+    match network_of(rt, matches) {
+        Some(network) => run_hosts(&network, &mut writers.answer, &mut writers.faults),
+        None => 2,
+    }
+}

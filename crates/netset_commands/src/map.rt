@@ -1,0 +1,246 @@
+//! The command `map`: its arguments, and its runs.
+use crate::arguments::{
+    ArgumentFailure, FIRST, any_files, command_of, flag, flags_of, reads_input_twice,
+    report_argument_failure,
+};
+use crate::bar::{COMPARE, frame_of, pictured_work, with_frame};
+use crate::input::STANDARD_INPUT;
+use crate::lists::Reports;
+use crate::noted::{EntryList, NotedSession, entries_of};
+use crate::output::Writers;
+use crate::reading::{bytes_of, fill};
+use clap::{Arg, ArgMatches, Command};
+use ipnet_bars::Frame;
+use ipnet_routes::RouteTable;
+use netset_entries::EntryNotes;
+use netset_lib::{Session, run_text, table_or_report};
+use netset_pictures::{ChangeMapCommand, MapCommand, MapRequest, SetsMapCommand, read_theme};
+use std::alloc::{AllocError, Global};
+use std::io::Write;
+use svg_maps::{Look, MOST_LISTS, MapEntries, Theme};
+
+/// The name of the command.
+pub const MAP: &str = "map";
+
+/// The name of the option for the colours.
+const THEME: &str = "theme";
+
+/// The name of the flag for free blocks.
+const FREE: &str = "free";
+
+/// The name of the option for names of networks.
+const NAMES: &str = "names";
+
+/// The values of `--theme`.
+const THEMES: &[&str] = &["auto", "light", "dark"];
+
+/// Adds the options for what a map shows beside its lists.
+#[inline(never)]
+fn with_overlay<'a>(alloc: Global, command: Command<'a>) -> Result<Command<'a>, AllocError> {
+    let free = "Outline the blocks that no list has, and say which is the largest";
+    let names = Arg::new(alloc, NAMES).long(NAMES).value_name("FILE").help(
+        "Outline the networks of FILE: each line is a network and its name; - for standard input",
+    );
+    command.arg(flag(alloc, FREE, free))?.arg(names)
+}
+
+/// The command `map`.
+#[inline(never)]
+pub fn map_command<'a>(alloc: Global) -> Result<Command<'a>, AllocError> {
+    let about =
+        "A network as a picture in SVG: what up to six lists cover, or what changed between two";
+    let compare = "Show what changed between two lists; status 1 if they differ";
+    let theme = Arg::new(alloc, THEME)
+        .long(THEME)
+        .value_name("THEME")
+        .value_parser(THEMES)
+        .help("Choose the colours; by default auto: dark if the reader prefers dark pages");
+    let map = with_frame(alloc, command_of(alloc, MAP, about)?)?
+        .arg(theme)?
+        .arg(flag(alloc, COMPARE, compare))?;
+    with_overlay(alloc, map)?.arg(any_files(alloc))
+}
+
+/// Whether the lists are too many for one map. If so, it is reported.
+fn are_too_many(rt: &HostRuntime, matches: &ArgMatches, names: &[&str]) -> bool {
+    let are_many = !matches.get_flag(COMPARE) && names.len() > MOST_LISTS;
+    if are_many {
+        let _ = writeln!(
+            rt.stderr(),
+            "netset: a map shows at most {MOST_LISTS} lists: unite some of them first"
+        );
+    }
+    are_many
+}
+
+/// Whether the file and one of the lists are standard input.
+fn reads_input_again(file: &str, names: &[&str]) -> bool {
+    for name in names {
+        if reads_input_twice(&[file, *name]) {
+            return true;
+        }
+    }
+    false
+}
+
+/// Reads the bytes of the list of names; there are none if no such list is named. If that fails, or if a list of these
+/// names is standard input too, it is reported, and the error is the exit status.
+fn name_bytes(
+    rt: &HostRuntime,
+    matches: &ArgMatches,
+    names: &[&str],
+    reports: Reports,
+) -> Result<Vec<u8>, u8> {
+    let Some(file) = matches.get_str(NAMES) else {
+        return Ok(Vec::new(rt.alloc()));
+    };
+    if reads_input_again(file, names) {
+        return Err(report_argument_failure(rt, ArgumentFailure::InputTwice));
+    }
+    bytes_of(rt, file, "names", reports)
+}
+
+/// The colours that the arguments name.
+fn theme_of(matches: &ArgMatches) -> Theme {
+    // the value is one of THEMES, if there is one
+    let theme = matches.get_str(THEME).and_then(read_theme);
+    theme.unwrap_or(Theme::Auto)
+}
+
+/// Reads the lists of these names, and notes the largest entries of each. If that fails, it is reported, and the error
+/// is the exit status.
+fn read_noted(
+    rt: &HostRuntime,
+    matches: &ArgMatches,
+    names: &[&str],
+    frame: Frame,
+    reports: Reports,
+) -> Result<(Session, Vec<EntryNotes>), u8> {
+    let work = pictured_work(rt, matches, names)?;
+    let frame = match frame {
+        Frame::Named(network) => Some(network),
+        _ => None,
+    };
+    let Ok(session) = Session::new(rt.alloc(), work) else {
+        return Err(report_argument_failure(rt, ArgumentFailure::Memory));
+    };
+    let mut noted = NotedSession {
+        session,
+        alloc: rt.alloc(),
+        grammar: flags_of(matches).grammar(),
+        frame,
+        notes: Vec::new(rt.alloc()),
+    };
+    fill(rt, &mut noted, names, reports)?;
+    let NotedSession { session, notes, .. } = noted;
+    Ok((session, notes))
+}
+
+/// Prints the map of the session's lists, which have these names, and returns the exit status.
+fn draw(
+    session: Session,
+    request: MapRequest<'_>,
+    names: &[&str],
+    compares: bool,
+    writers: &mut Writers<'_>,
+) -> u8 {
+    let out = &mut writers.answer;
+    let faults = &mut writers.faults;
+    if compares {
+        run_text(ChangeMapCommand { session, request }, names, out, faults)
+    } else if names.len() == 1 {
+        run_text(MapCommand { session, request }, names, out, faults)
+    } else {
+        let command = SetsMapCommand {
+            session,
+            request,
+            names,
+        };
+        run_text(command, names, out, faults)
+    }
+}
+
+/// Reads the lists of these names, prints the map, and returns the exit status.
+fn draw_lists(
+    rt: &HostRuntime,
+    matches: &ArgMatches,
+    names: &[&str],
+    request: MapRequest<'_>,
+    writers: &mut Writers<'_>,
+) -> u8 {
+    let (session, notes) = match read_noted(rt, matches, names, request.frame, writers.reports) {
+        Ok(noted) => noted,
+        Err(status) => return status,
+    };
+    let Ok(list) = entries_of(rt.alloc(), notes, names) else {
+        return report_argument_failure(rt, ArgumentFailure::Memory);
+    };
+    let EntryList { entries, count } = list;
+    let titled = entries.as_slice();
+    let MapRequest { frame, look } = request;
+    let look = Look {
+        theme: look.theme,
+        shows_free: look.shows_free,
+        names: look.names,
+        entries: MapEntries { titled, count },
+    };
+    let request = MapRequest { frame, look };
+    draw(session, request, names, matches.get_flag(COMPARE), writers)
+}
+
+/// Reads the lists, prints the map with these names of networks, and returns the exit status.
+fn draw_table(
+    rt: &HostRuntime,
+    matches: &ArgMatches,
+    frame: Frame,
+    table: &RouteTable<&str>,
+    writers: &mut Writers<'_>,
+) -> u8 {
+    let look = Look {
+        theme: theme_of(matches),
+        shows_free: matches.get_flag(FREE),
+        names: table,
+        entries: MapEntries {
+            titled: &[],
+            count: 0,
+        },
+    };
+    let names = matches.get_strs(FIRST).unwrap_or(&[STANDARD_INPUT]);
+    draw_lists(rt, matches, names, MapRequest { frame, look }, writers)
+}
+
+/// Reads the names of networks from these bytes, and the lists, prints the map, and returns the exit status.
+//
+// The check of borrows does not cover a table that is made and made part of a look in one function.
+fn draw_named(
+    rt: &HostRuntime,
+    matches: &ArgMatches,
+    frame: Frame,
+    bytes: &[u8],
+    writers: &mut Writers<'_>,
+) -> u8 {
+    let file = matches.get_str(NAMES).unwrap_or(STANDARD_INPUT);
+    let grammar = flags_of(matches).grammar();
+    match table_or_report(rt.alloc(), bytes, grammar, file, &mut writers.faults) {
+        Some(table) => draw_table(rt, matches, frame, &table, writers),
+        None => 2,
+    }
+}
+
+/// Reads the arguments and the lists, prints the map, and returns the exit status.
+#[inline(never)]
+pub fn mapped(rt: &HostRuntime, matches: &ArgMatches, writers: &mut Writers<'_>) -> u8 {
+    let frame = match frame_of(rt, matches) {
+        Ok(frame) => frame,
+        Err(status) => return status,
+    };
+    let names = matches.get_strs(FIRST).unwrap_or(&[STANDARD_INPUT]);
+    if are_too_many(rt, matches, names) {
+        return 2;
+    }
+    let bytes = match name_bytes(rt, matches, names, writers.reports) {
+        Ok(bytes) => bytes,
+        Err(status) => return status,
+    };
+    draw_named(rt, matches, frame, bytes.as_slice(), writers)
+}

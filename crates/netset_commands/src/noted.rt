@@ -1,0 +1,187 @@
+//! The lists of a map: a session that notes the largest entries of each list while it reads them.
+use crate::lists::ListReader;
+use ipnet::{Grammar, IpNet};
+use ipnet_lists::ReadFailure;
+use netset_entries::{EntryNotes, NotedEntry};
+use netset_lib::Session;
+use std::alloc::{AllocError, Global};
+use std::io;
+use std::io::Read;
+use svg_maps::MapEntry;
+
+/// A title to which the text of one more entry is added has fewer bytes before.
+const MOST_BYTES: usize = 300;
+
+/// All titles together have fewer bytes of such texts before one more is added.
+const MOST_ADDED: usize = 50_000;
+
+/// How many entries of each family a map has at most.
+const MOST: usize = 1_500;
+
+/// A session, and the largest entries of each of its lists.
+#[derive(Drop)]
+pub struct NotedSession {
+    pub session: Session,
+    pub alloc: Global,
+    pub grammar: Grammar,
+    /// The network that each noted entry lies in or contains.
+    pub frame: Option<IpNet>,
+    /// The notes of each list that was read.
+    pub notes: Vec<EntryNotes>,
+}
+
+/// A source whose bytes are noted as they are read.
+#[derive(Drop)]
+struct NotedInput<'a, R> {
+    input: &'a mut R,
+    notes: EntryNotes,
+}
+
+impl<R: Read> Read for NotedInput<'_, R> {
+    fn read(&mut self, buf: &mut [u8]) -> io::Result<usize> {
+        let count = self.input.read(buf)?;
+        if count <= buf.len() {
+            // If memory runs out, `end_list` fails too.
+            let _ = self.notes.take(&buf[..count]);
+        }
+        Ok(count)
+    }
+}
+
+impl ListReader for NotedSession {
+    fn read<R: Read>(&mut self, input: &mut R) -> Result<(), ReadFailure> {
+        let Ok(notes) = EntryNotes::new(self.alloc, self.grammar, self.frame) else {
+            return Err(ReadFailure::Memory);
+        };
+        let mut noted = NotedInput { input, notes };
+        self.session.read(&mut noted)?;
+        let NotedInput { notes, .. } = noted;
+        let mut notes = notes;
+        if notes.end_list().is_err() {
+            return Err(ReadFailure::Memory);
+        }
+        match self.notes.push(notes) {
+            Ok(()) => Ok(()),
+            Err(_) => Err(ReadFailure::Memory),
+        }
+    }
+
+    fn refused_count(&self) -> usize {
+        self.session.refused_count()
+    }
+
+    fn has_entry(&self) -> bool {
+        self.session.has_entry()
+    }
+}
+
+/// The entries of lists for a map, the largest first.
+#[derive(Drop)]
+pub struct EntryList {
+    pub entries: Vec<MapEntry>,
+    /// How many networks the entries of the lists have. A network that several entries have is one if it has a title.
+    pub count: usize,
+}
+
+/// The text of an entry of the list at this place; after the name of the list, if there are several.
+fn listed_title(
+    alloc: Global,
+    names: &[&str],
+    place: usize,
+    title: String,
+) -> Result<String, AllocError> {
+    match names.get(place) {
+        Some(name) if names.len() > 1 => format!(in alloc; "{name}: {title}"),
+        _ => Ok(title),
+    }
+}
+
+/// The entries of all the lists, the largest first, and entries of one network one after the other. `names` are the
+/// names of the lists.
+fn all_entries(
+    alloc: Global,
+    lists: Vec<EntryNotes>,
+    names: &[&str],
+) -> Result<Vec<MapEntry>, AllocError> {
+    let mut entries = Vec::new(alloc);
+    let mut place: usize = 0;
+    for notes in lists {
+        for noted in notes.into_entries()? {
+            let NotedEntry { network, title } = noted;
+            let title = listed_title(alloc, names, place, title)?;
+            entries.push(MapEntry { network, title })?;
+        }
+        place = place.saturating_add(1);
+    }
+    entries.sort_by_key(|entry| entry.network)?;
+    entries.sort_by_key(|entry| entry.network.prefix_len())?;
+    Ok(entries)
+}
+
+/// Adds the text of another entry of the network, if neither the title nor all that was added is too long. Returns how
+/// many bytes were added to all titles by then.
+fn push_title(title: &mut String, other: &str, added: usize) -> Result<usize, AllocError> {
+    if title.len() >= MOST_BYTES || added >= MOST_ADDED {
+        return Ok(added);
+    }
+    title.push_str("; ")?;
+    title.push_str(other)?;
+    Ok(added.saturating_add(other.len()))
+}
+
+/// Joins the texts of entries that have one network and come one after the other.
+fn join_titles(alloc: Global, entries: Vec<MapEntry>) -> Result<Vec<MapEntry>, AllocError> {
+    let mut joined: Vec<MapEntry> = Vec::new(alloc);
+    let mut added: usize = 0;
+    for entry in entries {
+        let count = joined.len();
+        if count > 0 && joined[count - 1].network == entry.network {
+            added = push_title(&mut joined[count - 1].title, entry.title.as_str(), added)?;
+        } else {
+            joined.push(entry)?;
+        }
+    }
+    Ok(joined)
+}
+
+/// The first of the entries of each family, as many as a map has.
+fn first_entries(alloc: Global, entries: Vec<MapEntry>) -> Result<Vec<MapEntry>, AllocError> {
+    let mut first = Vec::new(alloc);
+    let mut ipv4: usize = 0;
+    let mut ipv6: usize = 0;
+    for entry in entries {
+        let count = match entry.network {
+            IpNet::V4(_) => {
+                ipv4 = ipv4.saturating_add(1);
+                ipv4
+            }
+            IpNet::V6(_) => {
+                ipv6 = ipv6.saturating_add(1);
+                ipv6
+            }
+        };
+        if count <= MOST {
+            first.push(entry)?;
+        }
+    }
+    Ok(first)
+}
+
+/// Returns the entries that were noted, as a map shows them: each network once. If there are several lists, the text of
+/// each entry begins with the name of its list. Fails only if memory runs out.
+pub fn entries_of(
+    alloc: Global,
+    lists: Vec<EntryNotes>,
+    names: &[&str],
+) -> Result<EntryList, AllocError> {
+    let mut count: usize = 0;
+    for notes in lists.as_slice() {
+        count = count.saturating_add(notes.count());
+    }
+    let entries = all_entries(alloc, lists, names)?;
+    let all = entries.len();
+    let joined = join_titles(alloc, entries)?;
+    let count = count.saturating_sub(all.saturating_sub(joined.len()));
+    let entries = first_entries(alloc, joined)?;
+    Ok(EntryList { entries, count })
+}

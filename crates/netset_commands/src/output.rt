@@ -1,0 +1,208 @@
+//! The output of a command: standard output, or a file that only a whole answer replaces.
+ghost use Rattle.std.specs.Prelude.{IsTrue};
+
+use crate::lists::Reports;
+use crate::replacement::{OutputFailure, Replacement};
+use netset_lib::{Output, finish};
+use std::cell::Cell;
+use std::io;
+use std::io::{ErrorKind, IsTerminal, Stderr, Stdout, Write};
+
+/// The name of standard output.
+const STANDARD_OUTPUT: &str = "-";
+
+/// The exit status after the reader of standard output has closed it. Shells report this status for a program that
+/// SIGPIPE ended.
+pub const CLOSED: u8 = 141;
+
+/// How the output of a command ended early.
+#[derive(Drop)]
+pub struct Ends {
+    /// Whether the reader of standard output has closed it.
+    closed: Cell<bool>,
+    /// Whether a failure of the file was reported, with its name.
+    reported: Cell<bool>,
+}
+
+impl Ends {
+    /// The output has not ended.
+    pub fn new() -> Ends {
+        Ends {
+            closed: Cell::new(false),
+            reported: Cell::new(false),
+        }
+    }
+
+    /// Whether nothing more is to be reported.
+    fn is_over(&self) -> bool {
+        self.closed.get() || self.reported.get()
+    }
+}
+
+/// The place to which the answer is written.
+#[derive(Drop)]
+enum Place<'a> {
+    Standard(Stdout),
+    File(Replacement<'a>),
+}
+
+/// A writer for the answer of a command.
+#[derive(Drop)]
+pub struct Answer<'a> {
+    place: Place<'a>,
+    is_published: bool,
+    ends: &'a Ends,
+}
+
+impl Answer<'_> {
+    /// Notes that a write failed: that the reader of standard output has closed it, or reports that the file cannot be
+    /// written. Nothing more is reported then.
+    fn note(&self, error: &io::Error) {
+        match &self.place {
+            Place::Standard(_) if error.kind() == ErrorKind::BrokenPipe => self
+                .ends
+                .closed
+                .set(true),
+            Place::Standard(_) => {}
+            Place::File(_) if error.kind() == ErrorKind::Interrupted || self.ends.reported.get() =>
+                {}
+            Place::File(file) => {
+                file.report("cannot be written", error);
+                self.ends.reported.set(true);
+            }
+        }
+    }
+}
+
+impl Write for Answer<'_> {
+    fn write(&mut self, buf: &[u8]) -> io::Result<usize> {
+        let written = match &mut self.place {
+            Place::Standard(out) => out.write(buf),
+            Place::File(file) => file.write(buf),
+        };
+        match written {
+            Ok(count) => Ok(count),
+            Err(error) => {
+                self.note(&error);
+                Err(error)
+            }
+        }
+    }
+
+    fn flush(&mut self) -> io::Result<()> {
+        match &mut self.place {
+            Place::Standard(out) => out.flush(),
+            Place::File(file) => file.flush(),
+        }
+    }
+}
+
+impl Answer<'_> {
+    /// Returns whether the answer is written to a terminal.
+    pub fn is_terminal(&self) -> bool {
+        match &self.place {
+            Place::Standard(out) => out.is_terminal(),
+            Place::File(_) => false,
+        }
+    }
+}
+
+/// Replaces the file. If that fails, nothing more is reported.
+fn replace_file(file: &Replacement<'_>, ends: &Ends) -> io::Result<()> {
+    let result = file.replace();
+    if result.is_err() {
+        ends.reported.set(true);
+    }
+    result
+}
+
+impl Output for Answer<'_> {
+    ghost is_published = { λ s. IsTrue s.is_published };
+
+    fn publish(&mut self) -> io::Result<()> {
+        let result = match &self.place {
+            Place::Standard(_) => Ok(()),
+            Place::File(file) => replace_file(file, self.ends),
+        };
+        self.is_published = result.is_ok();
+        result
+    }
+}
+
+/// Standard error, and nothing after the reader of standard output has closed it, or after a failure of the file was
+/// reported.
+#[derive(Drop)]
+pub struct Faults<'a> {
+    err: Stderr,
+    ends: &'a Ends,
+}
+
+impl Write for Faults<'_> {
+    fn write(&mut self, buf: &[u8]) -> io::Result<usize> {
+        if self.ends.is_over() {
+            return Ok(buf.len());
+        }
+        self.err.write(buf)
+    }
+
+    fn flush(&mut self) -> io::Result<()> {
+        self.err.flush()
+    }
+}
+
+/// The writers of a command, and the reports that it makes about its lists.
+#[derive(Drop)]
+pub struct Writers<'a> {
+    pub answer: Answer<'a>,
+    pub faults: Faults<'a>,
+    pub reports: Reports,
+}
+
+impl<'a> Writers<'a> {
+    /// Opens the output of this name: standard output if there is no name or it is "-", and otherwise a file.
+    /// `ends` notes what ends the output early.
+    #[inline(never)]
+    pub fn open(
+        rt: &HostRuntime,
+        name: Option<&'a str>,
+        reports: Reports,
+        ends: &'a Ends,
+    ) -> Result<Writers<'a>, OutputFailure> {
+        let place = match name {
+            Some(name) if name != STANDARD_OUTPUT => Place::File(Replacement::open(rt, name)?),
+            _ => Place::Standard(rt.stdout()),
+        };
+        let answer = Answer {
+            place,
+            is_published: false,
+            ends,
+        };
+        let err = rt.stderr();
+        Ok(Writers {
+            answer,
+            faults: Faults { err, ends },
+            reports,
+        })
+    }
+
+    /// Ends a command with this status, and returns the exit status of the program. The file is replaced at status 0
+    /// or 1; otherwise it stays as it is.
+    #[inline(never)]
+    pub fn end(self, status: u8) -> u8 {
+        let Writers {
+            mut answer,
+            mut faults,
+            ..
+        } = self;
+        let status = finish(status, &mut answer, &mut faults);
+        if let Place::File(file) = &answer.place {
+            if !answer.is_published {
+                file.discard();
+            }
+        }
+        if answer.ends.closed.get() {
+            return CLOSED;
+        }
+        status
+    }
+}

@@ -1,0 +1,110 @@
+//! The command `plan`: its arguments, and its run.
+use crate::arguments::{ArgumentFailure, FIRST, command_of, first, flag, report_argument_failure};
+use crate::bar::{BAR, bar_form_of, with_plan_bar};
+use crate::output::Writers;
+use crate::reading::{reading_work, session_of};
+use clap::{Arg, ArgAction, ArgMatches, Command};
+use ipnet_bars::BarForm;
+use netset_lib::{PlanCommand, PlanRequest, families, read_length, run_text};
+use netset_pictures::{PlanBarCommand, PlanBarRequest};
+use std::alloc::{AllocError, Global};
+use std::io::Write;
+
+/// The name of the command.
+pub const PLAN: &str = "plan";
+
+/// The id of the prefix lengths.
+const LENGTHS: &str = "lengths";
+
+/// Adds the list and the prefix lengths of `plan`.
+#[inline(never)]
+fn with_networks<'a>(alloc: Global, command: Command<'a>) -> Result<Command<'a>, AllocError> {
+    let free = first(
+        alloc,
+        "FREE",
+        "The list of the free addresses, - for standard input",
+    );
+    let lengths = Arg::new(alloc, LENGTHS)
+        .value_name("LEN")
+        .required(true)
+        .num_args(1..)
+        .action(ArgAction::Append)
+        .help("The prefix lengths, such as 24 or /24, one for each network");
+    command.arg(free)?.arg(lengths)
+}
+
+/// The command `plan`.
+#[inline(never)]
+pub fn plan_command<'a>(alloc: Global) -> Result<Command<'a>, AllocError> {
+    let about =
+        "Networks of these prefix lengths inside FREE that share no address; status 1 if none exist";
+    let ipv4 = "Plan IPv4 networks; by default, the only family of the list";
+    let ipv6 = "Plan IPv6 networks";
+    let command = command_of(alloc, PLAN, about)?
+        .arg(flag(alloc, "ipv4", ipv4))?
+        .arg(flag(alloc, "ipv6", ipv6))?;
+    with_networks(alloc, with_plan_bar(alloc, command)?)
+}
+
+/// Reads the prefix lengths. If a word is not one, it is reported, and the error is the exit status.
+fn lengths_of(rt: &HostRuntime, words: &[&str]) -> Result<Vec<u8>, u8> {
+    let mut lengths = Vec::new(rt.alloc());
+    for word in words {
+        let Some(length) = read_length(word) else {
+            let word = word.as_bytes().escape_ascii();
+            let _ = writeln!(rt.stderr(), "netset: not a prefix length: {word}");
+            return Err(2);
+        };
+        if lengths.push(length).is_err() {
+            return Err(report_argument_failure(rt, ArgumentFailure::Memory));
+        }
+    }
+    Ok(lengths)
+}
+
+/// Reads the form of the bar, if one is asked for. If that fails, it is reported, and the error is the exit status.
+fn bar_of(
+    rt: &HostRuntime,
+    matches: &ArgMatches,
+    writers: &Writers<'_>,
+) -> Result<Option<BarForm>, u8> {
+    if !matches.get_flag(BAR) {
+        return Ok(None);
+    }
+    Ok(Some(bar_form_of(rt, matches, writers)?))
+}
+
+/// Reads the arguments and the list, prints the plan or its bar, and returns the exit status.
+#[inline(never)]
+pub fn planned(rt: &HostRuntime, matches: &ArgMatches, writers: &mut Writers<'_>) -> u8 {
+    let words = matches.get_strs(LENGTHS).unwrap_or(&[]);
+    let lengths = match lengths_of(rt, words) {
+        Ok(lengths) => lengths,
+        Err(status) => return status,
+    };
+    let bar = match bar_of(rt, matches, writers) {
+        Ok(bar) => bar,
+        Err(status) => return status,
+    };
+    let names = matches.get_strs(FIRST).unwrap_or(&[]);
+    let session = match session_of(rt, reading_work(matches), names, writers.reports) {
+        Ok(session) => session,
+        Err(status) => return status,
+    };
+    let request = PlanRequest {
+        families: families(matches.get_flag("ipv4"), matches.get_flag("ipv6")),
+        lengths: lengths.as_slice(),
+    };
+    let out = &mut writers.answer;
+    let faults = &mut writers.faults;
+    match bar {
+        None => run_text(PlanCommand { session, request }, names, out, faults),
+        Some(form) => {
+            let request = PlanBarRequest {
+                plan: request,
+                form,
+            };
+            run_text(PlanBarCommand { session, request }, names, out, faults)
+        }
+    }
+}

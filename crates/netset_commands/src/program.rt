@@ -1,0 +1,202 @@
+//! A run of the program: its arguments, its output and its command.
+
+use crate::apply::{APPLY, applied};
+use crate::arguments::{
+    ArgumentFailure, Call, OUTPUT, call_of, escaped, report_argument_failure, reports_of, words,
+};
+use crate::bar::{BAR, drawn};
+use crate::changes::{CHANGES, changed};
+use crate::commands::{
+    COMPARE, COMPLEMENT, COUNT, DIFFERENCE, FILTER, INTERSECTION, ROUTE, SYMMETRIC_DIFFERENCE,
+    UNION, matches_of,
+};
+use crate::entries::{OVERLAPS, REDUNDANT, SUPERNET, overlaps, redundant, supernet};
+use crate::extract::{EXTRACT, extracted};
+use crate::forms::form_of;
+use crate::lines::{LINES, filtered};
+use crate::listing::{HOSTS, SPLIT, hosts, split};
+use crate::map::{MAP, mapped};
+use crate::output::{CLOSED, Ends, Writers};
+use crate::plan::{PLAN, planned};
+use crate::prefixes::{PREFIX_LIST, matched};
+use crate::reading::session_of;
+use crate::rules::{PERMITTED, UNREACHED, permitted, unreached};
+use crate::stream::stream_list;
+use crate::texts::{has_text_flag, routed};
+use clap::ArgMatches;
+use netset_forms::FormCommand;
+use netset_lib::{AnswerCommand, Work, run_text};
+use std::io::{ErrorKind, Write};
+
+/// Runs the program that prints this version of itself, and returns its exit status.
+pub fn run(rt: &HostRuntime, version: &'static str) -> u8 {
+    let words = match words(rt) {
+        Ok(words) => words,
+        Err(status) => return status,
+    };
+    match matches_of(rt.alloc(), words.as_slice(), version) {
+        Ok(matches) => match matches.subcommand() {
+            Some((name, matches)) => open_and_run(rt, name, matches),
+            None => report_argument_failure(rt, ArgumentFailure::NoCommand),
+        },
+        Err(error) if error.use_stderr() => print_fault(rt, &error, words.as_slice(), version),
+        Err(error) => print_usage(rt, &error),
+    }
+}
+
+/// Prints what is wrong with these words, and returns the status. Their bytes are escaped, as in names: the words are
+/// escaped, and then parsed again.
+#[inline(never)]
+fn print_fault(
+    rt: &HostRuntime,
+    error: &clap::Error,
+    words: &[String],
+    version: &'static str,
+) -> u8 {
+    if let Ok(shown) = escaped(rt.alloc(), words) {
+        if let Err(fault) = matches_of(rt.alloc(), shown.as_slice(), version) {
+            return print_usage(rt, &fault);
+        }
+    }
+    print_usage(rt, error)
+}
+
+/// Prints help, the version or what is wrong with the arguments, and returns the status.
+fn print_usage(rt: &HostRuntime, error: &clap::Error) -> u8 {
+    let result = error.print(rt);
+    if error.use_stderr() {
+        return 2;
+    }
+    match result {
+        Ok(()) => 0,
+        Err(fault) if fault.kind() == ErrorKind::BrokenPipe => CLOSED,
+        Err(_) => {
+            let _ = writeln!(rt.stderr(), "netset: output cannot be written");
+            2
+        }
+    }
+}
+
+/// Opens the output, runs the command of this name, and returns its exit status.
+#[inline(never)]
+fn open_and_run(rt: &HostRuntime, name: &str, matches: &ArgMatches) -> u8 {
+    let file = matches.get_str(OUTPUT);
+    let ends = Ends::new();
+    let mut writers = match Writers::open(rt, file, reports_of(matches), &ends) {
+        Ok(writers) => writers,
+        Err(failure) => {
+            let file = file.unwrap_or_default().as_bytes().escape_ascii();
+            let _ = writeln!(rt.stderr(), "netset: {file}: {failure}");
+            return 2;
+        }
+    };
+    let status = run_command(rt, name, matches, &mut writers);
+    writers.end(status)
+}
+
+/// Runs the command of this name, and returns its status.
+#[inline(never)]
+fn run_command(
+    rt: &HostRuntime,
+    name: &str,
+    matches: &ArgMatches,
+    writers: &mut Writers<'_>,
+) -> u8 {
+    match name {
+        UNION | INTERSECTION | DIFFERENCE | SYMMETRIC_DIFFERENCE | COMPLEMENT | COUNT | COMPARE => {
+            run_call(rt, name, matches, writers)
+        }
+        CHANGES => changed(rt, matches, writers),
+        APPLY => applied(rt, matches, writers),
+        EXTRACT => extracted(rt, matches, writers),
+        FILTER => run_filter(rt, matches, writers),
+        ROUTE => run_route(rt, matches, writers),
+        PLAN => planned(rt, matches, writers),
+        BAR => drawn(rt, matches, writers),
+        MAP => mapped(rt, matches, writers),
+        SUPERNET => supernet(rt, matches, writers),
+        REDUNDANT => redundant(rt, matches, writers),
+        OVERLAPS => overlaps(rt, matches, writers),
+        SPLIT => split(rt, matches, writers),
+        HOSTS => hosts(rt, matches, writers),
+        PERMITTED => permitted(rt, matches, writers),
+        UNREACHED => unreached(rt, matches, writers),
+        PREFIX_LIST => matched(rt, matches, writers),
+        _ => report_argument_failure(rt, ArgumentFailure::NoCommand),
+    }
+}
+
+/// Prints the lines of a text or the entries of a list, and returns the status.
+#[inline(never)]
+fn run_filter(rt: &HostRuntime, matches: &ArgMatches, writers: &mut Writers<'_>) -> u8 {
+    if matches.get_flag(LINES) {
+        filtered(rt, matches, writers)
+    } else {
+        run_call(rt, FILTER, matches, writers)
+    }
+}
+
+/// Prints the routes of entries, with the texts of the table if they are asked for, and returns the status.
+#[inline(never)]
+fn run_route(rt: &HostRuntime, matches: &ArgMatches, writers: &mut Writers<'_>) -> u8 {
+    if has_text_flag(matches) {
+        routed(rt, matches, writers)
+    } else {
+        run_call(rt, ROUTE, matches, writers)
+    }
+}
+
+/// Reads the arguments and the lists, and runs the operation or the query.
+#[inline(never)]
+fn run_call(rt: &HostRuntime, name: &str, matches: &ArgMatches, writers: &mut Writers<'_>) -> u8 {
+    let call = match call_of(rt.alloc(), name, matches) {
+        Ok(call) => call,
+        Err(failure) => return report_argument_failure(rt, failure),
+    };
+    match call.work {
+        Work::Combine(_) => run_operation(rt, matches, call, writers),
+        Work::Ask(_, _) => run_query(rt, call, writers),
+    }
+}
+
+/// Reads the lists, prints what the operation makes of them, and returns the status.
+#[inline(never)]
+fn run_operation(
+    rt: &HostRuntime,
+    matches: &ArgMatches,
+    call: Call<'_>,
+    writers: &mut Writers<'_>,
+) -> u8 {
+    let form = match form_of(rt, matches) {
+        Ok(form) => form,
+        Err(status) => return status,
+    };
+    let names = call.names.as_slice();
+    match session_of(rt, call.work, names, writers.reports) {
+        Ok(session) => {
+            let (out, faults) = (&mut writers.answer, &mut writers.faults);
+            netset_lib::run(FormCommand { session, form }, names, out, faults)
+        }
+        Err(status) => status,
+    }
+}
+
+/// Reads the lists, prints the answer to the query, and returns the status.
+#[inline(never)]
+fn run_query(rt: &HostRuntime, call: Call<'_>, writers: &mut Writers<'_>) -> u8 {
+    let work = call.work;
+    let names = call.names.as_slice();
+    match names {
+        [_, name] if call.is_streamed => match session_of(rt, work, &names[..1], writers.reports) {
+            Ok(session) => stream_list(rt, session, names, name, writers),
+            Err(status) => status,
+        },
+        _ => match session_of(rt, work, names, writers.reports) {
+            Ok(session) => {
+                let (out, faults) = (&mut writers.answer, &mut writers.faults);
+                run_text(AnswerCommand { session, names }, names, out, faults)
+            }
+            Err(status) => status,
+        },
+    }
+}

@@ -1,0 +1,55 @@
+//! The command `route --with-text`: its flag, and its run.
+ghost use Rattle.std.specs.Prelude.{codes};
+ghost use Rattle.netset_commands.specs.Arguments.{IsFlag};
+
+use crate::arguments::{
+    ArgumentFailure, FIRST, OTHERS, flag, flags_of, reads_input_twice, report_argument_failure,
+};
+use crate::input::STANDARD_INPUT;
+use crate::output::Writers;
+use crate::reading::bytes_of;
+use clap::{Arg, ArgMatches};
+use netset_lib::{TextRoutesCommand, run_text};
+use std::alloc::{AllocError, Global};
+
+/// The flag by which the texts of the table are read and printed.
+pub fn text_flag<'a>(alloc: Global) -> Result<Arg<'a>, AllocError> {
+    let help =
+        "In TABLE, text may follow the entry of a line; print it after the network. Not with --stream";
+    flag(alloc, "with-text", help).conflicts_with("stream")
+}
+
+/// Whether the texts of the table are asked for.
+pub fn has_text_flag(matches: &ArgMatches) -> bool
+    ensures { IsFlag matches.now (codes "with-text") result }
+{
+    matches.get_flag("with-text")
+}
+
+/// Reads the arguments, the table and the list, prints the answers, and returns the exit status.
+#[inline(never)]
+pub fn routed(rt: &HostRuntime, matches: &ArgMatches, writers: &mut Writers<'_>) -> u8 {
+    let Some(table) = matches.get_str(FIRST) else {
+        return report_argument_failure(rt, ArgumentFailure::NoCommand);
+    };
+    let file = matches.get_str(OTHERS).unwrap_or(STANDARD_INPUT);
+    if reads_input_twice(&[table, file]) {
+        return report_argument_failure(rt, ArgumentFailure::InputTwice);
+    }
+    let bytes = match bytes_of(rt, table, "entries", writers.reports) {
+        Ok(bytes) => bytes,
+        Err(status) => return status,
+    };
+    let list = match bytes_of(rt, file, "entries", writers.reports) {
+        Ok(list) => list,
+        Err(status) => return status,
+    };
+    let command = TextRoutesCommand {
+        alloc: rt.alloc(),
+        table: bytes.as_slice(),
+        list: list.as_slice(),
+        grammar: flags_of(matches).grammar(),
+    };
+    let (out, faults) = (&mut writers.answer, &mut writers.faults);
+    run_text(command, &[table, file], out, faults)
+}

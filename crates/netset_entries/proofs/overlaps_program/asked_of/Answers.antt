@@ -1,0 +1,21 @@
+use Rattle.std.proofs.Common.{sym, subst}
+use Rattle.netset_entries.specs.EntryLineOf.{AreAsked}
+use Rattle.netset_entries.proofs.TwoListLaws.{all_read}
+use Rattle.netset_entries.proofs.overlaps_program.asked_of.Goals as goal
+
+pub returns : goal.returns
+returns c =
+    let first = c.in_ok-first.first in
+    let second = c.in_ok-second.second in
+    let grammar = c.args.grammar in
+    let bytes = c.args.list.now in
+    subst (λ other. AreAsked grammar bytes other c.in_ok-joined.field-0) (sym c.in-Some.is) (
+      first.entries.items,
+      second.entries.items,
+      all_read grammar bytes first c.is_empty-2.result c.in_ok-first.ensures c.is_empty-2.ensures
+          c.if-not-is_empty-2.false,
+      all_read grammar c.in-Some.other.now second c.is_empty-else-not-is_empty-2.result c.in_ok-second.ensures
+          c.is_empty-else-not-is_empty-2.ensures c.if-not-is_empty-3.false,
+      c.in_ok-joined.ensures.entries,
+      c.in_ok-joined.ensures.count,
+    )

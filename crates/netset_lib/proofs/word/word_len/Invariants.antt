@@ -1,6 +1,0 @@
-use Rattle.std.proofs.Common.{◌≡◌, ℕ, ◌<◌, get_or, false}
-use Rattle.netset_lib.specs.Words.{ends_word}
-use Rattle.netset_lib.proofs.word.word_len.Given as goal
-
-abbrev pub invariant-loop-index : goal.invariant-loop-index
-invariant-loop-index l = (k : ℕ) → k < l.index → ends_word (get_or l.fn.bytes k 0) ≡ false

@@ -1,0 +1,20 @@
+-- If memory runs out for the bar, there is a plan, so each length has room.
+use Rattle.std.proofs.Common.{◌∙◌, Err, IfErr, map, sym, ap, subst}
+use Rattle.std.proofs.lemmas.Result.{err_from_is_err_and}
+use Rattle.ipnet.specs.NetworkOf.{ip_network}
+use Rattle.ipnet_sets.specs.Members.{IsMember}
+use Rattle.netset_lib.specs.PlanAnswers.{IsPlanFailure}
+use Rattle.netset_lib.specs.Planning.{family_of}
+use Rattle.netset_lib.proofs.PlanLaws.{room_of_plan}
+use Rattle.netset_pictures.proofs.plan_bar.plan_bar_text.Goals as goal
+
+pub returns-in_err-bar_of_plan-clause-failure : goal.returns-in_err-bar_of_plan-clause-failure
+returns-in_err-bar_of_plan-clause-failure c =
+    let S = IsMember c.args.set.now in
+    let r = c.args.request.plan in
+    let plan = c.in_ok-family.field-0 in
+    let (y, is, memory) = err_from_is_err_and c.from_residual-in_err-bar_of_plan.result
+    c.from_residual-in_err-bar_of_plan.ensures.1 in
+    subst (λ z. IfErr z (IsPlanFailure S r.families r.lengths.now)) (sym (is ∙ ap Err memory))
+    (room_of_plan S r.families (family_of plan.family) r.lengths.now (map ip_network plan.networks.items)
+    c.in_ok-family.ensures.chosen c.in_ok-family.ensures.plan)

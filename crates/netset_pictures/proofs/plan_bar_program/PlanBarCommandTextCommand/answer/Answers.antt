@@ -1,0 +1,27 @@
+use Rattle.std.proofs.Common.{refl, subst}
+use Rattle.ipnet_sets.specs.Members.{IsMember}
+use Rattle.netset_lib.specs.PlanAnswers.{IsPlanFailure}
+use Rattle.netset_lib.proofs.PlanLaws.{none_of_lists, placed_of_lists}
+use Rattle.netset_pictures.proofs.plan_bar_program.PlanBarCommandTextCommand.answer.Goals as goal
+
+pub returns-in-Ok-clause-text : goal.returns-in-Ok-clause-text
+returns-in-Ok-clause-text c = λ r lists h. record {
+  set = c.in_ok-set.set;
+  result = c.in_ok-set.ensures.set r lists h;
+  right = c.in-Ok.ensures.plan;
+}
+
+pub returns-in-Ok-clause-outcome : goal.returns-in-Ok-clause-outcome
+returns-in-Ok-clause-outcome c = (
+  refl,
+  λ r lists h.
+      let p = c.args.self.request.plan in
+      placed_of_lists r lists c.in_ok-set.set p.families p.lengths.now (c.in_ok-set.ensures.set r lists h)
+      (c.in-Ok.ensures.placed refl),
+)
+
+pub returns-clause-failure : goal.returns-clause-failure
+returns-clause-failure c = λ none r lists h.
+    let p = c.args.self.request.plan in
+    none_of_lists r lists c.in_ok-set.set p.families p.lengths.now (c.in_ok-set.ensures.set r lists h)
+    (subst (IsPlanFailure (IsMember c.in_ok-set.set) p.families p.lengths.now) none c.in-Err.ensures.failure)
