@@ -3,7 +3,7 @@
 
   bench/planners.py [NETSET]    NETSET is the built program; by default crates/netset/out/netset
 
-It needs Debian's packages ipcalc and libnetaddr-ip-perl. It makes the table of docs/POOLS.md, "Why another planner".
+It needs Debian's packages ipcalc and libnetaddr-ip-perl. It makes the table of docs/LIBRARY.md, "Why another planner".
 """
 import ipaddress
 import itertools

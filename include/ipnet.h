@@ -1,9 +1,9 @@
 /* IP networks, with proofs: aggregates, combines and compares lists of networks, and parses and prints single networks.
  *
- * Each function in this file has a contract in crates/ipnet_c, with a proof that its code satisfies it. docs/C.md lists
- * what is proved and what is trusted. The functions take no locks, keep no state between calls, and may run in any
- * number of threads at once. A call frees all memory that it allocates before it returns. Results are written to memory
- * that the caller supplies, so the caller never frees anything.
+ * Each function in this file has a contract in crates/ipnet_c, with a proof that its code satisfies it. docs/C.md says
+ * what a caller must ensure, and docs/PROVED.md what is trusted. The functions take no locks, keep no state between
+ * calls, and may run in any number of threads at once. A call frees all memory that it allocates before it returns.
+ * Results are written to memory that the caller supplies, so the caller never frees anything.
  *
  * The caller must ensure:
  * - A pointer is NULL only if its length is 0. Pointers without a length (`count`, `same`, `covered`, `line`, `bad`,
@@ -212,14 +212,15 @@ ipnet_status ipnet_print(const uint8_t *network, size_t network_len, char *buffe
 
 /* ---- Sets of addresses
  *
- * A set is kept by the caller, as bytes: its image. ipnet_set_from_text makes the image of a list. It can be stored in a
- * file, mapped into memory, and sent; it needs no alignment. Nothing is ever freed. Each set has exactly one image, so
- * two sets are equal if and only if their images are equal bytes. An image has 32 bytes, and 4 (IPv4) or 16 (IPv6) for
- * each end of a range.
+ * A set is kept by the caller, as bytes: its image. ipnet_set_from_text makes the image of a list. It can be stored in
+ * a file, mapped into memory, and sent; it needs no alignment. Nothing is ever freed. Each set has exactly one image,
+ * so two sets are equal if and only if their images are equal bytes. An image has 32 bytes, and 4 (IPv4) or 16 (IPv6)
+ * for each end of a range.
  *
  * The questions ipnet_set_contains, ipnet_set_covers, ipnet_set_contains_all and ipnet_set_covers_all allocate nothing,
- * and test only the header of the image, so that each takes a few memory accesses. If the image comes from outside, test all of it once
- * with ipnet_set_check. Whatever the bytes are, no call reads outside of them, and every call ends. */
+ * and test only the header of the image, so that each takes a few memory accesses. If the image comes from outside,
+ * test all of it once with ipnet_set_check. Whatever the bytes are, no call reads outside of them, and every call
+ * ends. */
 
 /* Writes the image of the addresses of a list, in the strict grammar.
  *
@@ -240,12 +241,13 @@ ipnet_status ipnet_set_from_text(const char *text, size_t text_len, void *buffer
  *
  *     "10.0.0.0/31\n10.0.00.2/31"   OK, 40
  */
-ipnet_status ipnet_set_from_text_legacy(const char *text, size_t text_len, void *buffer, size_t buffer_len, size_t *count);
+ipnet_status ipnet_set_from_text_legacy(const char *text, size_t text_len, void *buffer, size_t buffer_len,
+                                        size_t *count);
 
-/* Writes the image of the addresses of a list as people keep it, read as the program netset reads its files. A line is a
- * network (10.0.0.0/8 or 10.0.0.0/255.0.0.0), an address (10.0.0.7), a range of addresses (10.0.0.3-10.0.0.9), or empty.
- * It may have blanks around it, end with "\r\n", and have a comment after "#" or ";". A byte order mark at the start is
- * skipped. Numbers are in the strict grammar. The text need not be UTF-8.
+/* Writes the image of the addresses of a list as people keep it, read as the program netset reads its files. A line is
+ * a network (10.0.0.0/8 or 10.0.0.0/255.0.0.0), an address (10.0.0.7), a range of addresses (10.0.0.3-10.0.0.9), or
+ * empty. It may have blanks around it, end with "\r\n", and have a comment after "#" or ";". A byte order mark at the
+ * start is skipped. Numbers are in the strict grammar. The text need not be UTF-8.
  *
  * OK                `buffer` starts with the image, and `*count` is its length
  * BUFFER_TOO_SHORT  `*count` is the length of the image
@@ -263,7 +265,8 @@ ipnet_status ipnet_set_from_list(const char *text, size_t text_len, void *buffer
  *
  *     "010.0.0.0-10.0.0.03 # ours"   OK, 40
  */
-ipnet_status ipnet_set_from_list_legacy(const char *text, size_t text_len, void *buffer, size_t buffer_len, size_t *count);
+ipnet_status ipnet_set_from_list_legacy(const char *text, size_t text_len, void *buffer, size_t buffer_len,
+                                        size_t *count);
 
 /* Writes the fewest networks of a set, given by its image, as text in the form of the result of ipnet_aggregate_text.
  *
@@ -278,8 +281,8 @@ ipnet_status ipnet_set_from_list_legacy(const char *text, size_t text_len, void 
 ipnet_status ipnet_set_to_text(const void *set, size_t set_len, char *buffer, size_t buffer_len, size_t *count);
 
 /* Writes the fewest ranges of a set, given by its image, as text. Each line has the first and the last address of a
- * range, joined by "-", in canonical text, and ends with "\n". The ranges ascend, IPv4 first, and no two of them overlap
- * or touch. A range of one address is written with both ends. Returns the same statuses as ipnet_set_to_text.
+ * range, joined by "-", in canonical text, and ends with "\n". The ranges ascend, IPv4 first, and no two of them
+ * overlap or touch. A range of one address is written with both ends. Returns the same statuses as ipnet_set_to_text.
  *
  *     the image of 10.0.0.0/30, 10.0.0.4/31 and fd00::1/128   OK, 34, "10.0.0.0-10.0.0.5\nfd00::1-fd00::1\n"
  */
@@ -316,8 +319,8 @@ ipnet_status ipnet_set_contains_all(const void *set, size_t set_len, const void 
                                     size_t width, uint8_t *answers, size_t answers_len);
 
 /* Writes for each of many networks what ipnet_set_covers returns for it: 1, 0, or the status of bytes that are not a
- * network. `networks` has `width` bytes for each network in byte form, 6 for IPv4 or 18 for IPv6; `answers` gets one byte
- * for each.
+ * network. `networks` has `width` bytes for each network in byte form, 6 for IPv4 or 18 for IPv6; `answers` gets one
+ * byte for each.
  *
  * OK                all answers are written
  * WRONG_LENGTH      if and only if `width` is neither 6 nor 18, or `networks_len` is not `width` times `answers_len`
@@ -325,8 +328,8 @@ ipnet_status ipnet_set_contains_all(const void *set, size_t set_len, const void 
  *
  * `answers` is modified only on OK.
  */
-ipnet_status ipnet_set_covers_all(const void *set, size_t set_len, const void *networks, size_t networks_len, size_t width,
-                                  uint8_t *answers, size_t answers_len);
+ipnet_status ipnet_set_covers_all(const void *set, size_t set_len, const void *networks, size_t networks_len,
+                                  size_t width, uint8_t *answers, size_t answers_len);
 
 /* Writes the numbers of addresses of a set, given by its image, into `counts`, which has four numbers. counts[0] is the
  * number of IPv4 addresses. The number of IPv6 addresses is counts[1] + 2^64 * counts[2] + 2^128 * counts[3]; counts[3]
@@ -385,7 +388,8 @@ ipnet_status ipnet_set_complement(const void *set, size_t set_len, void *buffer,
  *
  * A column of texts becomes rows, which "Columns of addresses" below defines. The text of a row is an address in the
  * strict grammar, such as 10.0.0.1 or fd00::1, and nothing else: no prefix length, no zone, no blanks. Any other text,
- * UTF-8 or not, is a row that is not an address. ::ffff:10.0.0.1 is an IPv6 address. The calls allocate nothing, and their texts, offsets and rows need no alignment. */
+ * UTF-8 or not, is a row that is not an address. ::ffff:10.0.0.1 is an IPv6 address. The calls allocate nothing, and
+ * their texts, offsets and rows need no alignment. */
 
 /* Reads rows from a text that has one row on each line. Each line ends with "\n", the last one too.
  *
@@ -402,9 +406,9 @@ ipnet_status ipnet_rows_from_lines(const char *text, size_t text_len, uint8_t *f
                                    uint8_t *octets, size_t octets_len, size_t *bad);
 
 /* Reads rows from texts that lie one after the other in `text`, as Arrow keeps a column of strings. There is one offset
- * more than there are rows. Row i is read from the bytes of `text` from offset i up to offset i + 1, without the byte at
- * offset i + 1. Each offset has 4 or 8 bytes, the least significant first; `offsets_len` is the number of bytes of all
- * offsets. The first offset need not be 0, nor the last the length of `text`.
+ * more than there are rows. Row i is read from the bytes of `text` from offset i up to offset i + 1, without the byte
+ * at offset i + 1. Each offset has 4 or 8 bytes, the least significant first; `offsets_len` is the number of bytes of
+ * all offsets. The first offset need not be 0, nor the last the length of `text`.
  *
  * OK                `families` and `octets` have a row for each text, and `*bad` is the number of rows that are not
  *                   addresses
@@ -424,10 +428,11 @@ ipnet_status ipnet_rows_from_offsets(const char *text, size_t text_len, const vo
 
 /* ---- Tables of routes
  *
- * A table has networks with a number each, its value, and finds the longest network that contains an address. It is kept
- * by the caller, as a set is: as its image. A table of fewer than 2^32 routes has exactly one image. An image has 32
- * bytes, 16 for each IPv4 route and 32 for each IPv6 route, and from 256 routes of a family on an index, of at most 8
- * bytes for each route and 12 more.
+ * A table has networks with a number each, its value, and finds the longest network that contains an address. It is
+ * kept by the caller, as a set is: as its image. A table of fewer than 2^32 routes has exactly one image. An image has
+ * 32 bytes, 16 for each IPv4 route and 32 for each IPv6 route, and from 256 routes of a family on an index, of at most
+ * 8 bytes for each route and 12 more.
+ *
  * The questions to an image allocate nothing and test only its header. If the image comes from outside, test all of it
  * once with ipnet_table_check. Whatever the bytes are, no call reads outside of them, and every call ends. */
 
@@ -489,8 +494,9 @@ uint32_t ipnet_table_longest_route(const void *table, size_t table_len, const ui
                                    uint8_t *network, size_t network_len, uint32_t *value);
 
 /* Finds the longest network of the table that contains every address of `network`. Writes its byte form, without host
- * bits, to the start of `covering`, which has 18 bytes or more, and its value to `*value`, and returns 1; or returns 0 if
- * no network of the table contains it. `network` has the bytes of a network, as for ipnet_is_covered. Otherwise returns
+ * bits, to the start of `covering`, which has 18 bytes or more, and its value to `*value`, and returns 1; or returns 0
+ * if no network of the table contains it. `network` has the bytes of a network, as for ipnet_is_covered. Otherwise
+ * returns
  *
  * WRONG_LENGTH, UNKNOWN_FAMILY, PREFIX_TOO_LONG  if and only if the bytes of `network` have this fault
  * BUFFER_TOO_SHORT  if and only if they are a network, and `covering_len` is less than 18
@@ -504,8 +510,8 @@ uint32_t ipnet_table_longest_route(const void *table, size_t table_len, const ui
 uint32_t ipnet_table_longest_covering(const void *table, size_t table_len, const uint8_t *network, size_t network_len,
                                       uint8_t *covering, size_t covering_len, uint32_t *value);
 
-/* Writes for each of many addresses the value of the longest network of the table that contains it, or `missing` if none
- * does. `addresses` has `width` octets for each address, 4 or 16, one address after the other.
+/* Writes for each of many addresses the value of the longest network of the table that contains it, or `missing` if
+ * none does. `addresses` has `width` octets for each address, 4 or 16, one address after the other.
  *
  * OK                `values` has the value for each address, or `missing`
  * WRONG_LENGTH      if and only if the width is neither 4 nor 16, or the number of octets is not the width for each

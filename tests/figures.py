@@ -17,16 +17,16 @@ LENGTHS = "The program by the number of lines"
 PARTS = "The program on parts of a list"
 # the document, the sentence with `{}` for each figure, and of each figure the table, its row, its column and its form
 FIGURES = [
-    ("docs/IPNET.md", "{} MiB for a million IPv4 routes, {} MiB for a million IPv6 /48.",
+    ("docs/NETSET.md", "{} MiB for a million IPv4 routes, {} MiB for a million IPv6 /48.",
      [(PROGRAM, ("IPv4 routes",), "peak MiB", "whole"), (PROGRAM, ("/48 inside forty /32",), "peak MiB", "whole")]),
-    ("docs/SCALING.md", "`ipnet` aggregated 10^7 IPv4 routes (156 MB) in {} s of processor time with {} MiB.",
+    ("docs/NETSET.md", "`ipnet` aggregated 10^7 IPv4 routes (156 MB) in {} s of processor time with {} MiB.",
      [(PARTS, ("the whole list",), "processor ms", "seconds"), (PARTS, ("the whole list",), "peak MiB", "whole")]),
-    ("docs/SCALING.md", "In lists of 10^6 lines and more, a line takes {} to {} bytes of memory for IPv4, and {} for "
+    ("docs/NETSET.md", "In lists of 10^6 lines and more, a line takes {} to {} bytes of memory for IPv4, and {} for "
      "IPv6 /48.",
      [(LENGTHS, ("routes_ipv4", "10,000,000"), "bytes a line", "whole"),
       (LENGTHS, ("routes_ipv4", "1,000,000"), "bytes a line", "whole"),
       (LENGTHS, ("sites_ipv6", "1,000,000"), "bytes a line", "whole")]),
-    *(("docs/SCALING.md", "| %s | {} s | {} | {} MiB |" % label,
+    *(("docs/NETSET.md", "| %s | {} s | {} | {} MiB |" % label,
        [(PARTS, (name,), "processor ms", "seconds"), (PARTS, (name,), "lines out", "text"),
         (PARTS, (name,), "peak MiB", "whole")])
       for label, name in (("`ipnet < list`", "the whole list"),

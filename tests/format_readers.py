@@ -1,4 +1,4 @@
-"""Plain readers of the formats of docs/FORMATS.md, written from the manuals of the programs. A module of tests/formats.
+"""Plain readers of the formats of docs/NETSET.md, written from the manuals of the programs. A module of tests/formats.
 
 A reader takes a text and returns its set: ranges `(family, first, last)`, as tests/set_model.py has them.
 """

@@ -11,7 +11,7 @@ packed() {
 # put_licences FOLDER: copies the licences of Dewikonu, and of the parts of the kit that its programs contain
 put_licences() {
     install -D -m 644 "$top/licences/debian-copyright" "$1/copyright" &&
-        install -m 644 "$top/licences/dewikonu.spdx" "$top/docs/LICENCES.md" "$top"/LICENSE-{MIT,APACHE} "$1"
+        install -m 644 "$top/licences/dewikonu.spdx" "$top/docs/internals/LICENCES.md" "$top"/LICENSE-{MIT,APACHE} "$1"
 }
 
 # libc_needed FILE..: prints the version of the C library that the programs and libraries need

@@ -16,9 +16,10 @@
 # is up to date.
 release_sources() {
     local name
-    printf '%s\n' crates.txt include licences docs/{ipnet.1,netset.1,LICENCES.md} LICENSE-{MIT,APACHE} install release \
-        tools/{build,package,places,releases}.sh tools/completions bindings/{build,link,ipnet.pc.in,ipnet.symbols} \
-        bindings/{sql,sqlite,postgresql} bindings/python/{_quick.c,pyproject.toml,backend,ipnet_proved}
+    printf '%s\n' crates.txt include licences docs/{ipnet.1,netset.1,internals/LICENCES.md} LICENSE-{MIT,APACHE} \
+        install release tools/{build,package,places,releases}.sh tools/completions \
+        bindings/{build,link,ipnet.pc.in,ipnet.symbols} bindings/{sql,sqlite,postgresql} \
+        bindings/python/{_quick.c,pyproject.toml,backend,ipnet_proved}
     while read -r name; do
         printf 'crates/%s\n' "$name"/{src,specs,proofs}
     done < <(crates_below ipnet_program netset ipnet_c)

@@ -7,7 +7,7 @@ from . import parts as kit_parts
 
 OWN = "MIT OR Apache-2.0"
 HOLDER = "2026 The Dewikonu maintainers"
-PAGE, SPDX, DEBIAN = "docs/LICENCES.md", "licences/dewikonu.spdx", "licences/debian-copyright"
+PAGE, SPDX, DEBIAN = "docs/internals/LICENCES.md", "licences/dewikonu.spdx", "licences/debian-copyright"
 # Debian's names of licences, and the words that a text has to contain in this file
 DEBIAN_NAMES = {"MIT": "Expat"}
 NO_TEXT, NO_HOLDER = "no-text-in-the-kit", "no holder is named in the kit"
@@ -39,7 +39,7 @@ def text_links(part, groups):
     found = []
     for text in part.texts:
         if text.licence == "Apache-2.0":
-            found.append("[%s](../LICENSE-APACHE)" % text.file)
+            found.append("[%s](../../LICENSE-APACHE)" % text.file)
         for group in groups:
             if group[1].terms == text.terms:
                 found.append("[%s](#%s)" % (text.file, anchor_of(title_of(group))))
@@ -55,7 +55,7 @@ def row(part, groups, is_product):
 
 
 def page(parts, kit, start_files):
-    """docs/LICENCES.md."""
+    """docs/internals/LICENCES.md."""
     groups = groups_of(parts)
     notices = ["`%s`, %s:\n\n```text\n%s\n```\n" % (path, notice.licence, notice.text)
                for part in parts if part.products for path, notice in part.notices.items()]
@@ -154,7 +154,7 @@ def debian(parts, kit, top_texts):
     lines = ["Format: https://www.debian.org/doc/packaging-manuals/copyright-format/1.0/", "Upstream-Name: dewikonu",
              "Comment: The programs and the C library also contain parts of the Rattle kit (%s)." % kit,
              " The paragraphs kit/NAME are about these parts, which are not in this source.",
-             " docs/LICENCES.md has every text word for word.", "",
+             " docs/internals/LICENCES.md has every text word for word.", "",
              "Files: *", "Copyright: " + HOLDER, "License: Expat or Apache-2.0"]
     for part in (part for part in parts if part.products):
         lines += ["", "Files: kit/%s/*" % part.name, holders(copyrights_of(part)),

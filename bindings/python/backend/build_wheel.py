@@ -25,7 +25,7 @@ NAME = "ipnet_proved"
 # The text that the program netset prints as its version: it says whether this is a preview.
 VERSION = ("..", "..", "crates", "netset", "src", "version.rt")
 # The licences of the package, and of the parts of the kit that the library contains.
-LICENCES = ("LICENSE-MIT", "LICENSE-APACHE", "docs/LICENCES.md", "licences/dewikonu.spdx")
+LICENCES = ("LICENSE-MIT", "LICENSE-APACHE", "docs/internals/LICENCES.md", "licences/dewikonu.spdx")
 
 
 def read(*path):

@@ -1,15 +1,15 @@
 """Aggregates, combines and compares lists of IP networks, with a library whose results are proved correct.
 
 This package calls the shared library libipnet.so, which is written in Rattle (Rust with contracts). Each function of
-the library is proved to satisfy its contract. docs/C.md in the repository lists what is proved and what is trusted;
-this package is trusted. If it was installed by pip, it contains the library. Otherwise `bindings/build` builds the
+the library is proved to satisfy its contract. docs/PYTHON.md in the repository lists all calls; this package is
+tested, not proved. If it was installed by pip, it contains the library. Otherwise `bindings/build` builds the
 library in bindings/out; to use a library in another folder, set the environment variable IPNET_LIB to that folder.
 
 A network is a text, such as "10.1.1.0/24" or "10.1.1.7", or an object of the standard module ipaddress: a network, an
 interface (an address with host bits and a prefix length), or an address. An address is a network of full length. A list
 is a text with one network per line, an iterable of networks, or one network. Texts are str, or UTF-8 in bytes,
 bytearray or memoryview. IPv6 addresses with a zone, as fe80::1%eth0, are refused. Sets and tables are also asked about
-whole columns: lists, buffers, arrays of NumPy and Series of pandas (docs/DATA.md).
+whole columns: lists, buffers, arrays of NumPy and Series of pandas (docs/PYTHON.md).
 
 >>> aggregate_text("10.0.1.0/24\\n10.0.0.0/24\\n")
 '10.0.0.0/23\\n'

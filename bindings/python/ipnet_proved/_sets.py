@@ -138,7 +138,7 @@ class IpSet:
         return _covers(self._image, len(self._image), wanted, len(wanted)) == 1
 
     def contains_all(self, column: Any, *, invalid: str = RAISE, mapped: bool = False, out: Any = None) -> Any:
-        """Whether the set contains each address of a column. docs/DATA.md lists the kinds of columns.
+        """Whether the set contains each address of a column. docs/PYTHON.md lists the kinds of columns.
 
         A list, or another iterable, of texts and objects gives a list of True, False, and None for a missing row. A
         buffer gives bytes of 1, 0, and 2 for a missing row. An array of NumPy gives an array of bool, masked at missing

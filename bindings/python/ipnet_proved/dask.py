@@ -1,6 +1,6 @@
 """Long lists and long columns on a Dask cluster. Needs dask and distributed, and the package on each worker.
 
-A set or a table reaches each worker once, by a plugin, also a worker that starts later. docs/SCALING.md has examples.
+A set or a table reaches each worker once, by a plugin, also a worker that starts later. docs/PYTHON.md has examples.
 """
 import hashlib
 import os

@@ -1,8 +1,8 @@
 //! Aggregates, combines and compares lists of IP networks, with a library whose results are proved correct.
 //!
 //! This crate calls the static library `libipnet.a`, which is written in Rattle (Rust with contracts). Each function of
-//! the library is proved to satisfy its contract. `docs/C.md` in the repository lists what is proved and what is
-//! trusted; this crate is trusted. It passes texts and buffers to the library, and returns its results and errors.
+//! the library is proved to satisfy its contract. `docs/PROVED.md` in the repository says what is proved and what
+//! is trusted; this crate is trusted. It passes texts and buffers to the library, and returns its results and errors.
 //! Nothing here panics. The library frees all its memory before a call returns.
 //!
 //! ```
