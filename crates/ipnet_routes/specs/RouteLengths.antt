@@ -18,10 +18,10 @@ abbrev pub HasLength : ℕ → ℕ → Type 0
 HasLength mask l = bit_at mask (127 - l) ≡ 1
 
 -- The mask of each region that the network reaches into has the length of the network.
-abbrev pub IsKnown : List ℕ → ℕ → Network → Type 0
-IsKnown masks width k = (x : Address) → InBlock k x → k.prefix_len < 128 → region_of x / width < length masks
-    → HasLength (get_or masks (region_of x / width) 0) k.prefix_len
+pub record IsKnown (masks : List ℕ) (width : ℕ) (k : Network) : Type 0 where
+  pub masked : (x : Address) → InBlock k x → k.prefix_len < 128 → region_of x / width < length masks
+      → HasLength (get_or masks (region_of x / width) 0) k.prefix_len
 
 -- The lengths of all these networks are known.
-abbrev pub AreKnown : List ℕ → ℕ → List Network → Type 0
-AreKnown masks width networks = (k : Network) → Contains networks k → IsKnown masks width k
+pub record AreKnown (masks : List ℕ) (width : ℕ) (networks : List Network) : Type 0 where
+  pub each : (k : Network) → Contains networks k → IsKnown masks width k

@@ -1,5 +1,5 @@
 //! Maps of routes: tables that can be changed, with the longest match for an address.
-ghost use Rattle.std.specs.Prelude.{◌≡◌, ◌<◌, ◌↔◌, length, [], IsTrue, IsOk, IfOk, OnOk, OnErr, IsNone, IfSome, All};
+ghost use Rattle.std.specs.Prelude.{◌≡◌, ◌<◌, ◌≤◌, ◌↔◌, length, [], IsTrue, IsOk, IfOk, OnOk, OnErr, IsNone, IfSome, All};
 ghost use Rattle.std.specs.Prelude.{Contains};
 ghost use Rattle.std.specs.Borrow.{sem};
 ghost use Rattle.ipnet_base.specs.Address.{ip_address};
@@ -33,7 +33,7 @@ pub mod routes;
 mod values;
 
 /// The network of a shorter prefix length that contains the network, without host bits.
-fn cut(network: &IpNet, len: u8) -> IpNet
+fn shorten(network: &IpNet, len: u8) -> IpNet
     requires { len ≤ (ip_network network.now).prefix_len }
     ensures { IsTruncationOf (ip_network result) (record (ip_network network.now) { prefix_len = len }) }
 {
@@ -70,7 +70,7 @@ fn covering_in<'a, V>(
         let Some(len) = lengths.longest_up_to(network.addr(), common.prefix_len()) else {
             return None;
         };
-        wanted = cut(&common, len);
+        wanted = shorten(&common, len);
     }
 }
 

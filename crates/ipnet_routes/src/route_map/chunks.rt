@@ -106,7 +106,10 @@ fn is_between<V>(chunks: &[Chunk<V>], place: Place, network: &IpNet) -> bool
         (position_of chunks.now place.chunk place.index) }
 {
     ip_nets_compare_by_network();
-    if place.index == 0 || place.chunk >= chunks.len() {
+    if place.index == 0 {
+        return false;
+    }
+    if place.chunk >= chunks.len() {
         return false;
     }
     let routes = chunks[place.chunk].as_slice();

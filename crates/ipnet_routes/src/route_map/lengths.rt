@@ -1,5 +1,5 @@
 //! The prefix lengths of the routes of a map, by regions of addresses: a search looks for no network of other lengths.
-ghost use Rattle.std.specs.Prelude.{◌≡◌, ◌<◌, ◌≤◌, ℕ, IfSome, IfNone, length, get_or};
+ghost use Rattle.std.specs.Prelude.{◌≡◌, ◌<◌, ◌≤◌, ℕ, List, IfSome, IfNone, length, get_or};
 ghost use Rattle.std.specs.Int.{bit_at};
 ghost use Rattle.ipnet_base.specs.Address.{ip_address};
 ghost use Rattle.ipnet_base.specs.Network.{Network, InBlock};
@@ -65,7 +65,7 @@ fn longest_of(mask: u128, limit: u8) -> Option<u8>
 impl KnownLengths {
     /// Returns no lengths. Allocates nothing.
     pub(crate) fn new(alloc: Global) -> KnownLengths
-        ensures { (k : Network) → IsKnown result.masks.items result.width k }
+        ensures { (networks : List Network) → AreKnown result.masks.items result.width networks }
     {
         KnownLengths {
             masks: Vec::new(alloc),
@@ -91,8 +91,8 @@ impl KnownLengths {
 
     /// Adds the lengths of the routes.
     fn add_all<V>(&mut self, routes: &[(IpNet, V)])
-        ensures keeps { (k : Network) → IsKnown self.old.masks.items self.old.width k
-            → IsKnown self.new.masks.items self.new.width k }
+        ensures keeps { (networks : List Network) → AreKnown self.old.masks.items self.old.width networks
+            → AreKnown self.new.masks.items self.new.width networks }
         ensures known { AreKnown self.new.masks.items self.new.width (ip_networks routes.now) }
     {
         for index in 0..routes.len() {
@@ -102,8 +102,8 @@ impl KnownLengths {
 
     /// Adds the length of the network in each region that it reaches into.
     pub(crate) fn add(&mut self, network: &IpNet)
-        ensures keeps { (k : Network) → IsKnown self.old.masks.items self.old.width k
-            → IsKnown self.new.masks.items self.new.width k }
+        ensures keeps { (networks : List Network) → AreKnown self.old.masks.items self.old.width networks
+            → AreKnown self.new.masks.items self.new.width networks }
         ensures known { IsKnown self.new.masks.items self.new.width (ip_network network.now) }
     {
         let len = network.prefix_len();
@@ -117,8 +117,8 @@ impl KnownLengths {
 
     /// Whether so many routes were added that the lengths should be made anew. Counts one more.
     pub(crate) fn is_full(&mut self, count: usize) -> bool
-        ensures masks { self.new.masks ≡ self.old.masks }
-        ensures width { self.new.width ≡ self.old.width }
+        ensures { (networks : List Network) → AreKnown self.old.masks.items self.old.width networks
+            → AreKnown self.new.masks.items self.new.width networks }
     {
         self.added = self.added.saturating_add(1);
         self.added >= COUNTED && self.added.saturating_mul(2) >= count
@@ -134,7 +134,10 @@ impl KnownLengths {
             → InBlock k (ip_address ip) → k.prefix_len ≤ limit → ⊥) }
     {
         let region = region(ip) / self.width;
-        if limit >= 128 || region >= self.masks.len() {
+        if limit >= 128 {
+            return Some(limit);
+        }
+        if region >= self.masks.len() {
             return Some(limit);
         }
         longest_of(self.masks[region], limit)
