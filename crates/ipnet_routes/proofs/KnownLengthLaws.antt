@@ -1,12 +1,12 @@
 -- The prefix lengths that a map of routes knows: what a mask has, and which networks a search leaves out.
 use Rattle.std.proofs.Common.{◌≡◌, ℕ, ◌+◌, ◌-◌, ◌*◌, ◌/◌, ◌%◌, ◌^◌, ◌<◌, ◌≤◌, List, [], ◌∷◌, ◌++◌, length, get_or, take}
-use Rattle.std.proofs.Common.{Contains, Option, Some, None, refl, sym, ap, ◌∙◌, subst, arith, inl, inr, pow_pos, w128, append-nil}
-use Rattle.std.specs.Int.{bit_at, trailing_zeros}
+use Rattle.std.proofs.Common.{Contains, Option, Some, None, refl, sym, ap, ◌∙◌, subst, arith, inl, inr, pow_pos, append-nil}
+use Rattle.std.specs.Int.{bit_at, trailing_zeros, w128}
 use Rattle.std.specs.Option.{IfNone}
 use Rattle.std.specs.Int.RustNames.{bit_or}
 use Rattle.std.proofs.Math.Nat.{div-mul-le_self}
 use Rattle.std.proofs.lemmas.Bool.{cases_lt, cases_eq}
-use Rattle.std.proofs.lemmas.List.{take_more}
+use Rattle.std.proofs.lemmas.List.{take_more, get_or_default}
 use Rattle.std.proofs.lemmas.List.Concat.{flat_map-append}
 use Rattle.std.proofs.lemmas.List.Elements.{Contains-append_cases}
 use Rattle.std.proofs.lemmas.Nat.{le-div, shr-shr}
@@ -152,11 +152,12 @@ known_taken masks width old new n taken known = record {
 
 -- the mask of an address has the length of each known network that contains it
 pub has_known : (masks : List ℕ) (width : ℕ) (k : Network) (x : Address) (region : ℕ) → region ≡ region_of x
-    → IsKnown masks width k → InBlock k x → region / width < length masks → k.prefix_len < 128
-    → HasLength (get_or masks (region / width) 0) k.prefix_len
-has_known masks width k x region is known in_k inside small =
-    subst (λ z. HasLength (get_or masks (z / width) 0) k.prefix_len) (sym is)
-    (known.masked x in_k small (subst (λ z. z / width < length masks) is inside))
+    → IsKnown masks width k → InBlock k x → region / width < length masks → k.prefix_len < 128 → (mask : ℕ)
+    → mask ≡ get_or masks (region / width) mask → HasLength mask k.prefix_len
+has_known masks width k x region is known in_k inside small mask at =
+    subst (λ z. HasLength z k.prefix_len) (get_or_default masks (region / width) 0 mask inside ∙ sym at)
+    (subst (λ z. HasLength (get_or masks (z / width) 0) k.prefix_len) (sym is)
+    (known.masked x in_k small (subst (λ z. z / width < length masks) is inside)))
 
 pub none_known : {X P Q : Type 0} (o : Option X) → IfNone o P → (P → Q) → IfNone o Q
 none_known None h to = to h

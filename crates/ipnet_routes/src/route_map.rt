@@ -212,9 +212,7 @@ impl<V> RouteMap<V> {
         changes::put_route(self.alloc, &mut self.chunks, place, (network, value))?;
         self.count += 1;
         self.index.follow_put(self.chunks.as_slice(), count, place);
-        if self.lengths.is_full(self.count) {
-            self.lengths.fill(self.chunks.as_slice(), self.count);
-        }
+        self.lengths.count(self.chunks.as_slice(), self.count);
         Ok(None)
     }
 

@@ -112,16 +112,22 @@ impl KnownLengths {
         }
         let first = region(network.network()) / self.width;
         let last = region(network.broadcast()) / self.width;
-        mark(self.masks.as_mut_slice(), first, last, len);
+        mark(&mut self.masks, first, last, len);
     }
 
-    /// Whether so many routes were added that the lengths should be made anew. Counts one more.
-    pub(crate) fn is_full(&mut self, count: usize) -> bool
-        ensures { (networks : List Network) → AreKnown self.old.masks.items self.old.width networks
-            → AreKnown self.new.masks.items self.new.width networks }
+    /// Counts a route that was added, and makes the lengths anew if as many were as half of all.
+    pub(crate) fn count<V>(&mut self, chunks: &[Chunk<V>], count: usize)
+        ensures { AreKnown self.old.masks.items self.old.width (ip_networks (all_of chunks.now))
+            → AreKnown self.new.masks.items self.new.width (ip_networks (all_of chunks.now)) }
     {
         self.added = self.added.saturating_add(1);
-        self.added >= COUNTED && self.added.saturating_mul(2) >= count
+        if self.added < COUNTED {
+            return;
+        }
+        if self.added < count / 2 {
+            return;
+        }
+        self.fill(chunks, count);
     }
 
     /// The greatest length up to a limit that a route may have that contains the address; `None` if no route of such a
@@ -145,11 +151,12 @@ impl KnownLengths {
 }
 
 /// Adds a length to the masks from the first to the last.
-fn mark(masks: &mut [u128], first: usize, last: usize, len: u8)
+fn mark(masks: &mut Vec<u128>, first: usize, last: usize, len: u8)
     requires { len < 128 }
-    ensures size { length masks.new ≡ length masks.old }
-    ensures keeps { (i l : ℕ) → HasLength (get_or masks.old i 0) l → HasLength (get_or masks.new i 0) l }
-    ensures has { (i : ℕ) → first ≤ i → i ≤ last → i < length masks.new → HasLength (get_or masks.new i 0) len }
+    ensures size { length masks.new.items ≡ length masks.old.items }
+    ensures keeps { (i l : ℕ) → HasLength (get_or masks.old.items i 0) l → HasLength (get_or masks.new.items i 0) l }
+    ensures has { (i : ℕ) → first ≤ i → i ≤ last → i < length masks.new.items
+        → HasLength (get_or masks.new.items i 0) len }
 {
     for index in first..masks.len() {
         if index > last {

@@ -1,7 +1,7 @@
 -- One more mask has the length.
-use Rattle.std.proofs.Common.{◌<◌, length, get_or, inl, inr, refl, sym, ◌∙◌, arith, subst}
+use Rattle.std.proofs.Common.{◌≡◌, ◌<◌, length, get_or, inl, inr, refl, sym, ◌∙◌, arith, subst}
 use Rattle.std.proofs.lemmas.Bool.{cases_eq}
-use Rattle.std.proofs.lemmas.List.{length-set, get_or-set_other}
+use Rattle.std.proofs.lemmas.List.{length-set, get_or-set_other, get_or_default}
 use Rattle.std.proofs.lemmas.Grind.{get_or-set_at}
 use Rattle.ipnet_routes.specs.RouteLengths.{HasLength}
 use Rattle.ipnet_routes.proofs.route_map.lengths.mark.Goals as goal
@@ -15,16 +15,19 @@ loop-index-init c = record {
 
 pub loop-index-preserved : goal.loop-index-preserved
 loop-index-preserved c =
-    let masks = c.loop-index.masks in
+    let masks = c.loop-index.masks.items in
     let h = c.loop-index.invariant in
     let i = c.loop-index.index in
     let new = c.with_length.result in
+    let mask = c.index.result.now in
     let inside : i < length masks = omega (arith, h.size) in
+    let read : get_or masks i 0 ≡ mask = get_or_default masks i 0 mask inside ∙ sym c.index.ensures in
     record {
       size = length-set masks i new ∙ h.size;
       keeps = λ j n has. elim (cases_eq j i) [
         | inl same ↦ subst (λ z. HasLength z n) (sym (get_or-set_at masks i j new 0 same inside))
-            (c.with_length.ensures.keeps n (subst (λ z. HasLength (get_or masks z 0) n) same (h.keeps j n has)))
+            (c.with_length.ensures.keeps n (subst (λ z. HasLength z n) read
+            (subst (λ z. HasLength (get_or masks z 0) n) same (h.keeps j n has))))
         | inr other ↦ subst (λ z. HasLength z n) (sym (get_or-set_other masks i j new 0 other)) (h.keeps j n has)
       ];
       has = λ j from lt within. elim (cases_eq j i) [

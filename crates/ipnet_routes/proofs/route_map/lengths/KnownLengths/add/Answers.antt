@@ -15,14 +15,14 @@ returns-then-len-ge128-clause-known c =
 pub returns-clause-keeps : goal.returns-clause-keeps
 returns-clause-keeps c =
     let s = c.args.self.now in
-    known_more s.masks.items c.mark.new.masks s.width c.mark.ensures.size c.mark.ensures.keeps
+    known_more s.masks.items c.mark.new.masks.items s.width c.mark.ensures.size c.mark.ensures.keeps
 
 pub returns-clause-known : goal.returns-clause-known
 returns-clause-known c =
     let s = c.args.self.now in
     let k = ip_network c.args.network.now in
-    known_here c.mark.new.masks s.width s.some k (ip_address c.network.result) (ip_address c.broadcast.result)
+    known_here c.mark.new.masks.items s.width s.some k (ip_address c.network.result) (ip_address c.broadcast.result)
     c.network.ensures c.broadcast.ensures
-    (λ i from to inside. subst (HasLength (get_or c.mark.new.masks i 0)) c.prefix_len-len.ensures
+    (λ i from to inside. subst (HasLength (get_or c.mark.new.masks.items i 0)) c.prefix_len-len.ensures
     (c.mark.ensures.has i (subst (λ z. z / s.width ≤ i) (sym c.region.ensures) from)
     (subst (λ z. i ≤ z / s.width) (sym c.region-2.ensures) to) inside))
