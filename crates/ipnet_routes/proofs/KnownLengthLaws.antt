@@ -1,6 +1,7 @@
 -- The prefix lengths that a map of routes knows: what a mask has, and which networks a search leaves out.
-use Rattle.std.proofs.Common.{◌≡◌, ℕ, ◌+◌, ◌-◌, ◌*◌, ◌/◌, ◌%◌, ◌^◌, ◌<◌, ◌≤◌, List, [], ◌∷◌, ◌++◌, length, get_or, take}
-use Rattle.std.proofs.Common.{Contains, Option, Some, None, refl, sym, ap, ◌∙◌, subst, arith, inl, inr, pow_pos, append-nil}
+use Rattle.std.proofs.Common.{◌≡◌, ℕ, ◌+◌, ◌-◌, ◌*◌, ◌/◌, ◌%◌, ◌^◌, ◌<◌, ◌≤◌, List, [], ◌∷◌, ◌++◌}
+use Rattle.std.proofs.Common.{Contains, Option, Some, None, refl, sym, ap, ◌∙◌, subst, arith, inl, inr, pow_pos}
+use Rattle.std.proofs.Common.{length, get_or, take, append-nil}
 use Rattle.std.specs.Int.{bit_at, trailing_zeros, w128}
 use Rattle.std.specs.Option.{IfNone}
 use Rattle.std.specs.Int.RustNames.{bit_or}
@@ -38,12 +39,7 @@ region_order : (x y : Address) → x.family ≡ y.family → x.number ≤ y.numb
 region_order x y same le =
     subst (λ f. region_of x ≤ region_at f y.number) same (region_le x.family x.number y.number le)
 
--- without masks nothing is left out
-pub known_none : (masks : List ℕ) (width : ℕ) → masks ≡ [] → (networks : List Network) → AreKnown masks width networks
-known_none masks width none networks = record {
-  each = λ k c. record { masked = λ x a small inside. absurd (omega (arith, inside, ap length none)) };
-}
-
+-- of no network all lengths are known
 pub known_nothing : (masks : List ℕ) (width : ℕ) → AreKnown masks width []
 known_nothing masks width = record { each = λ k c. absurd (contains_nil k c) }
 
@@ -62,7 +58,7 @@ known_more old new width size keeps networks known = record {
   };
 }
 
--- a network whose length is in all masks from that of its first address to that of its last
+-- a network whose length is in all masks from the one of its first address to the one of its last
 pub known_here : (masks : List ℕ) (width : ℕ) → 0 < width → (k : Network) (first last : Address) → IsLeastOf k first
     → IsGreatestOf k last
     → ((i : ℕ) → region_of first / width ≤ i → i ≤ region_of last / width → i < length masks

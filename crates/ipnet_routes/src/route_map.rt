@@ -1,6 +1,6 @@
 //! Maps of routes: tables that can be changed, with the longest match for an address.
-ghost use Rattle.std.specs.Prelude.{◌≡◌, ◌<◌, ◌≤◌, ◌↔◌, length, [], IsTrue, IsOk, IfOk, OnOk, OnErr, IsNone, IfSome, All};
-ghost use Rattle.std.specs.Prelude.{Contains};
+ghost use Rattle.std.specs.Prelude.{◌≡◌, ◌<◌, ◌≤◌, ◌↔◌, length, [], IsTrue, IsOk, IfOk, OnOk, OnErr, IsNone, IfSome};
+ghost use Rattle.std.specs.Prelude.{All, Contains};
 ghost use Rattle.std.specs.Borrow.{sem};
 ghost use Rattle.ipnet_base.specs.Address.{ip_address};
 ghost use Rattle.ipnet_base.specs.Network.{Network, IsSubnetOf, IsTruncated, IsTruncationOf, truncation};
@@ -76,8 +76,9 @@ fn covering_in<'a, V>(
 
 /// A table of routes that can be changed: networks of both families, each once, with a value each.
 ///
-/// The routes are kept in order, in chunks of at most 128, so that a change moves only the routes of one chunk. A search
-/// finds its place by an index of numbers, and looks only for networks of the lengths that routes have in its region.
+/// The routes are kept in order, in chunks of at most 128, so that a change moves only the routes of one chunk. A
+/// search finds its place by an index of numbers, and looks only for networks of the lengths that routes have in its
+/// region.
 ///
 /// ```text
 /// of 0.0.0.0/0, 10.0.0.0/8 and 10.1.0.0/16: 10.1.2.3 is in 10.1.0.0/16, 10.2.0.1 in 10.0.0.0/8, 11.0.0.1 in 0.0.0.0/0

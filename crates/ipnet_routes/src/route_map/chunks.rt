@@ -47,8 +47,8 @@ impl Place {
     }
 }
 
-/// Where a search begins: a chunk, and two indices of routes in it. A search is right for any hint; a good one makes it
-/// short.
+/// The place at which a search begins: a chunk, and two indices of routes in it. A search is right for any hint; a good
+/// one makes it short.
 #[derive(Clone, Copy)]
 pub(crate) struct Hint {
     pub(crate) chunk: usize,

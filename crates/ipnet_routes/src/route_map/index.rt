@@ -8,7 +8,7 @@ use std::alloc::{AllocError, Global};
 /// A map with this many chunks or more has an index.
 const INDEXED: usize = 8;
 
-/// What is added to the numbers of IPv6 networks, so that they are above all numbers of IPv4 networks.
+/// The number that is added for IPv6 networks, so that their numbers are above those of IPv4 networks.
 const IPV6_NUMBERS: u64 = 4_294_967_296;
 
 /// For each chunk the long number of its first route, and the short number of each of its routes. Without an index the

@@ -73,7 +73,8 @@ invariant_of-self-lent g c w =
         (
           known_put c.args.self.now.lengths.masks.items c.args.self.now.lengths.width (all_of cs)
               (all_of (set cs before.chunk (with_item chunk before.index (route.0, w)))) t w made.1
-              c.args.self.now.known (c.args.self.now.known.each t (subst (λ z. Contains (ip_networks (all_of z)) t) value
+              c.args.self.now.known (c.args.self.now.known.each t
+              (subst (λ z. Contains (ip_networks (all_of z)) t) value
               (true_gives c.is_behind.result c.is_behind.ensures.has c.if-not-is_behind.false))),
           (c.args.self.now.size ∙ sym made.2, tt),
         ),

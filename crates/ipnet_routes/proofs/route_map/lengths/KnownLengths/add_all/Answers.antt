@@ -30,5 +30,6 @@ loop-index-preserved g c =
 pub returns-clause-known : goal.returns-clause-known
 returns-clause-known g c =
     let s = c.loop-index.self in
-    subst (λ z. AreKnown s.masks.items s.width (ip_networks z)) (take_all c.loop-index.index c.args.routes.now (omega arith))
+    subst (λ z. AreKnown s.masks.items s.width (ip_networks z))
+    (take_all c.loop-index.index c.args.routes.now (omega arith))
     c.loop-index.invariant.known

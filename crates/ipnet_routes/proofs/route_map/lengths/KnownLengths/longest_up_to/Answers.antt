@@ -23,4 +23,5 @@ returns-clause-none c =
     none_known c.longest_of.result c.longest_of.ensures.none
     (λ out k known in_k le. out k.prefix_len
     (has_known s.masks.items s.width k (ip_address c.args.ip) c.region.result c.region.ensures known in_k
-    (omega (arith, c.if-region-len.false)) (omega (arith, le, c.if-limit-ge128.false)) c.index.result.now c.index.ensures) le)
+    (omega (arith, c.if-region-len.false)) (omega (arith, le, c.if-limit-ge128.false)) c.index.result.now
+    c.index.ensures) le)
