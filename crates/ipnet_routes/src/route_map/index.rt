@@ -1,21 +1,28 @@
 //! The index of a map of routes: numbers of the routes, by which a search proposes a place. A search is right whatever
 //! the index says; the index makes it short.
+ghost use Rattle.std.specs.Prelude.{◌<◌};
+
 use super::chunks::{Chunk, Hint, Place};
 use crate::routes::index::Bucket;
 use ipnet::IpNet;
 use std::alloc::{AllocError, Global};
 
 /// A map with this many chunks or more has an index.
-const INDEXED: usize = 8;
+const INDEXED: usize = 32;
 
 /// The number that is added for IPv6 networks, so that their numbers are above those of IPv4 networks.
 const IPV6_NUMBERS: u64 = 4_294_967_296;
 
-/// For each chunk the long number of its first route, and the short number of each of its routes. Without an index the
+/// How many buckets of chunks there are: 2^12 of IPv4 and 2^12 of IPv6.
+const BUCKETS: usize = 8_192;
+
+/// For each bucket the index of the first chunk that begins in it or a later one, and then the number of chunks; for
+/// each chunk the long number of its first route, and the short number of each of its routes. Without an index the
 /// lists are empty.
 #[derive(Drop)]
 pub(crate) struct ChunkIndex {
     alloc: Global,
+    starts: Vec<u32>,
     firsts: Vec<u64>,
     numbers: Vec<Vec<u32>>,
 }
@@ -44,6 +51,24 @@ fn short_number(network: &IpNet) -> u32 {
     }
 }
 
+/// The bucket of a long number: its first 12 bits for IPv4; the 12 bits after the first three for IPv6 within 2000::/3,
+/// and the first or the last bucket of IPv6 for other numbers.
+fn bucket_of(number: u64) -> usize
+    ensures { result < 8192 }
+{
+    if number < IPV6_NUMBERS {
+        return ((number >> 20) as usize).min(4_095);
+    }
+    ((number.saturating_sub(IPV6_NUMBERS) >> 48) as usize)
+        .min(8_191)
+        .max(4_096)
+}
+
+/// An index of a chunk, in four bytes; the greatest number if it does not fit.
+fn small(index: usize) -> u32 {
+    u32::try_from(index).unwrap_or(u32::MAX)
+}
+
 /// Returns the short numbers of the routes.
 fn numbers_of<V>(alloc: Global, routes: &[(IpNet, V)]) -> Result<Vec<u32>, AllocError> {
     let mut numbers = Vec::with_capacity(alloc, routes.len())?;
@@ -58,6 +83,7 @@ impl ChunkIndex {
     pub(crate) fn new(alloc: Global) -> ChunkIndex {
         ChunkIndex {
             alloc,
+            starts: Vec::new(alloc),
             firsts: Vec::new(alloc),
             numbers: Vec::new(alloc),
         }
@@ -73,27 +99,47 @@ impl ChunkIndex {
 
     /// Removes all numbers.
     fn clear(&mut self) {
+        self.starts.clear();
         self.firsts.clear();
         self.numbers.clear();
     }
 
     /// Adds the numbers of all chunks, in their order.
     fn add_all<V>(&mut self, chunks: &[Chunk<V>]) -> Result<(), AllocError> {
+        self.starts.reserve(BUCKETS + 1)?;
         self.firsts.reserve(chunks.len())?;
         self.numbers.reserve(chunks.len())?;
         for index in 0..chunks.len() {
             let routes = chunks[index].as_slice();
+            let first = first_number(routes);
             self.numbers.push(numbers_of(self.alloc, routes)?)?;
-            self.firsts.push(first_number(routes))?;
+            self.firsts.push(first)?;
+            let bucket = bucket_of(first);
+            if self.starts.len() <= bucket && bucket < BUCKETS {
+                self.starts.resize(bucket + 1, small(index))?;
+            }
         }
+        self.starts.resize(BUCKETS + 1, small(chunks.len()))?;
         Ok(())
+    }
+
+    /// The number of chunks that begin with this number or a lower one.
+    fn chunks_up_to(&self, number: u64) -> usize {
+        let bucket = bucket_of(number);
+        if self.starts.len() <= bucket + 1 {
+            return 0;
+        }
+        let start = self.starts[bucket] as usize;
+        let end = self.starts[bucket + 1] as usize;
+        let Some(firsts) = self.firsts.get(start..end) else {
+            return 0;
+        };
+        start.saturating_add(firsts.partition_point(|first| *first <= number))
     }
 
     /// Returns the place at which a search for the network begins.
     pub(crate) fn hint(&self, network: &IpNet) -> Hint {
-        let number = long_number(network);
-        let chunk = self.firsts.partition_point(|first| *first <= number);
-        let chunk = chunk.saturating_sub(1);
+        let chunk = self.chunks_up_to(long_number(network)).saturating_sub(1);
         let Some(numbers) = self.numbers.get(chunk) else {
             return Hint {
                 chunk,
@@ -133,7 +179,8 @@ impl ChunkIndex {
     pub(crate) fn follow_take<V>(&mut self, chunks: &[Chunk<V>], count: usize, place: Place) {
         if chunks.len() != count {
             if place.chunk < self.firsts.len() {
-                self.firsts.remove(place.chunk);
+                let first = self.firsts.remove(place.chunk);
+                self.shift(bucket_of(first), BUCKETS, false);
             }
             if place.chunk < self.numbers.len() {
                 self.numbers.remove(place.chunk);
@@ -170,8 +217,17 @@ impl ChunkIndex {
 
     /// Sets the number of the first route of a chunk.
     fn set_first<V>(&mut self, chunks: &[Chunk<V>], chunk: usize) {
-        if chunk < chunks.len() && chunk < self.firsts.len() {
-            self.firsts[chunk] = first_number(chunks[chunk].as_slice());
+        if chunk >= chunks.len() || chunk >= self.firsts.len() {
+            return;
+        }
+        let first = first_number(chunks[chunk].as_slice());
+        let old = bucket_of(self.firsts[chunk]);
+        let new = bucket_of(first);
+        self.firsts[chunk] = first;
+        if old < new {
+            self.shift(old, new, false);
+        } else if new < old {
+            self.shift(new, old, true);
         }
     }
 
@@ -184,10 +240,26 @@ impl ChunkIndex {
         self.numbers[chunk] = numbers_of(self.alloc, chunks[chunk].as_slice())?;
         let numbers = numbers_of(self.alloc, chunks[next].as_slice())?;
         self.numbers.insert(next, numbers)?;
-        self.firsts
-            .insert(next, first_number(chunks[next].as_slice()))?;
+        let first = first_number(chunks[next].as_slice());
+        self.firsts.insert(next, first)?;
+        self.shift(bucket_of(first), BUCKETS, true);
         self.set_first(chunks, chunk);
         Ok(())
+    }
+
+    /// Adds one to the starts of the buckets after the first up to the last, or subtracts one.
+    fn shift(&mut self, first: usize, last: usize, is_added: bool) {
+        let end = last.min(self.starts.len().saturating_sub(1));
+        for index in first.saturating_add(1)..end.saturating_add(1) {
+            if index < self.starts.len() {
+                let chunk = self.starts[index];
+                self.starts[index] = if is_added {
+                    chunk.wrapping_add(1)
+                } else {
+                    chunk.wrapping_sub(1)
+                };
+            }
+        }
     }
 }
 
