@@ -95,30 +95,6 @@ pub(crate) fn chunk_after<V>(chunks: &[Chunk<V>], bucket: Bucket, network: &IpNe
     low
 }
 
-/// The place that a hint proposes: the end of its bucket, or a place in its chunk that is looked for in the bucket.
-fn propose<V>(chunks: &[Chunk<V>], hint: Hint, network: &IpNet) -> Place
-    requires table { IsTable (ip_networks (all_of chunks.now)) }
-    requires filled { AreFilled chunks.now }
-{
-    let chunk = hint.chunk;
-    let end = Place {
-        chunk,
-        index: hint.bucket.end,
-    };
-    if hint.bucket.start >= hint.bucket.end {
-        return end;
-    }
-    if chunk >= chunks.len() {
-        return end;
-    }
-    let routes = chunks[chunk].as_slice();
-    let place = place_after(routes, hint.bucket, network);
-    Place {
-        chunk,
-        index: place,
-    }
-}
-
 /// Whether the place lies between two routes of its chunk, the first of which is this network or comes before it, and
 /// the second comes after it.
 fn is_between<V>(chunks: &[Chunk<V>], place: Place, network: &IpNet) -> bool
@@ -178,7 +154,10 @@ pub(crate) fn place_after_all<V>(chunks: &[Chunk<V>], hint: Hint, network: &IpNe
     ensures place { IsPlaceAfter (ip_networks (all_of chunks.now)) (ip_network network.now)
         (position_of chunks.now result.chunk result.index) }
 {
-    let place = propose(chunks, hint, network);
+    let place = Place {
+        chunk: hint.chunk,
+        index: hint.bucket.end,
+    };
     if is_between(chunks, place, network) {
         return place;
     }
