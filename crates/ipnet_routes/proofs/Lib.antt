@@ -12,6 +12,7 @@ pub mod ChunkLaws
 pub mod RouteMapLaws
 pub mod RouteMapChanges
 pub mod ClimbLaws
+pub mod KnownLengthLaws
 pub mod RouteMapParts
 pub mod RouteMapMatches
 pub mod BucketLaws
