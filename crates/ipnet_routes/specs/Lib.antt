@@ -10,4 +10,3 @@ pub mod RouteMapSteps
 pub mod RouteMapsOf
 pub mod RouteMapsLeft
 pub mod TableImages
-pub mod ByteTableImages

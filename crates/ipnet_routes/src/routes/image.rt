@@ -13,7 +13,6 @@ ghost use Rattle.ipnet_routes.specs.TableImages.{HasTableHeader, IsStoredRoute, 
 ghost use Rattle.ipnet_routes.specs.TableImages.{IsTableRefusal};
 
 pub(crate) mod buckets;
-pub mod byte_table;
 mod restored;
 pub(crate) mod rows;
 pub(crate) mod stored_table;
