@@ -20,3 +20,4 @@ pub mod TableImageLaws
 pub mod TableCheckLaws
 pub mod TableOnceLaws
 pub mod TableRestoredLaws
+pub mod TableValueLaws

@@ -221,7 +221,7 @@ pub record HasOtherValues (old values new : List ℕ) : Type 0 where
 -- The byte at which the value of the route at an index begins, if the first `m` routes are IPv4 routes.
 -- Example: with one IPv4 route, the values begin at 40, 68, 100.
 unfoldable pub value_place : ℕ → ℕ → ℕ
-value_place m i = if nat_le (i + 1) m then 40 + i * 16 else 52 + m * 16 + (i - m) * 32
+value_place m i = if nat_le m i then 52 + m * 16 + (i - m) * 32 else 40 + i * 16
 
 -- The number is written into four bytes from byte `at` on, and the other bytes are the old ones.
 pub record IsNumberWritten (at number : ℕ) (old new : List ℕ) : Type 0 where
