@@ -228,7 +228,7 @@ static void rows(const uint8_t *table, size_t len)
            && ipnet_table_values(table, 31, 9, &value, 1) == IPNET_NOT_A_TABLE, "no header, no rows");
 }
 
-/* Other values: the image is that of the same networks with them. */
+/* Other values: the result is the image of the same networks with these values. */
 static void other_values(const uint8_t *table, size_t len)
 {
     static const uint32_t values[] = {70, 0x01020304, 0, 0xffffffff, 80, 9};

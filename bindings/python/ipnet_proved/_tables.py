@@ -223,7 +223,7 @@ def values_of(image: bytes, count: int) -> "array.array[int]":
 
 
 def routes_of(image: bytes, count: int) -> Iterator[Tuple[Network, int]]:
-    """The routes of an image, which has `count`. Those of IPv4 are first."""
+    """The routes of an image, which has `count`. IPv4 routes are first."""
     families, octets, lengths = bytearray(count), bytearray(WIDTH * count), bytearray(count)
     checked(_networks(image, len(image), 0, lent(families, 0, count), count, lent(octets, 0, WIDTH * count),
                       WIDTH * count, lent(lengths, 0, count), count))

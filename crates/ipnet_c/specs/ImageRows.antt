@@ -1,4 +1,4 @@
--- What an image holds, as rows: the ranges of a set, and the networks and the values of a table. The status of each
+-- The content of an image as rows: the ranges of a set, and the networks and the values of a table. The status of each
 -- call, and what it leaves in the caller's memory.
 use Rattle.std.specs.Prelude.{◌≡◌, ◌≢◌, ℕ, ◌+◌, ◌*◌, ◌<◌, ◌≤◌, ◌↔◌, ◌⊎◌, List, length, slice_index, Contains}
 use Rattle.std.specs.Prelude.{Option, Some, None, IfSome, IsNone, option_map}

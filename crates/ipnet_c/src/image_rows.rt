@@ -1,4 +1,4 @@
-//! What images hold, as rows: the ranges of a set, and the networks and the values of a table.
+//! The content of images as rows: the ranges of a set, and the networks and the values of a table.
 ghost use Rattle.std.specs.Prelude.{◌≡◌, ◌≢◌, ℕ, ◌+◌, ◌*◌, ◌<◌, ◌≤◌, ◌↔◌, All, IsTrue, length, option_map, slice_index};
 ghost use Rattle.ipnet_base.specs.Address.{ip_address};
 ghost use Rattle.ipnet_base.specs.RangeOf.{ip_range};

@@ -217,8 +217,12 @@ module _ (old values new : List ℕ) (w : AreValuesWritten (stated_routes old IP
       → number_from 4 new (index_place new + bucket * 4) ≡ number_from 4 old (index_place old + bucket * 4)
   entry_same bucket = ap (λ i. number_from 4 new (i + bucket * 4)) index_same
       ∙ number_same 4 new old (index_place old + bucket * 4)
-      (λ k from to. w.others k (λ i l. inr (omega (arith, from, value_within m i (route_count old)
-      (omega (arith, l, as_many))))))
+      (λ k from to. w.others k (λ i l. inr (omega (
+        arith,
+        from,
+        value_within m i (route_count old)
+            (omega (arith, l, as_many)),
+      ))))
 
   module _ (t : List (Route ℕ)) (h : IsTableImageOf old t) where
     held : AreRoutesIn old (route_count old) t
@@ -248,10 +252,10 @@ module _ (old values new : List ℕ) (w : AreValuesWritten (stated_routes old IP
         let here : i < length networks = omega (arith, inside, as_many, all) in
         let both = sym c.2 ∙ get_or-zip networks values i r here (omega (arith, here, all)) in
         let first : r.0 ≡ s.0.0 =
-            ap (λ (z : Route ℕ). z.0) both ∙ at_place networks i r.0 s.0.0 here
-            ∙ ap (λ k. get_or networks k s.0.0) (sym s.1.at_is) ∙ s.1.at.2 in
+        ap (λ (z : Route ℕ). z.0) both ∙ at_place networks i r.0 s.0.0 here
+        ∙ ap (λ k. get_or networks k s.0.0) (sym s.1.at_is) ∙ s.1.at.2 in
         let second : r.1 ≡ get_or values i 0 =
-            ap (λ (z : Route ℕ). z.1) both ∙ at_place values i r.1 0 (omega (arith, here, all)) in
+        ap (λ (z : Route ℕ). z.1) both ∙ at_place values i r.1 0 (omega (arith, here, all)) in
         record {
           link = s.1.linked.link;
           stored = subst₂ (λ n v. IsRouteAt new i n v s.1.linked.link) (sym first) (sym second)

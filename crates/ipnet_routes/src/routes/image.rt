@@ -140,8 +140,8 @@ impl<'a> RouteTableImage<'a> {
         self.len() == 0
     }
 
-    /// Returns the route with this index, in the order of `RouteTable::routes`; `None` if there is none, or if its bytes
-    /// are not a route. Allocates nothing.
+    /// Returns the route with this index, in the order of `RouteTable::routes`; `None` if the index is too high, or if
+    /// the bytes there are not a route. Allocates nothing.
     ///
     /// ```text
     /// of the image of 10.0.0.0/8 with 1 and 10.1.0.0/16 with 2: 10.1.0.0/16 with 2 at 1, and None at 2
@@ -158,12 +158,12 @@ impl<'a> RouteTableImage<'a> {
         if index >= self.table.len() {
             return None;
         }
-        let route = self.table.route(index)?;
-        Some((route.network, route.value))
+        let stored = self.table.route(index)?;
+        Some((stored.network, stored.value))
     }
 
-    /// Writes the image of the table with the same networks and these values, in the order of `RouteTable::routes`, into
-    /// `copy`. There are as many values as routes, and `copy` is as long as the image. Allocates nothing.
+    /// Writes the image of the table with the same networks and these values into `copy`. There is one value for each
+    /// route, in the order of `RouteTable::routes`, and `copy` is as long as the image. Allocates nothing.
     ///
     /// ```text
     /// of the image of 10.0.0.0/8 with 1 and 10.1.0.0/16 with 2, and 7, 8: the image of 10.0.0.0/8 with 7 and
