@@ -14,49 +14,21 @@ ghost use Rattle.ipnet_routes.specs.RouteMapSteps.{all_of, AreFilled};
 
 use crate::routes::{RouteTable, is_same};
 use chunks::Chunk;
+use covering::covering_in;
 use index::ChunkIndex;
 use ipnet::{IpAddr, IpNet};
-use ipnet_sets::common_supernet;
 use matches::MapMatches;
 use routes::MapRoutes;
 use std::alloc::{AllocError, Global};
 
 mod changes;
 mod chunks;
+mod covering;
 mod index;
 pub mod laws;
 pub mod matches;
 pub mod routes;
 mod values;
-
-/// The route of the longest network in the chunks that contains the network's whole block.
-fn covering_in<'a, V>(
-    chunks: &'a [Chunk<V>],
-    index: &ChunkIndex,
-    network: &IpNet,
-) -> Option<&'a (IpNet, V)>
-    requires table { IsTable (ip_networks (all_of chunks.now)) }
-    requires filled { AreFilled chunks.now }
-    ensures none { IsNone result ↔ ((k : Network) → Contains (networks_of (ip_routes (all_of chunks.now))) k
-        → ¬ (IsSubnetOf (ip_network network.now) k)) }
-    ensures some { IfSome result (λ route. IsLongestHolder (ip_routes (all_of chunks.now)) (ip_network network.now)
-        (ip_network route.now.0, route.now.1)) }
-{
-    let mut wanted = network.trunc();
-    loop {
-        let bucket = index.bucket(&wanted, chunks.len());
-        let Some(route) = chunks::last_up_to(chunks, bucket, &wanted) else {
-            return None;
-        };
-        if route.0.contains(network) {
-            return Some(route);
-        }
-        let Some(common) = common_supernet(&wanted, &route.0) else {
-            return None;
-        };
-        wanted = common;
-    }
-}
 
 /// A table of routes that can be changed: networks of both families, each once, with a value each.
 ///

@@ -5,7 +5,7 @@ ghost use Rattle.ipnet_routes.specs.RouteSteps.{IsTable};
 ghost use Rattle.ipnet_routes.specs.RouteMapSteps.{all_of, AreFilled};
 
 use super::chunks::Chunk;
-use super::covering_in;
+use super::covering::covering_in;
 use super::index::ChunkIndex;
 use ipnet::IpNet;
 use std::iter::FusedIterator;

@@ -6,7 +6,7 @@ use Rattle.ipnet_routes.specs.Routes.{ip_networks}
 use Rattle.ipnet_routes.specs.RouteMapSteps.{all_of}
 use Rattle.ipnet_routes.proofs.RouteLaws.{network_of_route, same_networks}
 use Rattle.ipnet_routes.proofs.ClimbLaws.{climb_start, climb_none, climb_found, climb_apart, climb_on, climb_shorter}
-use Rattle.ipnet_routes.proofs.route_map.covering_in.Goals as goal
+use Rattle.ipnet_routes.proofs.route_map.covering.covering_in.Goals as goal
 
 pub loop-route-init : goal.loop-route-init
 loop-route-init g c =
