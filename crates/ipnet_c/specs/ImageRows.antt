@@ -2,8 +2,9 @@
 -- call, and what it leaves in the caller's memory.
 use Rattle.std.specs.Prelude.{◌≡◌, ◌≢◌, ℕ, ◌+◌, ◌*◌, ◌<◌, ◌≤◌, ◌↔◌, ◌⊎◌, List, length, slice_index, Contains}
 use Rattle.std.specs.Prelude.{Option, Some, None, IfSome, IsNone, option_map}
-use Rattle.ipnet.specs.Address.{Address, address_at}
+use Rattle.ipnet.specs.Address.{address_at}
 use Rattle.ipnet.specs.Network.{Network, IsNetwork}
+use Rattle.ipnet.specs.NetworkParts.{own_address}
 use Rattle.ipnet_base.specs.Ranges.{AddressRange}
 use Rattle.ipnet_sets.specs.declared.set.IpSet.{IpSet}
 use Rattle.ipnet_sets.specs.Images.{IsImage, IsImageOf}
@@ -58,10 +59,6 @@ pub record IsRangeRowsReply (set families octets new_families new_octets : List 
 
 -- ---- the networks of a table
 
--- The address of the network. Example: 10.0.0.0 of 10.0.0.0/8.
-abbrev pub address_of : Network → Address
-address_of n = address_at n.family n.number
-
 -- The prefix length of the network; 0 if there is none.
 abbrev pub length_of : Option Network → ℕ
 length_of (Some n) = n.prefix_len
@@ -72,7 +69,7 @@ length_of None = 0
 -- Example: of the image of 10.0.0.0/8 with 7, at index 0, the row of 10.0.0.0 and the prefix length 8.
 pub record IsNetworkRow (table : List ℕ) (i family : ℕ) (bytes : List ℕ) (prefix_len : ℕ) : Type 0 where
   pub network : Option Network
-  pub written : IsWrittenRowOf family bytes (option_map address_of network)
+  pub written : IsWrittenRowOf family bytes (option_map own_address network)
   pub len : prefix_len ≡ length_of network
   pub of_table : (t : List (Route ℕ)) → IsTableImageOf table t → (r : Route ℕ) (c : Contains t r) → c.0 ≡ i
       → network ≡ Some r.0

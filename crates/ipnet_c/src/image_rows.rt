@@ -1,12 +1,13 @@
 //! The content of images as rows: the ranges of a set, and the networks and the values of a table.
-ghost use Rattle.std.specs.Prelude.{◌≡◌, ◌≢◌, ℕ, ◌+◌, ◌*◌, ◌<◌, ◌≤◌, ◌↔◌, All, IsTrue, length, option_map, slice_index};
-ghost use Rattle.ipnet_base.specs.Address.{ip_address};
+ghost use Rattle.std.specs.Prelude.{◌≡◌, ◌≢◌, ℕ, ◌+◌, ◌*◌, ◌^◌, ◌<◌, ◌≤◌, ◌↔◌, IsTrue, length, option_map, slice_index};
+ghost use Rattle.ipnet_base.specs.Address.{width, ip_address};
 ghost use Rattle.ipnet_base.specs.RangeOf.{ip_range};
 ghost use Rattle.ipnet.specs.NetworkOf.{ip_network};
+ghost use Rattle.ipnet.specs.NetworkParts.{own_address};
 ghost use Rattle.ipnet_sets.specs.RangesLeft.{ranges_left};
 ghost use Rattle.ipnet_routes.specs.TableImages.{route_count};
 ghost use Rattle.ipnet_c.specs.Rows.{AreRows, row_bytes};
-ghost use Rattle.ipnet_c.specs.ImageRows.{AreEndsAt, AreRowsOfRanges, IsRangeRowsReply, address_of, length_of};
+ghost use Rattle.ipnet_c.specs.ImageRows.{AreEndsAt, AreRowsOfRanges, IsRangeRowsReply, length_of};
 ghost use Rattle.ipnet_c.specs.ImageRows.{network_rows, IsNetworksReply, IsValueOfRoute, IsValuesReply};
 ghost use Rattle.ipnet_c.specs.ImageRows.{IsOtherValuesReply};
 
@@ -23,6 +24,7 @@ fn write_ends(families: &mut [u8], octets: &mut [u8], index: usize, range: IpAdd
     requires within { index + 1 < length families.old }
     requires rows { AreRows families.old octets.old }
     requires some { let r = ip_range range in r.start ≤ r.end }
+    requires fits { let r = ip_range range in r.end < 2 ^ width r.family }
     ensures ends { AreEndsAt families.new octets.new index (ip_range range) }
     ensures as_many { length families.new ≡ length families.old }
     ensures as_long { length octets.new ≡ length octets.old }
@@ -39,7 +41,6 @@ fn write_ends(families: &mut [u8], octets: &mut [u8], index: usize, range: IpAdd
 fn write_ranges(ranges: IpSetRanges<'_>, families: &mut [u8], octets: &mut [u8])
     requires room { 2 * length (ranges_left ranges) ≤ length families.old }
     requires rows { AreRows families.old octets.old }
-    requires some { All (λ r. r.start ≤ r.end) (ranges_left ranges) }
     ensures { AreRowsOfRanges (ranges_left ranges) families.old octets.old families.new octets.new }
 {
     let mut index = 0;
@@ -101,7 +102,7 @@ fn has_routes(image: &RouteTableImage<'_>, start: usize, count: usize) -> bool
 
 /// Returns the address and the prefix length of the network of a route; no address and 0 if there is none.
 fn row_of(route: Option<(IpNet, u32)>) -> (Option<IpAddr>, u8)
-    ensures address { option_map ip_address result.0 ≡ option_map (λ r. address_of (ip_network r.0)) route }
+    ensures address { option_map ip_address result.0 ≡ option_map (λ r. own_address (ip_network r.0)) route }
     ensures len { result.1 ≡ length_of (option_map (λ r. ip_network r.0) route) }
 {
     match route {
