@@ -1,16 +1,29 @@
 -- Replies with the content of images as rows: ranges, networks and values.
-use Rattle.std.proofs.Common.{◌≡◌, ◌≢◌, ℕ, ◌+◌, ◌*◌, ◌^◌, ◌<◌, ◌≤◌, ◌⊎◌, ◌↔◌, List, [], ◌∷◌, ◌++◌, length, get_or}
-use Rattle.std.proofs.Common.{Contains, Option, Some, None, option_map, inl, inr, refl, sym, ap, subst, subst₂, ◌∙◌, arith}
-use Rattle.std.proofs.Common.{length-append, append_assoc, append-nil, slice_set}
+use Rattle.std.proofs.Common.{◌≡◌, ◌≢◌, ℕ, ◌+◌, ◌*◌, ◌^◌, ◌<◌, ◌≤◌, ◌⊎◌, ◌↔◌, true, false, List, [], ◌∷◌, ◌++◌}
+use Rattle.std.proofs.Common.{length, get_or, slice_set, Contains, Option, Some, None, IfSome, IsSomeAnd, option_map}
+use Rattle.std.proofs.Common.{inl, inr, refl, sym, ap, subst, subst₂, ◌∙◌, arith, length-append, append_assoc, append-nil}
 use Rattle.std.proofs.lemmas.Bool.{cases_lt}
 use Rattle.std.proofs.lemmas.Grind.{get_or-set_at}
 use Rattle.std.proofs.lemmas.List.{length-set, get_or-set_other, get_or_push, get_or_append_left}
 use Rattle.std.specs.Option.{SomeIff}
 use Rattle.std.specs.declared.net.ip_addr.IpAddr.{IpAddr}
-use Rattle.ipnet_base.specs.Address.{Address, IsAddress, width, ip_address, address_at}
+use Rattle.ipnet_base.specs.Address.{Address, IsAddress, ip_address, address_at}
 use Rattle.ipnet_base.specs.Ranges.{AddressRange}
-use Rattle.ipnet_c.specs.Rows.{row_bytes, IsWrittenRow, written_family, written_octets}
-use Rattle.ipnet_c.specs.ImageRows.{AreEndsAt, AreRowsOfRanges}
+use Rattle.ipnet.specs.Network.{Network, IsNetwork}
+use Rattle.ipnet.specs.NetworkOf.{ip_network}
+use Rattle.ipnet.specs.NetworkParts.{own_address}
+use Rattle.ipnet.specs.NetLaws.{ip_valid}
+use Rattle.ipnet.specs.declared.net.IpNet.{IpNet}
+use Rattle.ipnet_sets.specs.Images.{IsImage}
+use Rattle.ipnet_routes.specs.Routes.{Route}
+use Rattle.ipnet_routes.specs.TableImages.{route_count, HasTableHeader, HasRouteAt, IsTableImageOf, HasOtherValues}
+use Rattle.ipnet_c.specs.Buffers.{IsWritten}
+use Rattle.ipnet_c.specs.Rows.{AreRows, row_bytes, IsWrittenRow, written_family, written_octets}
+use Rattle.ipnet_c.specs.ImageRows.{AreEndsAt, AreRowsOfRanges, IsRowCount, IsRangeRowsReply, length_of, IsNetworkRow}
+use Rattle.ipnet_c.specs.ImageRows.{NetworkRows, network_rows, AreRowsOfRoutes, IsNetworksReply, IsValueOfRoute}
+use Rattle.ipnet_c.specs.ImageRows.{IsValuesReply, IsOtherValuesReply}
+use Rattle.ipnet_c.proofs.StatusLaws.{differ}
+use Rattle.ipnet_c.proofs.ColumnLaws.{AreRightTo}
 
 -- ---- the ends of a range
 
@@ -128,3 +141,181 @@ all_ranges all left index families octets new_families new_octets none h =
   where
     whole : all ≡ h.done
     whole = h.cut ∙ ap (λ z. h.done ++ z) none ∙ append-nil h.done
+
+-- ---- the network and the value of a route
+
+-- what an image has at an index
+pub record IsRouteFound (table : List ℕ) (i : ℕ) (route : Option (IpNet × ℕ)) : Type 0 where
+  pub of_table : (t : List (Route ℕ)) → IsTableImageOf table t → (r : Route ℕ) (c : Contains t r) → c.0 ≡ i
+      → IsSomeAnd route (λ z. let q : Route ℕ = (ip_network z.0, z.1) in q ≡ r)
+  pub stored : IfSome route (λ z. (i < route_count table) × HasRouteAt table i (ip_network z.0, z.1))
+  pub read : i < route_count table → (r : Route ℕ) → IsNetwork r.0 → HasRouteAt table i r
+      → IsSomeAnd route (λ z. let q : Route ℕ = (ip_network z.0, z.1) in q ≡ r)
+
+pub network_row : (table : List ℕ) (i : ℕ) (route : Option (IpNet × ℕ)) (row : Option IpAddr) (family : ℕ)
+    (bytes : List ℕ) (len : ℕ) → i < route_count table → IsRouteFound table i route
+    → option_map ip_address row ≡ option_map (λ (z : IpNet × ℕ). own_address (ip_network z.0)) route
+    → len ≡ length_of (option_map (λ (z : IpNet × ℕ). ip_network z.0) route)
+    → family ≡ written_family (option_map ip_address row) → bytes ≡ written_octets (option_map ip_address row)
+    → IsNetworkRow table i family bytes len
+network_row table i None row family bytes len within h address size shown octets = record {
+  network = None;
+  written = record {
+    address = tt;
+    family_is = shown ∙ ap written_family address;
+    bytes_are = octets ∙ ap written_octets address;
+  };
+  len = size;
+  of_table = λ t image r c e. absurd (h.of_table t image r c e);
+  stored = tt;
+  none = λ none r valid has. h.read within r valid has;
+}
+network_row table i (Some (n, value)) row family bytes len within h address size shown octets = record {
+  network = Some (ip_network n);
+  written = record {
+    address = (ip_valid n).address_fits;
+    family_is = shown ∙ ap written_family address;
+    bytes_are = octets ∙ ap written_octets address;
+  };
+  len = size;
+  of_table = λ t image r c e. ap (λ (q : Route ℕ). Some q.0) (h.of_table t image r c e);
+  stored = (value, h.stored.1);
+  none = λ none. let apart : true ≡ false = none in absurd (cc);
+}
+
+pub value_of_route : (table : List ℕ) (i : ℕ) (n : IpNet) (value : ℕ) → i < route_count table
+    → IsRouteFound table i (Some (n, value)) → IsValueOfRoute table i value
+value_of_route table i n value within h = record {
+  of_table = λ t image r c e. sym (ap (λ (q : Route ℕ). q.1) (sym (h.of_table t image r c e)));
+  stored = λ r valid has. ap (λ (q : Route ℕ). q.1) (h.read within r valid has);
+  none = λ none. absurd (none (ip_network n, value) (ip_valid n) h.stored.1);
+}
+
+pub value_of_none : (table : List ℕ) (i : ℕ) → i < route_count table → IsRouteFound table i None
+    → IsValueOfRoute table i 0
+value_of_none table i within h = record {
+  of_table = λ t image r c e. absurd (h.of_table t image r c e);
+  stored = λ r valid has. absurd (h.read within r valid has);
+  none = λ none. refl;
+}
+
+-- ---- the networks so far
+
+pub record AreNetworksTo (table : List ℕ) (start index : ℕ) (old new : NetworkRows) : Type 0 where
+  pub as_many : length new.families ≡ length old.families
+  pub as_long : length new.octets ≡ length old.octets
+  pub as_many_lengths : length new.lengths ≡ length old.lengths
+  pub done : (i : ℕ) → i < index
+      → IsNetworkRow table (start + i) (get_or new.families i 0) (row_bytes new.octets i) (get_or new.lengths i 0)
+
+pub no_networks : (table : List ℕ) (start : ℕ) (old : NetworkRows) → AreNetworksTo table start 0 old old
+no_networks table start old = record {
+  as_many = refl;
+  as_long = refl;
+  as_many_lengths = refl;
+  done = λ i less. absurd (omega (arith, less));
+}
+
+pub one_network : (table : List ℕ) (start index : ℕ) (old : NetworkRows) (families octets lengths new : List ℕ)
+    (family len : ℕ) → AreNetworksTo table start index old (network_rows families octets lengths)
+    → index < length families → index < length lengths → length new ≡ length octets
+    → ((i : ℕ) → i ≢ index → row_bytes new i ≡ row_bytes octets i)
+    → IsNetworkRow table (start + index) family (row_bytes new index) len
+    → AreNetworksTo table start (index + 1) old
+    (network_rows (slice_set families index family) new (slice_set lengths index len))
+one_network table start index old families octets lengths new family len h within within_lengths long others here =
+    record {
+      as_many = length-set families index family ∙ h.as_many;
+      as_long = long ∙ h.as_long;
+      as_many_lengths = length-set lengths index len ∙ h.as_many_lengths;
+      done = λ i less. elim (cases_lt i index) [
+        | inl before ↦
+            let apart : i ≢ index = λ same. omega (arith, same, before) in
+            subst (λ z. IsNetworkRow table (start + i) z (row_bytes new i) (get_or (slice_set lengths index len) i 0))
+            (sym (get_or-set_other families index i family 0 apart))
+            (subst₂ (λ y z. IsNetworkRow table (start + i) (get_or families i 0) y z) (sym (others i apart))
+            (sym (get_or-set_other lengths index i len 0 apart)) (h.done i before))
+        | inr not ↦
+            let same : index ≡ i = omega (arith, less, not) in
+            subst (λ k. IsNetworkRow table (start + k) (get_or (slice_set families index family) k 0) (row_bytes new k)
+            (get_or (slice_set lengths index len) k 0)) same
+            (subst₂ (λ y z. IsNetworkRow table (start + index) y (row_bytes new index) z)
+            (sym (get_or-set_at families index index family 0 refl within))
+            (sym (get_or-set_at lengths index index len 0 refl within_lengths)) here)
+      ];
+    }
+
+pub all_networks : (table : List ℕ) (start index : ℕ) (old new : NetworkRows) → HasTableHeader table
+    → AreRowsOfRoutes table start old → AreNetworksTo table start index old new → length old.families ≤ index
+    → IsNetworksReply table start old new 0
+all_networks table start index old new header fit h all = record {
+  known = inl refl;
+  ok = λ e i less. h.done i (omega (arith, less, all));
+  as_many = h.as_many;
+  as_long = h.as_long;
+  as_many_lengths = h.as_many_lengths;
+  wrong_length = (λ e. absurd (differ 0 6 refl e), λ both. absurd (both.1 fit));
+  not_a_table = (λ e. absurd (differ 0 13 refl e), λ none. absurd (none header));
+  kept = λ not_ok. absurd (not_ok refl);
+}
+
+-- the values of all routes
+pub all_values : (table : List ℕ) (start index : ℕ) (old new : List ℕ) → HasTableHeader table
+    → start + length old ≤ route_count table
+    → AreRightTo (λ i value. IsValueOfRoute table (start + i) value) index old new → length old ≤ index
+    → IsValuesReply table start old new 0
+all_values table start index old new header fit h all = record {
+  known = inl refl;
+  ok = λ e i less. h.done i (omega (arith, less, all));
+  as_many = h.as_many;
+  wrong_length = (λ e. absurd (differ 0 6 refl e), λ both. absurd (both.1 fit));
+  not_a_table = (λ e. absurd (differ 0 13 refl e), λ none. absurd (none header));
+  kept = λ not_ok. absurd (not_ok refl);
+}
+
+-- ---- replies with ranges
+
+pub ranges_written : (set families octets new_families new_octets : List ℕ) (count_old count : ℕ)
+    → AreRows families octets → IsImage set → (made : IsRowCount set count)
+    → AreRowsOfRanges made.ranges families octets new_families new_octets
+    → IsRangeRowsReply set families octets new_families new_octets count_old count 0
+ranges_written set families octets new_families new_octets count_old count fit image made rows = record {
+  known = inl refl;
+  ok = λ e. (made, rows);
+  too_short = λ e. absurd (differ 0 4 refl e);
+  wrong_length = (λ e. absurd (differ 0 6 refl e), λ wrong. absurd (wrong fit));
+  not_a_set = (λ e. absurd (differ 0 11 refl e), λ both. absurd (both.1 image));
+  families_kept = λ not_ok. absurd (not_ok refl);
+  octets_kept = λ not_ok. absurd (not_ok refl);
+  count_kept = λ not_ok. absurd (not_ok refl);
+}
+
+pub ranges_short : (set families octets : List ℕ) (count_old count : ℕ) → AreRows families octets → IsImage set
+    → IsRowCount set count → length families < count
+    → IsRangeRowsReply set families octets families octets count_old count 4
+ranges_short set families octets count_old count fit image made less = record {
+  known = inr (inl refl);
+  ok = λ e. absurd (differ 4 0 refl e);
+  too_short = λ e. (made, less);
+  wrong_length = (λ e. absurd (differ 4 6 refl e), λ wrong. absurd (wrong fit));
+  not_a_set = (λ e. absurd (differ 4 11 refl e), λ both. absurd (both.1 image));
+  families_kept = λ e. refl;
+  octets_kept = λ e. refl;
+  count_kept = λ not_ok not_short. absurd (not_short refl);
+}
+
+-- ---- replies with other values
+
+pub values_replaced : (table values image old new : List ℕ) (count_old count : ℕ) → HasTableHeader table
+    → length values ≡ route_count table → length table ≤ length old → HasOtherValues table values image
+    → IsWritten image old new count → IsOtherValuesReply table values old new count_old count 0
+values_replaced table values image old new count_old count header many room h written = record {
+  known = inl refl;
+  ok = λ e. (image, h, written);
+  too_short = (λ e. absurd (differ 0 4 refl e), λ all. absurd (omega (arith, all.2, room)));
+  wrong_length = (λ e. absurd (differ 0 6 refl e), λ both. absurd (both.1 many));
+  not_a_table = (λ e. absurd (differ 0 13 refl e), λ none. absurd (none header));
+  needed = λ e. absurd (differ 0 4 refl e);
+  buffer_kept = λ not_ok. absurd (not_ok refl);
+  count_kept = λ not_ok. absurd (not_ok refl);
+}
