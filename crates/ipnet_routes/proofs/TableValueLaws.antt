@@ -12,7 +12,7 @@ use Rattle.ipnet_base.specs.Address.{Family, IPv4, IPv6}
 use Rattle.ipnet_base.specs.Blocks.{IsAscending}
 use Rattle.ipnet_base.specs.Network.{Network, IsNetwork, IsTruncated}
 use Rattle.ipnet_base.proofs.ListLaws.{at_place}
-use Rattle.ipnet_sets.specs.Images.{number_from}
+use Rattle.ipnet_sets.specs.Images.{number_from, IsAppended}
 use Rattle.ipnet_sets.proofs.ImageLaws.{number_front, number_later, appended_four}
 use Rattle.ipnet_routes.specs.Routes.{Route, networks_of}
 use Rattle.ipnet_routes.specs.RouteSteps.{IsPlaceOf, IsNearest}
@@ -45,7 +45,8 @@ number_put bytes part at number within fits e = record {
       ∙ number_later 4 (take at bytes) (part ++ post_of at (at + 4 - at) bytes) at 0
       (length-take-le at bytes (omega (arith, within)))
       ∙ number_front 4 part (post_of at (at + 4 - at) bytes) 0 (omega (arith, four))
-      ∙ (appended_four number [] part part fits e refl).number_is;
+      ∙ ap (λ z. number_from 4 z 0) stored.bytes_are
+      ∙ stored.number_is;
   others = λ k out. elim out [
     | inl before ↦ sym (get_or-take at new k 0 before)
         ∙ ap (λ z. get_or z k 0)
@@ -65,6 +66,9 @@ number_put bytes part at number within fits e = record {
 
     four : length part ≡ 4
     four = ap length e
+
+    stored : IsAppended 4 number [] part
+    stored = appended_four number [] part part fits e refl
 
     here : at ≡ at + 0
     here = omega arith
@@ -149,7 +153,7 @@ written_more m count values old now new h one = record {
 
 module _ (old values new : List ℕ) (w : AreValuesWritten (stated_routes old IPv4) (length values) values old new)
     (as_many : length values ≡ route_count old) where
-  m : ℕ
+  abbrev m : ℕ
   m = stated_routes old IPv4
 
   head_same : (at : ℕ) → at + 8 ≤ 32 → number_from 8 new at ≡ number_from 8 old at
@@ -228,10 +232,10 @@ module _ (old values new : List ℕ) (w : AreValuesWritten (stated_routes old IP
     held : AreRoutesIn old (route_count old) t
     held = h.table.held
 
-    networks : List Network
+    abbrev networks : List Network
     networks = networks_of t
 
-    routes : List (Route ℕ)
+    abbrev routes : List (Route ℕ)
     routes = zip networks values
 
     all : length values ≡ length networks
