@@ -7,7 +7,7 @@ use Rattle.std.proofs.lemmas.Grind.{get_or-set_at}
 use Rattle.std.proofs.lemmas.List.{length-set, get_or-set_other, get_or_push, get_or_append_left}
 use Rattle.std.specs.Option.{SomeIff}
 use Rattle.std.specs.declared.net.ip_addr.IpAddr.{IpAddr}
-use Rattle.ipnet_base.specs.Address.{Address, IsAddress, ip_address, address_at}
+use Rattle.ipnet_base.specs.Address.{Address, IsAddress, width, ip_address, address_at}
 use Rattle.ipnet_base.specs.Ranges.{AddressRange}
 use Rattle.ipnet.specs.Network.{Network, IsNetwork}
 use Rattle.ipnet.specs.NetworkOf.{ip_network}
@@ -52,6 +52,29 @@ row_kept families octets new_families new_octets i row family bytes h = record {
   family_is = family ∙ h.family_is;
   bytes_are = bytes ∙ h.bytes_are;
 }
+
+-- the first row is of the first address, and the next row of the last address
+pub ends_written : (now_families now_octets new_families new_octets : List ℕ) (index : ℕ) (r : AddressRange)
+    (first last : Option IpAddr) → r.start ≤ r.end → r.end < 2 ^ width r.family
+    → SomeIff (option_map ip_address first) (r.start ≤ r.end) (address_at r.family r.start)
+    → SomeIff (option_map ip_address last) (r.start ≤ r.end) (address_at r.family r.end)
+    → get_or now_families index 0 ≡ written_family (option_map ip_address first)
+    → row_bytes now_octets index ≡ written_octets (option_map ip_address first)
+    → get_or new_families (index + 1) 0 ≡ written_family (option_map ip_address last)
+    → row_bytes new_octets (index + 1) ≡ written_octets (option_map ip_address last)
+    → get_or new_families index 0 ≡ get_or now_families index 0 → row_bytes new_octets index ≡ row_bytes now_octets index
+    → AreEndsAt new_families new_octets index r
+ends_written now_families now_octets new_families new_octets index r first last some fits least greatest family bytes
+    last_family last_bytes same same_bytes = record {
+      first = row_kept now_families now_octets new_families new_octets index (Some (address_at r.family r.start)) same
+          same_bytes
+          (row_written now_families now_octets index first (address_at r.family r.start)
+          (made_of (option_map ip_address first) (r.start ≤ r.end) (address_at r.family r.start) some least)
+          (omega (arith, some, fits)) family bytes);
+      last = row_written new_families new_octets (index + 1) last (address_at r.family r.end)
+          (made_of (option_map ip_address last) (r.start ≤ r.end) (address_at r.family r.end) some greatest) fits
+          last_family last_bytes;
+    }
 
 -- ---- the ranges so far
 
@@ -183,12 +206,12 @@ network_row table i (Some (n, value)) row family bytes len within h address size
   none = λ none. let apart : true ≡ false = none in absurd (cc);
 }
 
-pub value_of_route : (table : List ℕ) (i : ℕ) (n : IpNet) (value : ℕ) → i < route_count table
-    → IsRouteFound table i (Some (n, value)) → IsValueOfRoute table i value
-value_of_route table i n value within h = record {
-  of_table = λ t image r c e. sym (ap (λ (q : Route ℕ). q.1) (sym (h.of_table t image r c e)));
+pub value_of_route : (table : List ℕ) (i : ℕ) (route : IpNet × ℕ) → i < route_count table
+    → IsRouteFound table i (Some route) → IsValueOfRoute table i route.1
+value_of_route table i route within h = record {
+  of_table = λ t image r c e. ap (λ (q : Route ℕ). q.1) (h.of_table t image r c e);
   stored = λ r valid has. ap (λ (q : Route ℕ). q.1) (h.read within r valid has);
-  none = λ none. absurd (none (ip_network n, value) (ip_valid n) h.stored.1);
+  none = λ none. absurd (none (ip_network route.0, route.1) (ip_valid route.0) h.stored.1);
 }
 
 pub value_of_none : (table : List ℕ) (i : ℕ) → i < route_count table → IsRouteFound table i None

@@ -140,8 +140,10 @@ pub extern "C" fn ipnet_table_networks(
     let Ok(image) = RouteTableImage::from_header(table) else {
         return NOT_A_TABLE;
     };
-    let has_room = are_rows(families.len(), octets.len()) && lengths.len() == families.len();
-    if !has_room || !has_routes(&image, start, families.len()) {
+    if !are_rows(families.len(), octets.len()) || lengths.len() != families.len() {
+        return WRONG_LENGTH;
+    }
+    if !has_routes(&image, start, families.len()) {
         return WRONG_LENGTH;
     }
     for index in 0..families.len() {
