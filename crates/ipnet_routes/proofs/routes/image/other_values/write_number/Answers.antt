@@ -1,4 +1,4 @@
-use Rattle.std.proofs.Common.{sym, ◌∙◌}
+use Rattle.std.proofs.Common.{◌∙◌}
 use Rattle.ipnet_routes.proofs.TableValueLaws.{number_put}
 use Rattle.ipnet_routes.proofs.routes.image.other_values.write_number.Goals as goal
 

@@ -1,5 +1,5 @@
 -- Each turn writes one value more.
-use Rattle.std.proofs.Common.{get_or, subst, arith}
+use Rattle.std.proofs.Common.{get_or, subst}
 use Rattle.ipnet_routes.specs.TableImages.{IsNumberWritten}
 use Rattle.ipnet_routes.proofs.TableValueLaws.{written_more}
 use Rattle.ipnet_routes.proofs.routes.image.other_values.write_values.Goals as goal
