@@ -19,7 +19,7 @@ use Rattle.ipnet_routes.specs.Routes.{Route}
 use Rattle.ipnet_routes.specs.TableImages.{route_count, HasTableHeader, HasRouteAt, IsTableImageOf, HasOtherValues}
 use Rattle.ipnet_c.specs.Buffers.{IsWritten}
 use Rattle.ipnet_c.specs.Rows.{AreRows, row_bytes, IsWrittenRow, written_family, written_octets}
-use Rattle.ipnet_c.specs.ImageRows.{AreEndsAt, AreRowsOfRanges, IsRowCount, IsRangeRowsReply, length_of, IsNetworkRow}
+use Rattle.ipnet_c.specs.ImageRows.{AreEndsAt, AreRowsOfRanges, IsRangeCount, IsRangeRowsReply, length_of, IsNetworkRow}
 use Rattle.ipnet_c.specs.ImageRows.{NetworkRows, network_rows, AreRowsOfRoutes, IsNetworksReply, IsValueOfRoute}
 use Rattle.ipnet_c.specs.ImageRows.{IsValuesReply, IsOtherValuesReply}
 use Rattle.ipnet_c.proofs.StatusLaws.{differ}
@@ -89,18 +89,6 @@ pub record AreRangesTo (all left : List AddressRange) (index : ℕ) (families oc
   pub rows : (r : AddressRange) (c : Contains done r) → AreEndsAt new_families new_octets (2 * c.0) r
   pub others : (i : ℕ) → index ≤ i
       → (get_or new_families i 0 ≡ get_or families i 0) × (row_bytes new_octets i ≡ row_bytes octets i)
-
-pub no_ranges : (all : List AddressRange) (families octets : List ℕ)
-    → AreRangesTo all all 0 families octets families octets
-no_ranges all families octets = record {
-  done = [];
-  cut = refl;
-  index_is = refl;
-  as_many = refl;
-  as_long = refl;
-  rows = λ r c. absurd (omega (arith, c.1));
-  others = λ i le. (refl, refl);
-}
 
 -- one range more
 pub one_range : (all old left : List AddressRange) (r : AddressRange) (index : ℕ)
@@ -231,14 +219,6 @@ pub record AreNetworksTo (table : List ℕ) (start index : ℕ) (old new : Netwo
   pub done : (i : ℕ) → i < index
       → IsNetworkRow table (start + i) (get_or new.families i 0) (row_bytes new.octets i) (get_or new.lengths i 0)
 
-pub no_networks : (table : List ℕ) (start : ℕ) (old : NetworkRows) → AreNetworksTo table start 0 old old
-no_networks table start old = record {
-  as_many = refl;
-  as_long = refl;
-  as_many_lengths = refl;
-  done = λ i less. absurd (omega (arith, less));
-}
-
 pub one_network : (table : List ℕ) (start index : ℕ) (old : NetworkRows) (families octets lengths new : List ℕ)
     (family len : ℕ) → AreNetworksTo table start index old (network_rows families octets lengths)
     → index < length families → index < length lengths → length new ≡ length octets
@@ -299,7 +279,7 @@ all_values table start index old new header fit h all = record {
 -- ---- replies with ranges
 
 pub ranges_written : (set families octets new_families new_octets : List ℕ) (count_old count : ℕ)
-    → AreRows families octets → IsImage set → (made : IsRowCount set count)
+    → AreRows families octets → IsImage set → (made : IsRangeCount set count)
     → AreRowsOfRanges made.ranges families octets new_families new_octets
     → IsRangeRowsReply set families octets new_families new_octets count_old count 0
 ranges_written set families octets new_families new_octets count_old count fit image made rows = record {
@@ -314,7 +294,7 @@ ranges_written set families octets new_families new_octets count_old count fit i
 }
 
 pub ranges_short : (set families octets : List ℕ) (count_old count : ℕ) → AreRows families octets → IsImage set
-    → IsRowCount set count → length families < count
+    → IsRangeCount set count → length families < 2 * count
     → IsRangeRowsReply set families octets families octets count_old count 4
 ranges_short set families octets count_old count fit image made less = record {
   known = inr (inl refl);

@@ -33,24 +33,24 @@ pub record AreRowsOfRanges (ranges : List AddressRange) (families octets new_fam
   pub others : (i : ℕ) → 2 * length ranges ≤ i
       → (slice_index new_families i ≡ slice_index families i) × (row_bytes new_octets i ≡ row_bytes octets i)
 
--- The number is the number of rows that the fewest ranges of the set of the image need, two for each.
-pub record IsRowCount (set : List ℕ) (count : ℕ) : Type 0 where
+-- The number is the number of the fewest ranges of the set of the image.
+pub record IsRangeCount (set : List ℕ) (count : ℕ) : Type 0 where
   pub first : IpSet
   pub first_image : IsImageOf set first
   pub ranges : List AddressRange
   pub fewest : AreRangesOf (IsMember first) ranges
-  pub counted : count ≡ 2 * length ranges
+  pub counted : count ≡ length ranges
 
--- The fewest ranges of a set as rows. `count` is the number of rows that are written or needed.
+-- The fewest ranges of a set as rows. `count` is the number of the ranges.
 -- Example: the image of 10.0.0.0/30 and 10.0.0.4/31 with two rows or more gives `ok`, the rows of 10.0.0.0 and
--- 10.0.0.5, and 2; with one row it gives `buffer_too_short` and 2.
+-- 10.0.0.5, and 1; with one row it gives `buffer_too_short` and 1.
 pub record IsRangeRowsReply (set families octets new_families new_octets : List ℕ) (count_old count status : ℕ) : Type
     0 where
   pub known : (status ≡ statuses.ok) ⊎ ((status ≡ statuses.buffer_too_short) ⊎ ((status ≡ statuses.wrong_length)
       ⊎ ((status ≡ statuses.not_a_set) ⊎ (status ≡ statuses.out_of_memory))))
-  pub ok : status ≡ statuses.ok → (made : IsRowCount set count)
+  pub ok : status ≡ statuses.ok → (made : IsRangeCount set count)
       × AreRowsOfRanges made.ranges families octets new_families new_octets
-  pub too_short : status ≡ statuses.buffer_too_short → IsRowCount set count × (length families < count)
+  pub too_short : status ≡ statuses.buffer_too_short → IsRangeCount set count × (length families < 2 * count)
   pub wrong_length : (status ≡ statuses.wrong_length) ↔ ¬ (AreRows families octets)
   pub not_a_set : (status ≡ statuses.not_a_set) ↔ (AreRows families octets × ¬ (IsImage set))
   pub families_kept : status ≢ statuses.ok → new_families ≡ families

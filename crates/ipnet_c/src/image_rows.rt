@@ -41,7 +41,7 @@ fn write_ends(families: &mut [u8], octets: &mut [u8], index: usize, range: IpAdd
 fn write_ranges(ranges: IpSetRanges<'_>, families: &mut [u8], octets: &mut [u8])
     requires room { 2 * length (ranges_left ranges) ≤ length families.old }
     requires rows { AreRows families.old octets.old }
-    ensures { AreRowsOfRanges (ranges_left ranges) families.old octets.old families.new octets.new }
+    ensures { AreRowsOfRanges (ranges_left ranges.entry) families.old octets.old families.new octets.new }
 {
     let mut index = 0;
     for range in ranges {
@@ -51,18 +51,18 @@ fn write_ranges(ranges: IpSetRanges<'_>, families: &mut [u8], octets: &mut [u8])
 }
 
 /// Writes the fewest ranges of the set, given by its image, as rows: for each range the row of its first address, and
-/// then the row of its last address. Writes the number of these rows into `count`.
+/// then the row of its last address. Writes the number of ranges into `count`.
 ///
 /// The rows have the form of `ipnet_rows_from_lines`. The ranges ascend, IPv4 first, and no two of them overlap or
 /// touch. If there are more rows, the others keep their bytes.
 ///
 /// Returns 0; 6 if there are not 16 octets for each family; 11 if the bytes are not the image of a set; 3 if memory
-/// runs out; 4 if there are too few rows, with the number needed in `count`. `families` and `octets` change only at 0,
-/// `count` only at 0 and 4.
+/// runs out; 4 if there are fewer than two rows for each range. `families` and `octets` change only at 0, `count` only
+/// at 0 and 4.
 ///
 /// ```text
-/// the image of 10.0.0.0/30 and 10.0.0.4/31, and 2 rows    0, the rows of 10.0.0.0 and 10.0.0.5, and the number 2
-/// the same image, and 1 row                               4, and the number 2
+/// the image of 10.0.0.0/30 and 10.0.0.4/31, and 2 rows    0, the rows of 10.0.0.0 and 10.0.0.5, and the number 1
+/// the same image, and 1 row                               4, and the number 1
 /// ```
 #[unsafe(no_mangle)]
 pub extern "C" fn ipnet_set_range_rows(
@@ -84,8 +84,8 @@ pub extern "C" fn ipnet_set_range_rows(
         return OUT_OF_MEMORY;
     };
     let ranges = set.ranges();
-    *count = ranges.len() * 2;
-    if families.len() < *count {
+    *count = ranges.len();
+    if families.len() / 2 < *count {
         return BUFFER_TOO_SHORT;
     }
     write_ranges(ranges, families, octets);

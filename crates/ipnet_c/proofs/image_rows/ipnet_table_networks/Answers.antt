@@ -12,8 +12,8 @@ loop-index-preserved c =
     let table = c.in-Ok.image.table.bytes.now in
     let l = c.loop-index in
     let new = c.write_row.new.octets in
-    let row = c.row_of.result.0 in
-    let len = c.row_of.result.1 in
+    let row = c.row_of-address.result.0 in
+    let len = c.row_of-address.result.1 in
     let old = network_rows c.args.families.now c.args.octets.now c.args.lengths.now in
     let family = written_family (option_map ip_address row) in
     let within : c.args.start + l.index < route_count table =
@@ -26,5 +26,5 @@ loop-index-preserved c =
     (omega (arith, c.loop-index-test.true)) (omega (arith, c.loop-index-test.true)) c.write_row.ensures.as_many
     c.write_row.ensures.others
     (network_row table (c.args.start + l.index) c.route.result row family (row_bytes new l.index) len within
-    (record { of_table = found.table; stored = found.stored; read = found.read }) c.row_of.ensures.address
-    c.row_of.ensures.len refl c.write_row.ensures.written))
+    (record { of_table = found.table; stored = found.stored; read = found.read }) c.row_of-address.ensures.address
+    c.row_of-address.ensures.len refl c.write_row.ensures.written))

@@ -1,8 +1,14 @@
 -- Each turn writes the two rows of the first range that is left.
 use Rattle.ipnet_base.specs.RangeOf.{ip_range}
 use Rattle.ipnet_sets.specs.RangesLeft.{ranges_left}
+use Rattle.ipnet_sets.proofs.NetworkListLaws.{first_range_valid}
 use Rattle.ipnet_c.proofs.ImageRowReplies.{one_range, all_ranges}
 use Rattle.ipnet_c.proofs.image_rows.write_ranges.Goals as goal
+
+pub write_ends-requires-clause-some : goal.write_ends-requires-clause-some
+write_ends-requires-clause-some c =
+    (first_range_valid c.loop-range.range-iterator (ip_range c.in-Some.range) (ranges_left c.next.new.self)
+    c.in-Some.ensures.steps).0
 
 pub loop-range-preserved : goal.loop-range-preserved
 loop-range-preserved c =
