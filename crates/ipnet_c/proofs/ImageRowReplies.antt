@@ -1,7 +1,8 @@
 -- Replies with the content of images as rows: ranges, networks and values.
-use Rattle.std.proofs.Common.{◌≡◌, ◌≢◌, ℕ, ◌+◌, ◌*◌, ◌^◌, ◌<◌, ◌≤◌, ◌⊎◌, ◌↔◌, true, false, List, [], ◌∷◌, ◌++◌}
+use Rattle.std.proofs.Common.{◌≡◌, ◌≢◌, ℕ, ◌+◌, ◌*◌, ◌^◌, ◌<◌, ◌≤◌, true, false, List, [], ◌∷◌, ◌++◌}
 use Rattle.std.proofs.Common.{length, get_or, slice_set, Contains, Option, Some, None, IfSome, IsSomeAnd, option_map}
-use Rattle.std.proofs.Common.{inl, inr, refl, sym, ap, subst, subst₂, ◌∙◌, arith, length-append, append_assoc, append-nil}
+use Rattle.std.proofs.Common.{inl, inr, refl, sym, ap, subst, subst₂, ◌∙◌, arith, length-append, append_assoc}
+use Rattle.std.proofs.Common.{append-nil}
 use Rattle.std.proofs.lemmas.Bool.{cases_lt}
 use Rattle.std.proofs.lemmas.Grind.{get_or-set_at}
 use Rattle.std.proofs.lemmas.List.{length-set, get_or-set_other, get_or_push, get_or_append_left}
@@ -9,31 +10,30 @@ use Rattle.std.specs.Option.{SomeIff}
 use Rattle.std.specs.declared.net.ip_addr.IpAddr.{IpAddr}
 use Rattle.ipnet_base.specs.Address.{Address, IsAddress, width, ip_address, address_at}
 use Rattle.ipnet_base.specs.Ranges.{AddressRange}
-use Rattle.ipnet.specs.Network.{Network, IsNetwork}
+use Rattle.ipnet.specs.Network.{IsNetwork}
 use Rattle.ipnet.specs.NetworkOf.{ip_network}
 use Rattle.ipnet.specs.NetworkParts.{own_address}
 use Rattle.ipnet.specs.NetLaws.{ip_valid}
 use Rattle.ipnet.specs.declared.net.IpNet.{IpNet}
 use Rattle.ipnet_sets.specs.Images.{IsImage}
 use Rattle.ipnet_routes.specs.Routes.{Route}
-use Rattle.ipnet_routes.specs.TableImages.{route_count, HasTableHeader, HasRouteAt, IsTableImageOf, HasOtherValues}
-use Rattle.ipnet_c.specs.Buffers.{IsWritten}
+use Rattle.ipnet_routes.specs.TableImages.{route_count, HasTableHeader, HasRouteAt, IsTableImageOf}
 use Rattle.ipnet_c.specs.Rows.{AreRows, row_bytes, IsWrittenRow, written_family, written_octets}
 use Rattle.ipnet_c.specs.ImageRows.{AreEndsAt, AreRowsOfRanges, IsRangeCount, IsRangeRowsReply, length_of, IsNetworkRow}
 use Rattle.ipnet_c.specs.ImageRows.{NetworkRows, network_rows, AreRowsOfRoutes, IsNetworksReply, IsValueOfRoute}
-use Rattle.ipnet_c.specs.ImageRows.{IsValuesReply, IsOtherValuesReply}
+use Rattle.ipnet_c.specs.ImageRows.{IsValuesReply}
 use Rattle.ipnet_c.proofs.StatusLaws.{differ}
 use Rattle.ipnet_c.proofs.ColumnLaws.{AreRightTo}
 
 -- ---- the ends of a range
 
 -- the value that there is
-pub made_of : {X : Type 0} (o : Option X) (P : Type 0) (x : X) → P → SomeIff o P x → o ≡ Some x
+made_of : {X : Type 0} (o : Option X) (P : Type 0) (x : X) → P → SomeIff o P x → o ≡ Some x
 made_of None P x p h = absurd (h p)
 made_of (Some y) P x p h = ap (λ z. Some z) h.1
 
 -- a row of an address that was written
-pub row_written : (families octets : List ℕ) (i : ℕ) (row : Option IpAddr) (x : Address)
+row_written : (families octets : List ℕ) (i : ℕ) (row : Option IpAddr) (x : Address)
     → option_map ip_address row ≡ Some x → IsAddress x
     → get_or families i 0 ≡ written_family (option_map ip_address row)
     → row_bytes octets i ≡ written_octets (option_map ip_address row) → IsWrittenRow families octets i (Some x)
@@ -62,7 +62,8 @@ pub ends_written : (now_families now_octets new_families new_octets : List ℕ) 
     → row_bytes now_octets index ≡ written_octets (option_map ip_address first)
     → get_or new_families (index + 1) 0 ≡ written_family (option_map ip_address last)
     → row_bytes new_octets (index + 1) ≡ written_octets (option_map ip_address last)
-    → get_or new_families index 0 ≡ get_or now_families index 0 → row_bytes new_octets index ≡ row_bytes now_octets index
+    → get_or new_families index 0 ≡ get_or now_families index 0
+    → row_bytes new_octets index ≡ row_bytes now_octets index
     → AreEndsAt new_families new_octets index r
 ends_written now_families now_octets new_families new_octets index r first last some fits least greatest family bytes
     last_family last_bytes same same_bytes = record {
@@ -262,20 +263,6 @@ all_networks table start index old new header fit h all = record {
   kept = λ not_ok. absurd (not_ok refl);
 }
 
--- the values of all routes
-pub all_values : (table : List ℕ) (start index : ℕ) (old new : List ℕ) → HasTableHeader table
-    → start + length old ≤ route_count table
-    → AreRightTo (λ i value. IsValueOfRoute table (start + i) value) index old new → length old ≤ index
-    → IsValuesReply table start old new 0
-all_values table start index old new header fit h all = record {
-  known = inl refl;
-  ok = λ e i less. h.done i (omega (arith, less, all));
-  as_many = h.as_many;
-  wrong_length = (λ e. absurd (differ 0 6 refl e), λ both. absurd (both.1 fit));
-  not_a_table = (λ e. absurd (differ 0 13 refl e), λ none. absurd (none header));
-  kept = λ not_ok. absurd (not_ok refl);
-}
-
 -- ---- replies with ranges
 
 pub ranges_written : (set families octets new_families new_octets : List ℕ) (count_old count : ℕ)
@@ -305,20 +292,4 @@ ranges_short set families octets count_old count fit image made less = record {
   families_kept = λ e. refl;
   octets_kept = λ e. refl;
   count_kept = λ not_ok not_short. absurd (not_short refl);
-}
-
--- ---- replies with other values
-
-pub values_replaced : (table values image old new : List ℕ) (count_old count : ℕ) → HasTableHeader table
-    → length values ≡ route_count table → length table ≤ length old → HasOtherValues table values image
-    → IsWritten image old new count → IsOtherValuesReply table values old new count_old count 0
-values_replaced table values image old new count_old count header many room h written = record {
-  known = inl refl;
-  ok = λ e. (image, h, written);
-  too_short = (λ e. absurd (differ 0 4 refl e), λ all. absurd (omega (arith, all.2, room)));
-  wrong_length = (λ e. absurd (differ 0 6 refl e), λ both. absurd (both.1 many));
-  not_a_table = (λ e. absurd (differ 0 13 refl e), λ none. absurd (none header));
-  needed = λ e. absurd (differ 0 4 refl e);
-  buffer_kept = λ not_ok. absurd (not_ok refl);
-  count_kept = λ not_ok. absurd (not_ok refl);
 }

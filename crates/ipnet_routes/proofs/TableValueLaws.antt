@@ -1,6 +1,7 @@
 -- Values that are written over the values of an image: what is kept, and which table the bytes then hold.
 use Rattle.std.proofs.Common.{◌≡◌, ℕ, zero, suc, ◌+◌, ◌-◌, ◌*◌, ◌^◌, ◌<◌, ◌≤◌, ◌⊎◌, ◌↔◌, List, [], ◌++◌, length, get_or}
-use Rattle.std.proofs.Common.{take, drop, Contains, All, inl, inr, refl, sym, ap, ap₂, ◌∙◌, subst, subst₂, arith, le-leb}
+use Rattle.std.proofs.Common.{take, drop, Contains, All, inl, inr, refl, sym, ap, ap₂, ◌∙◌, subst, subst₂, arith}
+use Rattle.std.proofs.Common.{le-leb}
 use Rattle.std.proofs.lemmas.Bool.{cases_lt, cases_order, lt-leb}
 use Rattle.std.proofs.lemmas.List.{get_or-take, get_or-drop, length-map, length-take-le, length-drop}
 use Rattle.std.proofs.lemmas.Slice.{take-put_mid_below, drop-put_mid}

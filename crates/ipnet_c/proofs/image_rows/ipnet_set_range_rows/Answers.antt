@@ -1,5 +1,5 @@
 -- The rows are the ends of the ranges of the set of the image.
-use Rattle.std.proofs.Common.{◌≡◌, ◌*◌, length, subst, arith}
+use Rattle.std.proofs.Common.{subst, arith}
 use Rattle.ipnet_sets.specs.Images.{IsImage, IsImageOf}
 use Rattle.ipnet_sets.specs.RangesLeft.{ranges_left}
 use Rattle.ipnet_c.specs.ImageRows.{IsRangeCount}

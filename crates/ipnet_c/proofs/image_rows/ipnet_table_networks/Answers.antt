@@ -1,10 +1,10 @@
 -- Each turn writes the network of one route more.
-use Rattle.std.proofs.Common.{◌+◌, ◌<◌, length, option_map, refl, sym, subst, arith, slice_set}
+use Rattle.std.proofs.Common.{◌+◌, ◌<◌, option_map, refl, sym, subst, arith, slice_set}
 use Rattle.ipnet_base.specs.Address.{ip_address}
 use Rattle.ipnet_routes.specs.TableImages.{route_count}
 use Rattle.ipnet_c.specs.Rows.{row_bytes, written_family}
 use Rattle.ipnet_c.specs.ImageRows.{network_rows}
-use Rattle.ipnet_c.proofs.ImageRowReplies.{AreNetworksTo, network_row, one_network, all_networks}
+use Rattle.ipnet_c.proofs.ImageRowReplies.{AreNetworksTo, network_row, one_network}
 use Rattle.ipnet_c.proofs.image_rows.ipnet_table_networks.Goals as goal
 
 pub loop-index-preserved : goal.loop-index-preserved
@@ -17,8 +17,12 @@ loop-index-preserved c =
     let old = network_rows c.args.families.now c.args.octets.now c.args.lengths.now in
     let family = written_family (option_map ip_address row) in
     let within : c.args.start + l.index < route_count table =
-    omega (arith, c.loop-index-test.true, c.loop-index.auto.families, c.has_routes.ensures.0 (c.if-not-has_routes.false))
-    in
+    omega (
+      arith,
+      c.loop-index-test.true,
+      c.loop-index.auto.families,
+      c.has_routes.ensures.0 (c.if-not-has_routes.false),
+    ) in
     let found = c.route.ensures in
     subst (λ z. AreNetworksTo table c.args.start (l.index + 1) old
     (network_rows z new (slice_set l.lengths l.index len))) (sym c.write_row.ensures.family)

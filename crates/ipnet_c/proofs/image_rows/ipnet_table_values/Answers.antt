@@ -1,9 +1,7 @@
 -- Each turn writes the value of one route more.
-use Rattle.std.proofs.Common.{◌+◌, subst, arith}
-use Rattle.ipnet_routes.specs.TableImages.{HasTableHeader}
-use Rattle.ipnet_c.specs.ImageRows.{IsValueOfRoute, IsValuesReply}
+use Rattle.std.proofs.Common.{◌+◌, arith}
+use Rattle.ipnet_c.specs.ImageRows.{IsValueOfRoute}
 use Rattle.ipnet_c.proofs.ColumnLaws.{right_more}
-use Rattle.ipnet_c.proofs.ImageRowReplies.{all_values}
 use Rattle.ipnet_c.proofs.image_rows.ipnet_table_values.Goals as goal
 
 pub loop-index-preserved : goal.loop-index-preserved
