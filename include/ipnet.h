@@ -597,19 +597,19 @@ ipnet_status ipnet_table_longest_match_rows(const void *table, size_t table_len,
 ipnet_status ipnet_unmap_rows(uint8_t *families, size_t families_len, uint8_t *octets, size_t octets_len);
 
 /* Writes the fewest ranges of the set as rows: for each range the row of its first address, and then the row of its last
- * address. The ranges ascend, IPv4 first, and no two of them overlap or touch. `*count` is the number of these rows. If
- * there are more rows, the others keep their bytes.
+ * address. The ranges ascend, IPv4 first, and no two of them overlap or touch. `*count` is the number of ranges. If
+ * there are more than two rows for each, the others keep their bytes.
  *
- * OK                the first `*count` rows are written
+ * OK                the first 2 * `*count` rows are written
  * WRONG_LENGTH      if and only if `octets_len` is not 16 times `families_len`
  * NOT_A_SET         if and only if the bytes are not the image of a set; checked after the lengths
  * OUT_OF_MEMORY
- * BUFFER_TOO_SHORT  there are fewer than `*count` rows
+ * BUFFER_TOO_SHORT  there are fewer than 2 * `*count` rows
  *
  * `families` and `octets` are modified only on OK, and `*count` only on OK and BUFFER_TOO_SHORT. The call tests all of
- * the image, and allocates. An image of n bytes has fewer than n / 4 such rows.
+ * the image, and allocates. For an image of n bytes, n / 4 rows are always enough.
  *
- *     the image of 10.0.0.0/30 and 10.0.0.4/31, and two rows   OK, 10.0.0.0 and 10.0.0.5, 2
+ *     the image of 10.0.0.0/30 and 10.0.0.4/31, and two rows   OK, 10.0.0.0 and 10.0.0.5, 1
  */
 ipnet_status ipnet_set_range_rows(const void *set, size_t set_len, uint8_t *families, size_t families_len,
                                   uint8_t *octets, size_t octets_len, size_t *count);

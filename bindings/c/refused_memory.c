@@ -177,7 +177,7 @@ static ipnet_status set_range_rows(struct lent *lent)
     static const uint8_t wanted[] = {10, 0, 0, 0, 0, 0, 0, 0, 0, 0, 0, 0, 0, 0, 0, 0, 10, 0, 0, 255};
     uint8_t families[4], octets[64];
     ipnet_status status = ipnet_set_range_rows(part_set.bytes, part_set.len, families, 4, octets, 64, &lent->number);
-    lent->yes = status == IPNET_OK ? lent->number == 4 && memcmp(families, "\4\4\6\6", 4) == 0
+    lent->yes = status == IPNET_OK ? lent->number == 2 && memcmp(families, "\4\4\6\6", 4) == 0
                                          && memcmp(octets, wanted, sizeof wanted) == 0
                                    : lent->yes;
     return status;

@@ -290,7 +290,7 @@ static void try_range_rows(void)
             memset(families, UNTOUCHED, rows + 1);
             memset(octets, UNTOUCHED, 16 * rows + 1);
             ipnet_status status = ipnet_set_range_rows(set.at, set.len, families, rows, octets, 16 * rows, &count);
-            expect(status == (rows < needed ? IPNET_BUFFER_TOO_SHORT : IPNET_OK) && count == needed, ranges[i].list);
+            expect(status == (rows < needed ? IPNET_BUFFER_TOO_SHORT : IPNET_OK) && count == needed / 2, ranges[i].list);
             for (size_t k = rows < needed ? 0 : needed; k < rows + 1; k++) {
                 expect(families[k] == UNTOUCHED && octets[16 * k] == UNTOUCHED, "other rows are not modified");
             }

@@ -305,13 +305,14 @@ class IpSet:
         >>> IpSet(["10.0.0.0/31", "10.0.0.2"]).ranges()
         [(IPv4Address('10.0.0.0'), IPv4Address('10.0.0.2'))]
         """
-        # an image of n bytes has fewer than n / 4 such rows
+        # for an image of n bytes, n / 4 rows are always enough
         room, count = len(self._image) // 4, ctypes.c_size_t(0)
         families, octets = bytearray(room), bytearray(WIDTH * room)
         checked(_range_rows(self._image, len(self._image), lent(families, 0, room), room,
                             lent(octets, 0, WIDTH * room), WIDTH * room, ctypes.byref(count)))
-        ipv4 = WIDTH * families.count(4, 0, count.value)
-        first, later = octets[:ipv4], octets[ipv4:WIDTH * count.value]
+        rows = 2 * count.value
+        ipv4 = WIDTH * families.count(4, 0, rows)
+        first, later = octets[:ipv4], octets[ipv4:WIDTH * rows]
         return [(IPv4Address(start), IPv4Address(end)) for start, end in struct.iter_unpack(">I12xI12x", first)] + [
             (IPv6Address(high << 64 | low), IPv6Address(last_high << 64 | last_low))
             for high, low, last_high, last_low in struct.iter_unpack(">QQQQ", later)]

@@ -608,11 +608,11 @@ pub fn set_is_subset(set: &[u8], other: &[u8]) -> Result<bool, Error> {
 
 /// The ends of the fewest ranges of a set as rows: their families, and 16 octets for each.
 pub fn set_range_rows(set: &[u8]) -> Result<(Vec<u8>, Vec<u8>), Error> {
-    // an image of n bytes has fewer than n / 4 such rows
-    let mut count = set.len() / 4;
+    // for an image of n bytes, n / 4 rows are always enough
+    let (rows, mut count) = (set.len() / 4, 0);
     let (mut families, mut octets) = (Vec::new(), Vec::new());
-    grow(&mut families, count)?;
-    grow(&mut octets, count.saturating_mul(16))?;
+    grow(&mut families, rows)?;
+    grow(&mut octets, rows.saturating_mul(16))?;
     // SAFETY: as in `call`.
     let status = unsafe {
         ipnet_set_range_rows(
@@ -628,8 +628,8 @@ pub fn set_range_rows(set: &[u8]) -> Result<(Vec<u8>, Vec<u8>), Error> {
     if status != OK {
         return Err(error_of(status, count));
     }
-    families.truncate(count);
-    octets.truncate(count.saturating_mul(16));
+    families.truncate(count.saturating_mul(2));
+    octets.truncate(count.saturating_mul(32));
     Ok((families, octets))
 }
 
