@@ -9,7 +9,7 @@ from ._bulk import RAISE, Options, contained
 from ._columns import ArrowText
 from ._networks import (Address, BadLine, Network, Networks, OneNetwork, Text, answered, as_bytes, bytes_of,
                         cause_of_entry, shown, text_of)
-from ._rows import WIDTH, checked, lent
+from ._rows import WIDTH, checked
 
 try:
     from ._quick import contains
@@ -307,12 +307,10 @@ class IpSet:
         """
         # for an image of n bytes, n / 4 rows are always enough
         room, count = len(self._image) // 4, ctypes.c_size_t(0)
-        families, octets = bytearray(room), bytearray(WIDTH * room)
-        checked(_range_rows(self._image, len(self._image), lent(families, 0, room), room,
-                            lent(octets, 0, WIDTH * room), WIDTH * room, ctypes.byref(count)))
-        rows = 2 * count.value
-        ipv4 = WIDTH * families.count(4, 0, rows)
-        first, later = octets[:ipv4], octets[ipv4:WIDTH * rows]
+        families, octets = map(ctypes.create_string_buffer, (room, WIDTH * room))
+        checked(_range_rows(self._image, len(self._image), families, room, octets, WIDTH * room, ctypes.byref(count)))
+        ipv4 = WIDTH * families[:2 * count.value].count(4)
+        first, later = octets[:ipv4], octets[ipv4:2 * WIDTH * count.value]
         return [(IPv4Address(start), IPv4Address(end)) for start, end in struct.iter_unpack(">I12xI12x", first)] + [
             (IPv6Address(high << 64 | low), IPv6Address(last_high << 64 | last_low))
             for high, low, last_high, last_low in struct.iter_unpack(">QQQQ", later)]

@@ -10,7 +10,7 @@ from . import _library as library
 from ._bulk import RAISE, Options, matched
 from ._columns import ArrowText
 from ._networks import Network, OneNetwork, bytes_of, interface_of, refuse, text_of, with_lengths
-from ._rows import LARGEST, WIDTH, checked, lent
+from ._rows import LARGEST, WIDTH, checked
 
 try:
     from ._quick import longest_match
@@ -224,14 +224,13 @@ def values_of(image: bytes, count: int) -> "array.array[int]":
 
 def routes_of(image: bytes, count: int) -> Iterator[Tuple[Network, int]]:
     """The routes of an image, which has `count`. IPv4 routes are first."""
-    families, octets, lengths = bytearray(count), bytearray(WIDTH * count), bytearray(count)
-    checked(_networks(image, len(image), 0, lent(families, 0, count), count, lent(octets, 0, WIDTH * count),
-                      WIDTH * count, lent(lengths, 0, count), count))
-    values, ipv4 = values_of(image, count), families.count(4)
-    first, later = octets[:WIDTH * ipv4], octets[WIDTH * ipv4:]
-    for (number,), length, value in zip(struct.iter_unpack(">I12x", first), lengths, values):
+    families, octets, lengths = map(ctypes.create_string_buffer, (count, WIDTH * count, count))
+    checked(_networks(image, len(image), 0, families, count, octets, WIDTH * count, lengths, count))
+    values, ipv4 = values_of(image, count), families.raw.count(4)
+    rows, sizes = octets.raw, lengths.raw
+    for (number,), length, value in zip(struct.iter_unpack(">I12x", rows[:WIDTH * ipv4]), sizes, values):
         yield IPv4Network((number, length)), value
-    for (high, low), length, value in zip(struct.iter_unpack(">QQ", later), lengths[ipv4:], values[ipv4:]):
+    for (high, low), length, value in zip(struct.iter_unpack(">QQ", rows[WIDTH * ipv4:]), sizes[ipv4:], values[ipv4:]):
         yield IPv6Network((high << 64 | low, length)), value
 
 
