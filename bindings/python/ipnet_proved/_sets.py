@@ -309,11 +309,14 @@ class IpSet:
         room, count = len(self._image) // 4, ctypes.c_size_t(0)
         families, octets = map(ctypes.create_string_buffer, (room, WIDTH * room))
         checked(_range_rows(self._image, len(self._image), families, room, octets, WIDTH * room, ctypes.byref(count)))
-        ipv4 = WIDTH * families[:2 * count.value].count(4)
-        first, later = octets[:ipv4], octets[ipv4:2 * WIDTH * count.value]
-        return [(IPv4Address(start), IPv4Address(end)) for start, end in struct.iter_unpack(">I12xI12x", first)] + [
+        rows = ctypes.string_at(octets, 2 * WIDTH * count.value)
+        ipv4 = WIDTH * families.raw.count(4, 0, 2 * count.value)
+        ranges: List[Tuple[Address, Address]] = [
+            (IPv4Address(first), IPv4Address(last)) for first, last in struct.iter_unpack(">I12xI12x", rows[:ipv4])]
+        ranges.extend(
             (IPv6Address(high << 64 | low), IPv6Address(last_high << 64 | last_low))
-            for high, low, last_high, last_low in struct.iter_unpack(">QQQQ", later)]
+            for high, low, last_high, last_low in struct.iter_unpack(">QQQQ", rows[ipv4:]))
+        return ranges
 
     @property
     def ipv4_count(self) -> int:
