@@ -46,7 +46,9 @@ ipnet_status sql_read_routes(const void *table, size_t table_len, size_t start, 
 
 SqlRoute sql_route_at(const SqlPiece *piece, size_t index)
 {
-    size_t width = piece->families[index] == 6 ? 16 : 4;
-    SqlRoute route = {sql_network(piece->octets + 16 * index, width, piece->lengths[index]), piece->values[index]};
+    bool is_ipv6 = piece->families[index] == 6;
+    SqlRoute route = {{{is_ipv6}}, piece->values[index]};
+    memcpy(route.network.bytes + 1, piece->octets + 16 * index, 16);
+    route.network.bytes[is_ipv6 ? 17 : 5] = piece->lengths[index];
     return route;
 }
