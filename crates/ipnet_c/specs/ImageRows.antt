@@ -9,7 +9,7 @@ use Rattle.ipnet_base.specs.Ranges.{AddressRange}
 use Rattle.ipnet_sets.specs.declared.set.IpSet.{IpSet}
 use Rattle.ipnet_sets.specs.Images.{IsImage, IsImageOf}
 use Rattle.ipnet_sets.specs.Members.{IsMember}
-use Rattle.ipnet_sets.specs.SetRanges.{AreRangesOf}
+use Rattle.ipnet_sets.specs.SetRanges.{AreRangesOf, AreFewestRangesOf}
 use Rattle.ipnet_routes.specs.Routes.{Route}
 use Rattle.ipnet_routes.specs.TableImages.{route_count, HasTableHeader, HasRouteAt, IsTableImageOf, HasOtherValues}
 use Rattle.ipnet_c.specs.Statuses as statuses
@@ -33,12 +33,14 @@ pub record AreRowsOfRanges (ranges : List AddressRange) (families octets new_fam
   pub others : (i : ℕ) → 2 * length ranges ≤ i
       → (slice_index new_families i ≡ slice_index families i) × (row_bytes new_octets i ≡ row_bytes octets i)
 
--- The number is the number of the fewest ranges of the set of the image.
+-- The number is the number of the fewest ranges of the set of the image. They ascend, and no two of them overlap or
+-- touch.
 pub record IsRangeCount (set : List ℕ) (count : ℕ) : Type 0 where
   pub first : IpSet
   pub first_image : IsImageOf set first
   pub ranges : List AddressRange
-  pub fewest : AreRangesOf (IsMember first) ranges
+  pub are : AreRangesOf (IsMember first) ranges
+  pub fewest : AreFewestRangesOf (IsMember first) ranges
   pub counted : count ≡ length ranges
 
 -- The fewest ranges of a set as rows. `count` is the number of the ranges.

@@ -14,7 +14,8 @@ returns-then-families-count c =
       first = set;
       first_image = subst (λ z. IsImageOf z set) same c.in-Ok-to_set.ensures;
       ranges = ranges_left c.ranges-ranges.result;
-      fewest = c.ranges-ranges.ensures.ranges;
+      are = c.ranges-ranges.ensures.ranges;
+      fewest = c.ranges-ranges.ensures.fewest;
       counted = c.len.ensures.value;
     } in
     ranges_short c.args.set.now c.args.families.now c.args.octets.now c.args.count.now c.len.result
@@ -29,7 +30,8 @@ returns c =
       first = set;
       first_image = subst (λ z. IsImageOf z set) same c.in-Ok-to_set.ensures;
       ranges = ranges_left c.ranges-ranges.result;
-      fewest = c.ranges-ranges.ensures.ranges;
+      are = c.ranges-ranges.ensures.ranges;
+      fewest = c.ranges-ranges.ensures.fewest;
       counted = c.len.ensures.value;
     } in
     ranges_written c.args.set.now c.args.families.now c.args.octets.now c.write_ranges.new.families
