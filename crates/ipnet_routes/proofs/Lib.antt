@@ -21,7 +21,4 @@ pub mod TableImageLaws
 pub mod TableCheckLaws
 pub mod TableOnceLaws
 pub mod TableRestoredLaws
-pub mod ByteTableLaws
-pub mod ByteTableWrittenLaws
-pub mod ByteTableOnceLaws
-pub mod ByteTableCheckLaws
+pub mod TableValueLaws

@@ -11,4 +11,3 @@ pub mod RouteLengths
 pub mod RouteMapsOf
 pub mod RouteMapsLeft
 pub mod TableImages
-pub mod ByteTableImages

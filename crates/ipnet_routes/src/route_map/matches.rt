@@ -6,7 +6,7 @@ ghost use Rattle.ipnet_routes.specs.RouteMapSteps.{all_of, AreFilled};
 ghost use Rattle.ipnet_routes.specs.RouteLengths.{AreKnown};
 
 use super::chunks::Chunk;
-use super::covering_in;
+use super::covering::covering_in;
 use super::index::ChunkIndex;
 use super::lengths::KnownLengths;
 use ipnet::IpNet;
