@@ -603,8 +603,8 @@ ipnet_status ipnet_table_longest_match_rows(const void *table, size_t table_len,
 ipnet_status ipnet_unmap_rows(uint8_t *families, size_t families_len, uint8_t *octets, size_t octets_len);
 
 /* Writes the fewest ranges of the set as rows: for each range the row of its first address, and then the row of its
- * last address. The ranges ascend, IPv4 first, and no two of them overlap or touch. `*count` is the number of ranges. If
- * there are more than two rows for each, the others keep their bytes.
+ * last address. The ranges ascend, IPv4 first, and no two of them overlap or touch. `*count` is the number of ranges.
+ * If there are more than two rows for each, the others keep their bytes.
  *
  * OK                the first 2 * `*count` rows are written
  * WRONG_LENGTH      if and only if `octets_len` is not 16 times `families_len`
