@@ -21,9 +21,7 @@ use Rattle.ipnet_routes.specs.TableImages.{route_count, HasTableHeader, HasRoute
 use Rattle.ipnet_c.specs.Rows.{AreRows, row_bytes, IsWrittenRow, written_family, written_octets}
 use Rattle.ipnet_c.specs.ImageRows.{AreEndsAt, AreRowsOfRanges, IsRangeCount, IsRangeRowsReply, length_of, IsNetworkRow}
 use Rattle.ipnet_c.specs.ImageRows.{NetworkRows, network_rows, AreRowsOfRoutes, IsNetworksReply, IsValueOfRoute}
-use Rattle.ipnet_c.specs.ImageRows.{IsValuesReply}
 use Rattle.ipnet_c.proofs.StatusLaws.{differ}
-use Rattle.ipnet_c.proofs.ColumnLaws.{AreRightTo}
 
 -- ---- the ends of a range
 
