@@ -100,7 +100,7 @@ returns-clause-best c =
     c.in_ok-blocks.ensures.blocks in
     let allowed = c.in_ok-allowed.allowed in
     let complement = c.in_ok-allowed.ensures.members in
-    weaker_some (λ list. IsBestOf (IsCoveredBy blocks) (IsMember allowed) c.args.limit (map ip_network list.items))
+    weaker_some (λ list. IsBestOf (IsCoveredBy blocks) (IsMember allowed) c.args.limit 0 (map ip_network list.items))
     (λ list. IsBestCover c.args.limit (IsMemberOf n.family set) (IsMember never) (map ip_network list.items))
     c.best_list.result (λ list best. best_answer set part never n whole w u members blocks given c.args.limit allowed
     (map ip_network list.items) complement best) c.best_list.ensures.best
@@ -120,7 +120,7 @@ returns-clause-none c =
     c.in_ok-blocks.ensures.blocks in
     let allowed = c.in_ok-allowed.allowed in
     let complement = c.in_ok-allowed.ensures.members in
-    none_exactly (λ list. IsBestOf (IsCoveredBy blocks) (IsMember allowed) c.args.limit (map ip_network list.items))
+    none_exactly (λ list. IsBestOf (IsCoveredBy blocks) (IsMember allowed) c.args.limit 0 (map ip_network list.items))
     (HasNoCover blocks (record { allowed = allowed; limit = c.args.limit }))
     (HasCoverWithin c.args.limit (IsMemberOf n.family set) (IsMember never)) c.best_list.result
     (λ list best. (
