@@ -275,6 +275,15 @@ fn names_of<'a>(
     Ok(names)
 }
 
+/// Reads a number up to 4294967295, without leading zeros.
+pub fn read_number(word: &str) -> Option<u32> {
+    let is_plain = word.bytes().all(|byte| byte.is_ascii_digit());
+    if !is_plain || word.len() > 1 && word.starts_with('0') {
+        return None;
+    }
+    word.parse::<u32>().ok()
+}
+
 /// Whether more than one of the lists is standard input.
 pub fn reads_input_twice(names: &[&str]) -> bool {
     let inputs = names.iter().filter(|name| **name == STANDARD_INPUT);

@@ -1,5 +1,5 @@
 //! The options for the form of an answer that is a set.
-use crate::arguments::{command_of, flag};
+use crate::arguments::{command_of, flag, read_number};
 use clap::{Arg, ArgMatches, Command};
 use netset_forms::{
     AnswerForm, FormRequest, SetNames, are_ipset_sets, are_nft_sets, is_ipset_name, is_nft_name,
@@ -214,11 +214,7 @@ fn check_names<'a>(form: AnswerForm<'a>, names: SetNames<'a>) -> Result<(), Form
 
 /// Reads a `maxelem`: a number from 1 to 4294967295 without leading zeros.
 fn read_maxelem(word: &str) -> Option<u32> {
-    let is_plain = word.bytes().all(|byte| byte.is_ascii_digit()) && !word.starts_with('0');
-    if !is_plain {
-        return None;
-    }
-    word.parse::<u32>().ok()
+    read_number(word).filter(|number| *number != 0)
 }
 
 /// The `maxelem` of the options, or the greatest.

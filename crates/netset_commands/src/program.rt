@@ -12,6 +12,7 @@ use crate::commands::{
 };
 use crate::entries::{OVERLAPS, REDUNDANT, SUPERNET, overlaps, redundant, supernet};
 use crate::extract::{EXTRACT, extracted};
+use crate::fit::{FIT, fitted};
 use crate::forms::form_of;
 use crate::lines::{LINES, filtered};
 use crate::listing::{HOSTS, SPLIT, hosts, split};
@@ -115,6 +116,7 @@ fn run_command(
         BAR => drawn(rt, matches, writers),
         MAP => mapped(rt, matches, writers),
         SUPERNET => supernet(rt, matches, writers),
+        FIT => fitted(rt, matches, writers),
         REDUNDANT => redundant(rt, matches, writers),
         OVERLAPS => overlaps(rt, matches, writers),
         SPLIT => split(rt, matches, writers),

@@ -46,6 +46,7 @@ pub use change_line::ChangeCause;
 pub use changes::changes_text;
 pub use changes_program::ChangesCommand;
 pub use command::{Flags, ListCommand, Work, families};
+pub use counts::push_counts;
 pub use failure::Failure;
 pub use filter::Side;
 pub use length::read_length;
