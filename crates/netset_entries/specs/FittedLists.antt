@@ -1,9 +1,8 @@
 -- Lists within limits: networks that contain the addresses of lists, few networks or few other addresses, and their text.
-use Rattle.std.specs.Prelude.{◌≡◌, ◌+◌, ◌*◌, ◌/◌, ◌-◌, ◌^◌, ℕ, Bool, true, false, ⊤, List, [], ◌∷◌, ◌++◌, codes}
-use Rattle.std.specs.Prelude.{nat_min}
+use Rattle.std.specs.Prelude.{◌≡◌, ◌*◌, ◌/◌, ◌-◌, ◌^◌, min, ℕ, Bool, true, false, ⊤, List, [], ◌∷◌, ◌++◌, codes}
+use Rattle.std.specs.Prelude.{Option}
 use Rattle.std.specs.Io.{StartsWith}
 use Rattle.std.specs.Io.KnownBytes.{Appends}
-use Rattle.std.specs.Prelude.{Option}
 use Rattle.ipnet_base.specs.Address.{Family, IPv4, IPv6, Address}
 use Rattle.ipnet_base.specs.Network.{Network}
 use Rattle.ipnet_sets.specs.ManySets.{IsInSome}
@@ -25,7 +24,7 @@ use Rattle.netset_entries.specs.Supernets.{IsOfFamily}
 
 -- So many percent of the addresses, rounded down; at most 2^128 - 1. Example: 10 percent of 256 addresses are 25.
 abbrev pub percent_of : ℕ → ℕ → ℕ
-percent_of percent count = nat_min (count * percent / 100) (2 ^ 128 - 1)
+percent_of percent count = min (count * percent / 100) (2 ^ 128 - 1)
 
 -- The networks of one family: at most so many, which add as few addresses as possible to the set; or as few as possible,
 -- which add at most so many percent. None has an address that is avoided.
