@@ -103,9 +103,8 @@ fn fewest_of_family(
     if spare == 0 || blocks.is_empty() {
         return Ok(Some(blocks));
     }
-    let allowed = never.complement(alloc)?;
     let terms = Terms {
-        allowed,
+        allowed: never.complement(alloc)?,
         limit: blocks.len(),
     };
     best_list(alloc, &terms, &around, blocks.as_slice(), spare)
@@ -156,8 +155,8 @@ pub fn shortest_ipv6_cover(
     cover_of_family(alloc, set, &family, limit, never)
 }
 
-/// Returns a list of the fewest networks that contains every IPv4 address of the set, no address of `never`, and at most
-/// `spare` other addresses. Of the lists with as few networks, it is one with the fewest addresses.
+/// Returns a list of the fewest networks that contains every IPv4 address of the set, no address of `never`, and at
+/// most `spare` other addresses. No list of as few networks contains fewer addresses.
 ///
 /// The result is `None` if and only if the set has an address of `never`. Fails only if memory runs out. The call takes
 /// O(n²) time, and memory for at most n numbers for each prefix length, for n networks of the set.
@@ -177,8 +176,8 @@ pub fn fewest_ipv4_networks(
     ensures none { IfOk result (λ o. IsNone o
         ↔ ¬ (HasCoverAdding spare (IsMemberOf IPv4 set.now) (IsMember never.now))) }
 {
-    let family = IpNet::new_assert(IpAddr::V4(Ipv4Addr::new(0, 0, 0, 0)), 0);
-    fewest_of_family(alloc, set, &family, spare, never)
+    let whole = IpNet::new_assert(IpAddr::V4(Ipv4Addr::new(0, 0, 0, 0)), 0);
+    fewest_of_family(alloc, set, &whole, spare, never)
 }
 
 /// Returns the list for the IPv6 addresses of the set, as `fewest_ipv4_networks` does for IPv4.
@@ -197,6 +196,6 @@ pub fn fewest_ipv6_networks(
     ensures none { IfOk result (λ o. IsNone o
         ↔ ¬ (HasCoverAdding spare (IsMemberOf IPv6 set.now) (IsMember never.now))) }
 {
-    let family = IpNet::new_assert(IpAddr::V6(Ipv6Addr::new(0, 0, 0, 0, 0, 0, 0, 0)), 0);
-    fewest_of_family(alloc, set, &family, spare, never)
+    let whole = IpNet::new_assert(IpAddr::V6(Ipv6Addr::new(0, 0, 0, 0, 0, 0, 0, 0)), 0);
+    fewest_of_family(alloc, set, &whole, spare, never)
 }

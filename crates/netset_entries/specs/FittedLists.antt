@@ -1,4 +1,4 @@
--- Lists within limits: networks that contain the addresses of lists, few networks or few other addresses, and their text.
+-- Lists within limits: the networks that contain the addresses of lists, as text, and the addresses that they add.
 use Rattle.std.specs.Prelude.{◌≡◌, ◌*◌, ◌/◌, ◌-◌, ◌^◌, min, ℕ, Bool, true, false, ⊤, List, [], ◌∷◌, ◌++◌, codes}
 use Rattle.std.specs.Prelude.{Option}
 use Rattle.std.specs.Io.{StartsWith}
@@ -22,12 +22,12 @@ use Rattle.netset_entries.specs.declared.fit.FitLimit.TheVariants.{Networks, Spa
 use Rattle.netset_entries.specs.declared.fit.FitRequest.{FitRequest}
 use Rattle.netset_entries.specs.Supernets.{IsOfFamily}
 
--- So many percent of the addresses, rounded down; at most 2^128 - 1. Example: 10 percent of 256 addresses are 25.
+-- The percentage of a number of addresses, rounded down, and at most 2^128 - 1. Example: 10 percent of 256 addresses are 25.
 abbrev pub percent_of : ℕ → ℕ → ℕ
 percent_of percent count = min (count * percent / 100) (2 ^ 128 - 1)
 
--- The networks of one family: at most so many, which add as few addresses as possible to the set; or as few as possible,
--- which add at most so many percent. None has an address that is avoided.
+-- The networks of one family. Either at most this number of networks, which add as few addresses as possible to the
+-- set; or the fewest networks that add at most this percentage. No network has an address that is avoided.
 -- Example: for 10.0.0.0/32, 10.0.0.3/32 and 10.0.0.8/32 and two networks, 10.0.0.0/30 and 10.0.0.8/32; for 67 percent
 -- also, since 67 percent of three addresses are two.
 abbrev pub IsFitted : FitLimit → (Address → Type 0) → (Address → Type 0) → List Network → Type 0
@@ -94,7 +94,7 @@ IsUnwanted In true [] x = ⊥
 IsUnwanted In true (never ∷ lists) x = In never x
 
 -- No line of the lists is refused. The text has the networks within the limits that contain the addresses of the lists
--- and avoid those of the first, if there is a list to avoid. The report says what they add.
+-- and avoid the first list, if it is to be avoided. The report says what they add.
 pub record IsFitAnswer (request : FitRequest) (reading : Request) (lists : List (List ℕ)) (text report : List ℕ)
     : Type 0 where
   pub entries : List (List ListEntry)

@@ -4,8 +4,8 @@ ghost use Rattle.std.specs.Prelude.{IfOk, IfErr, IfSome, IfNone};
 ghost use Rattle.ipnet_base.specs.Address.{IPv4, IPv6};
 ghost use Rattle.ipnet.specs.NetworkOf.{ip_network};
 ghost use Rattle.ipnet_sets.specs.Members.{IsMember, IsMemberOf, IsCountOf};
-ghost use Rattle.netset_entries.specs.FittedLists.{percent_of, IsFitted, HasFit, AreFitted, IsAddedReport, IsFittedText};
-ghost use Rattle.netset_entries.specs.FittedLists.{IsFitFailure, exit_of_fit};
+ghost use Rattle.netset_entries.specs.FittedLists.{percent_of, IsFitted, HasFit, AreFitted, IsAddedReport};
+ghost use Rattle.netset_entries.specs.FittedLists.{IsFittedText, IsFitFailure, exit_of_fit};
 ghost use Rattle.netset_entries.specs.declared.fit.FitFailure.TheVariants.{Memory};
 
 use ipnet::IpNet;
@@ -24,7 +24,7 @@ use thiserror::Error;
 #[derive(Clone, Copy, Debug, PartialEq, Eq, Drop, Error)]
 pub enum FitFailure {
     /// A family has no networks within its limit that contain its addresses and avoid the others.
-    #[error("no list: no networks within the limits contain all addresses and avoid those of --never")]
+    #[error("no list: no networks within the limits contain all addresses and avoid --never")]
     NoList,
     /// Memory ran out.
     #[error("out of memory")]

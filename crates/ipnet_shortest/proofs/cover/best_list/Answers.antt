@@ -20,7 +20,8 @@ returns-clause-best c =
     let known = subst (λ z. IfSome z (IsPartOf blocks terms)) c.in-Some.is c.in_ok-part.ensures.some in
     let list = c.in_ok-push_networks.ensures
     ∙ ap (λ z. map ip_network z ++ networks_of part.plan index) c.new-networks.ensures.items in
-    subst (IsBestOf (IsCoveredBy blocks) (IsMember terms.allowed) terms.limit c.args.spare) (sym list)
-    (best_of (IsCoveredBy blocks) (IsMember terms.allowed) (IsDecided-cover blocks) terms.limit c.args.spare part.lacking
+    let spare = c.args.spare in
+    subst (IsBestOf (IsCoveredBy blocks) (IsMember terms.allowed) terms.limit spare) (sym list)
+    (best_of (IsCoveredBy blocks) (IsMember terms.allowed) (IsDecided-cover blocks) terms.limit spare part.lacking
     part.fewest (ip_network part.around) part.costs.items (networks_of part.plan) known.solved index
-    (subst (λ z. IsFirstWithin z c.args.spare index) c.as_slice.ensures.value c.first_within-index.ensures))
+    (subst (λ z. IsFirstWithin z spare index) c.as_slice.ensures.value c.first_within-index.ensures))
