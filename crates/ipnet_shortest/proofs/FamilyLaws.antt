@@ -1,4 +1,10 @@
 -- The blocks of the addresses of one family of a set.
+use Rattle.std.proofs.Common.{◌==◌, true, false, map, vec_len, eq-eqb, eqb-true, sym, arith}
+use Rattle.std.proofs.lemmas.Bool.{cases_lt}
+use Rattle.std.proofs.lemmas.List.{length-map}
+use Rattle.std.specs.Global.{Vec}
+use Rattle.ipnet.specs.declared.net.IpNet.{IpNet}
+use Rattle.ipnet.specs.NetworkOf.{ip_network}
 use Rattle.std.proofs.Common.{ℕ, ◌≡◌, ◌<◌, ◌≤◌, ◌⊎◌, ◌↔◌, List, length, inl, inr, refl, ◌∙◌}
 use Rattle.std.proofs.Common.{Result, Ok, Err, IfOk, Option, Some, None, IfSome, IfNone, IsNone}
 use Rattle.ipnet_base.specs.Address.{Address}
@@ -30,6 +36,21 @@ none_exactly P N C (Ok (Some x)) has lacks p n = (λ e. absurd (cc), λ out. abs
 none_exactly P N C (Ok None) has lacks p n = (λ e. lacks n, λ out. refl)
 none_exactly P N C (Err e) has lacks p n = n
 
+-- ---- a list with a length that is 0, or is not
+
+pub no_blocks : (list : Vec IpNet) → (vec_len list == 0) ≡ true → length (map ip_network list.items) ≡ 0
+no_blocks list none =
+    let len = eqb-true (vec_len list) 0 none in omega (arith, len, list.ok, length-map list.items ip_network)
+
+pub has_blocks : (list : Vec IpNet) → (vec_len list == 0) ≡ false → 0 < length (map ip_network list.items)
+has_blocks list some = elim (cases_lt 0 (length (map ip_network list.items))) [
+  | inl lt ↦ lt
+  | inr le ↦
+      let none : vec_len list ≡ 0 = omega (arith, le, list.ok, length-map list.items ip_network) in
+      let is = eq-eqb (vec_len list) 0 none in
+      absurd (cc)
+]
+
 -- ---- the addresses of one family
 
 module _ (set part never : IpSet) (network whole : Network) (w : IsWholeFamily network whole) (u : IsNetwork whole)
@@ -57,7 +78,7 @@ module _ (set part never : IpSet) (network whole : Network) (w : IsWholeFamily n
 
   pub never_together : (spare : ℕ) → ¬ ((x : Address) → IsMember part x → ¬ (IsMember never x))
       → ¬ (HasCoverAdding spare Family (IsMember never))
-  never_together spare meet (networks, (added, c)) =
+  never_together spare meet (networks, added, c) =
       meet (λ x m v. c.avoids x (c.covers x ((same x).0 m)) v)
 
   module _ (blocks : List Network) (given : AreMaximalBlocks (IsMember part) 0 blocks) where

@@ -60,12 +60,12 @@ module _ (S T F G : Address → Type 0) (same : (x : Address) → S x ↔ T x) (
 
   pub fit_same : (limit : FitLimit) → HasFit limit S F → HasFit limit T G
   fit_same (Networks limit) (networks, h) = (networks, within_same limit networks h)
-  fit_same (Spare percent) (count, (counted, (networks, (added, h)))) = (
+  fit_same (Spare percent) (count, counted, networks, added, h) = (
     count,
-    (
-      same_count S T count same counted,
-      (networks, (added, adding_same (percent_of percent count) networks added h)),
-    ),
+    same_count S T count same counted,
+    networks,
+    added,
+    adding_same (percent_of percent count) networks added h,
   )
 
 back : {S T : Address → Type 0} → ((x : Address) → S x ↔ T x) → (x : Address) → T x ↔ S x
@@ -99,8 +99,8 @@ module _ (S T F G : Address → Type 0) (same : (x : Address) → S x ↔ T x) (
   fitted_same : (limit : FitLimit) (networks : List Network) → IsFitted limit S F networks
       → IsFitted limit T G networks
   fitted_same (Networks limit) networks h = best_same limit networks h
-  fitted_same (Spare percent) networks (count, (counted, h)) =
-      (count, (same_count S T count same counted, fewest_same (percent_of percent count) networks h))
+  fitted_same (Spare percent) networks (count, counted, h) =
+      (count, same_count S T count same counted, fewest_same (percent_of percent count) networks h)
 
 -- ---- the addresses of sets, and of the lists that they were read from
 

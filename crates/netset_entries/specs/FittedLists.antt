@@ -22,7 +22,8 @@ use Rattle.netset_entries.specs.declared.fit.FitLimit.TheVariants.{Networks, Spa
 use Rattle.netset_entries.specs.declared.fit.FitRequest.{FitRequest}
 use Rattle.netset_entries.specs.Supernets.{IsOfFamily}
 
--- The percentage of a number of addresses, rounded down, and at most 2^128 - 1. Example: 10 percent of 256 addresses are 25.
+-- The percentage of a number of addresses, rounded down, and at most 2^128 - 1.
+-- Example: 10 percent of 256 addresses are 25.
 abbrev pub percent_of : ℕ → ℕ → ℕ
 percent_of percent count = min (count * percent / 100) (2 ^ 128 - 1)
 
