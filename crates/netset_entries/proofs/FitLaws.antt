@@ -11,14 +11,17 @@ use Rattle.ipnet_sets.specs.Members.{IsMember, IsCountOf}
 use Rattle.ipnet_shortest.specs.Covers.{IsAdded, IsCoverWithin, IsBestCover, HasCoverWithin}
 use Rattle.ipnet_shortest.specs.Covers.{IsCoverAdding, IsFewestCover, HasCoverAdding}
 use Rattle.ipnet_shortest.proofs.CountLaws.{same_count, one_count}
+use Rattle.ipnet_sets.specs.ManySets.{IsInSome}
 use Rattle.netset_lib.specs.ListSets.{HaveMembers}
+use Rattle.netset_lib.specs.SetsOf.{AreSetsOf}
+use Rattle.netset_lib.specs.declared.answer.Request.{Request}
 use Rattle.netset_lib.proofs.CountTexts.{counts_same}
 use Rattle.netset_lib.proofs.SameResults.{some_same}
 use Rattle.netset_entries.specs.declared.fit.FitLimit.{FitLimit}
 use Rattle.netset_entries.specs.declared.fit.FitLimit.TheVariants.{Networks, Spare}
 use Rattle.netset_entries.specs.declared.fit.FitRequest.{FitRequest}
 use Rattle.netset_entries.specs.FittedLists.{percent_of, IsFitted, HasFit, HaveFits, AreFitted, IsAddedReport}
-use Rattle.netset_entries.specs.FittedLists.{IsFittedText, IsWanted, IsUnwanted}
+use Rattle.netset_entries.specs.FittedLists.{IsFittedText, IsWanted, IsUnwanted, IsFitAnswer, HasNoFitAnswer}
 use Rattle.netset_entries.specs.Supernets.{IsOfFamily}
 
 -- ---- percentages
@@ -151,3 +154,39 @@ unwanted_same true [] [] h x = (λ k. k, λ k. k)
 unwanted_same true [] (l ∷ lists) h x = absurd h
 unwanted_same true (s ∷ sets) [] h x = absurd h
 unwanted_same true (s ∷ sets) (l ∷ lists) h x = h.0 x
+
+-- the sets of the lists, the first taken away if it is to be avoided
+module _ (request : FitRequest) (r : Request) (lists : List (List ℕ)) (sets left : List IpSet) (set never : IpSet)
+    (read : AreSetsOf r.grammar lists sets) (all : (x : Address) → IsMember set x ↔ IsInSome IsMember left x)
+    (wanted : (x : Address) → IsInSome IsMember left x ↔ IsWanted IsMember request.has_never sets x)
+    (unwanted : (x : Address) → IsMember never x ↔ IsUnwanted IsMember request.has_never sets x) where
+  abbrev Wanted : Address → Type 0
+  Wanted = IsWanted IsInEntries request.has_never read.entries
+
+  abbrev Unwanted : Address → Type 0
+  Unwanted = IsUnwanted IsInEntries request.has_never read.entries
+
+  set_is : (x : Address) → IsMember set x ↔ Wanted x
+  set_is x =
+      let same = wanted_same request.has_never sets read.entries read.of_each x in
+      (λ m. same.0 ((wanted x).0 ((all x).0 m)), λ w. (all x).1 ((wanted x).1 (same.1 w)))
+
+  never_is : (x : Address) → IsMember never x ↔ Unwanted x
+  never_is x =
+      let same = unwanted_same request.has_never sets read.entries read.of_each x in
+      (λ m. same.0 ((unwanted x).0 m), λ w. (unwanted x).1 (same.1 w))
+
+  pub answer_of_lists : (text report : List ℕ) → IsFittedText request (IsMember set) (IsMember never) text report
+      → IsFitAnswer request r lists text report
+  answer_of_lists text report h = record {
+    entries = read.entries;
+    read = read.read;
+    right = text_same (IsMember set) Wanted (IsMember never) Unwanted set_is never_is request text report h;
+  }
+
+  pub none_of_lists : ¬ (HaveFits request (IsMember set) (IsMember never)) → HasNoFitAnswer request r lists
+  none_of_lists out = record {
+    entries = read.entries;
+    read = read.read;
+    none = λ h. out (fits_same Wanted (IsMember set) Unwanted (IsMember never) (back set_is) (back never_is) request h);
+  }

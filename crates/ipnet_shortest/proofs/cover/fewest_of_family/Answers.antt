@@ -95,8 +95,13 @@ returns-clause-fewest c =
     let allowed = c.in_ok-complement.field-0 in
     let complement = c.in_ok-complement.ensures.members in
     let few : length blocks ≤ c.len.result =
-    omega (arith, length-map c.as_slice.result.now ip_network, ap length c.as_slice.ensures.value, c.len.ensures,
-    c.in_ok-blocks.blocks.ok.0) in
+    omega (
+      arith,
+      length-map c.as_slice.result.now ip_network,
+      ap length c.as_slice.ensures.value,
+      c.len.ensures,
+      c.in_ok-blocks.blocks.ok.0,
+    ) in
     weaker_some (λ list. IsBestOf (IsCoveredBy blocks) (IsMember allowed) c.len.result c.args.spare
     (map ip_network list.items))
     (λ list. IsFewestCover c.args.spare (IsMemberOf n.family set) (IsMember never) (map ip_network list.items))
@@ -120,14 +125,20 @@ returns-clause-none c =
     let allowed = c.in_ok-complement.field-0 in
     let complement = c.in_ok-complement.ensures.members in
     let few : length blocks ≤ c.len.result =
-    omega (arith, length-map c.as_slice.result.now ip_network, ap length c.as_slice.ensures.value, c.len.ensures,
-    c.in_ok-blocks.blocks.ok.0) in
+    omega (
+      arith,
+      length-map c.as_slice.result.now ip_network,
+      ap length c.as_slice.ensures.value,
+      c.len.ensures,
+      c.in_ok-blocks.blocks.ok.0,
+    ) in
+    let chosen = fewest_answer set part never n whole w u members blocks given c.args.spare apart c.len.result few
+    allowed complement in
     none_exactly (λ list. IsBestOf (IsCoveredBy blocks) (IsMember allowed) c.len.result c.args.spare
     (map ip_network list.items)) (HasNoCover blocks (record { allowed = allowed; limit = c.len.result }))
     (HasCoverAdding c.args.spare (IsMemberOf n.family set) (IsMember never)) c.best_list.result
     (λ list best.
-    let fewest = fewest_answer set part never n whole w u members blocks given c.args.spare apart c.len.result few allowed
-    complement (map ip_network list.items) best in
+    let fewest = chosen (map ip_network list.items) best in
     (map ip_network list.items, fewest.added, fewest.cover))
     (λ none. absurd (some_answer set part never n whole w u members blocks given c.args.spare apart c.len.result few
     allowed complement none)) c.best_list.ensures.best c.best_list.ensures.none
