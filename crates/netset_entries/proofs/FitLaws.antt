@@ -1,7 +1,12 @@
--- Networks within limits: percentages, and one set in place of another with the same addresses.
-use Rattle.std.proofs.Common.{◌≡◌, ℕ, ◌+◌, ◌*◌, ◌/◌, ◌-◌, ◌^◌, ◌<◌, ◌≤◌, ◌↔◌, min, Bool, true, false}
-use Rattle.std.proofs.Common.{List, [], ◌∷◌, refl, sym, ap, ◌∙◌, arith}
-use Rattle.std.proofs.Math.Nat.{mul-add-div}
+-- Networks within limits: the fewest networks for a percentage, and one set in place of another with the same addresses.
+use Rattle.std.proofs.Common.{◌≡◌, ◌==◌, ℕ, ◌<◌, ◌↔◌, Bool, true, false, inl, inr}
+use Rattle.std.proofs.Common.{List, [], ◌∷◌, length, map, remove, vec_len}
+use Rattle.std.proofs.Common.{Result, Ok, Err, IfOk, Option, Some, None, IfSome, IfNone, IsNone}
+use Rattle.std.proofs.Common.{refl, sym, ap, ◌∙◌, subst, arith, eq-eqb}
+use Rattle.std.proofs.lemmas.Bool.{cases_lt}
+use Rattle.std.specs.Global.{Vec}
+use Rattle.ipnet.specs.declared.net.IpNet.{IpNet}
+use Rattle.ipnet.specs.NetworkOf.{ip_network}
 use Rattle.ipnet_base.specs.Address.{Family, IPv4, IPv6, Address}
 use Rattle.ipnet_base.specs.Network.{Network}
 use Rattle.ipnet_base.specs.Blocks.{IsCoveredBy}
@@ -24,14 +29,33 @@ use Rattle.netset_entries.specs.FittedLists.{percent_of, IsFitted, HasFit, HaveF
 use Rattle.netset_entries.specs.FittedLists.{IsFittedText, IsWanted, IsUnwanted, IsFitAnswer, HasNoFitAnswer}
 use Rattle.netset_entries.specs.Supernets.{IsOfFamily}
 
--- ---- percentages
+-- ---- the fewest networks, for a percentage
 
--- hundreds and the rest, each by itself
-pub split_percent : (h r p : ℕ) → (100 * h + r) * p / 100 ≡ h * p + r * p / 100
-split_percent h r p = ap (λ z. z / 100) product ∙ mul-add-div {m = 100} (omega arith) (h * p) (r * p)
-  where
-    product : (100 * h + r) * p ≡ 100 * (h * p) + r * p
-    product = ring arith
+module _ {E : Type 0} (S F : Address → Type 0) (limit : FitLimit) (percent count spare : ℕ) (of : limit ≡ Spare percent)
+    (counted : IsCountOf S count) (is : spare ≡ percent_of percent count) where
+  pub spare_some : (r : Result (Option (Vec IpNet)) E)
+      → IfOk r (λ o. IfSome o (λ list. IsFewestCover spare S F (map ip_network list.items)))
+      → IfOk r (λ o. IfSome o (λ list. IsFitted limit S F (map ip_network list.items)))
+  spare_some (Ok (Some list)) h =
+      subst (λ z. IsFitted z S F (map ip_network list.items)) (sym of)
+      (count, counted, subst (λ z. IsFewestCover z S F (map ip_network list.items)) is h)
+  spare_some (Ok None) h = h
+  spare_some (Err e) h = h
+
+  no_fit : ¬ (HasCoverAdding spare S F) → ¬ (HasFit (Spare percent) S F)
+  no_fit none (n, other, (networks, added, h)) =
+      none (
+        networks,
+        added,
+        subst (λ z. IsCoverAdding z S F networks added)
+            (ap (percent_of percent) (one_count S n count other counted) ∙ sym is) h,
+      )
+
+  pub spare_none : (r : Result (Option (Vec IpNet)) E) → IfOk r (λ o. IsNone o ↔ ¬ (HasCoverAdding spare S F))
+      → IfOk r (λ o. IfNone o (¬ (HasFit limit S F)))
+  spare_none (Ok (Some list)) h = tt
+  spare_none (Ok None) h = subst (λ z. ¬ (HasFit z S F)) (sym of) (no_fit (h.0 refl))
+  spare_none (Err e) h = h
 
 -- ---- one set in place of another with the same addresses
 
@@ -42,7 +66,7 @@ module _ (S T F G : Address → Type 0) (same : (x : Address) → S x ↔ T x) (
   added_count : (networks : List Network) (n : ℕ) → IsCountOf (IsAdded S networks) n → IsCountOf (IsAdded T networks) n
   added_count networks n = same_count (IsAdded S networks) (IsAdded T networks) n (added_same networks)
 
-  pub within_same : (limit : ℕ) (networks : List Network) → IsCoverWithin limit S F networks
+  within_same : (limit : ℕ) (networks : List Network) → IsCoverWithin limit S F networks
       → IsCoverWithin limit T G networks
   within_same limit networks h = record {
     valid = h.valid;
@@ -51,7 +75,7 @@ module _ (S T F G : Address → Type 0) (same : (x : Address) → S x ↔ T x) (
     avoids = λ x c g. h.avoids x c ((avoided x).1 g);
   }
 
-  pub adding_same : (spare : ℕ) (networks : List Network) (added : ℕ) → IsCoverAdding spare S F networks added
+  adding_same : (spare : ℕ) (networks : List Network) (added : ℕ) → IsCoverAdding spare S F networks added
       → IsCoverAdding spare T G networks added
   adding_same spare networks added h = record {
     valid = h.valid;
@@ -61,14 +85,12 @@ module _ (S T F G : Address → Type 0) (same : (x : Address) → S x ↔ T x) (
     few = h.few;
   }
 
-  pub fit_same : (limit : FitLimit) → HasFit limit S F → HasFit limit T G
+  fit_same : (limit : FitLimit) → HasFit limit S F → HasFit limit T G
   fit_same (Networks limit) (networks, h) = (networks, within_same limit networks h)
-  fit_same (Spare percent) (count, counted, networks, added, h) = (
+  fit_same (Spare percent) (count, counted, (networks, added, h)) = (
     count,
     same_count S T count same counted,
-    networks,
-    added,
-    adding_same (percent_of percent count) networks added h,
+    (networks, added, adding_same (percent_of percent count) networks added h),
   )
 
 back : {S T : Address → Type 0} → ((x : Address) → S x ↔ T x) → (x : Address) → T x ↔ S x
@@ -111,7 +133,7 @@ module _ (S T F G : Address → Type 0) (same : (x : Address) → S x ↔ T x) (
   of_family : (f : Family) (x : Address) → IsOfFamily S f x ↔ IsOfFamily T f x
   of_family f x = (λ h. (h.0, (same x).0 h.1), λ h. (h.0, (same x).1 h.1))
 
-  pub text_same : (request : FitRequest) (text report : List ℕ) → IsFittedText request S F text report
+  text_same : (request : FitRequest) (text report : List ℕ) → IsFittedText request S F text report
       → IsFittedText request T G text report
   text_same request text report h = record {
     networks = h.networks;
@@ -133,13 +155,13 @@ module _ (S T F G : Address → Type 0) (same : (x : Address) → S x ↔ T x) (
     };
   }
 
-  pub fits_same : (request : FitRequest) → HaveFits request S F → HaveFits request T G
+  fits_same : (request : FitRequest) → HaveFits request S F → HaveFits request T G
   fits_same request h = (
     fit_same (IsOfFamily S IPv4) (IsOfFamily T IPv4) F G (of_family IPv4) avoided request.ipv4 h.0,
     fit_same (IsOfFamily S IPv6) (IsOfFamily T IPv6) F G (of_family IPv6) avoided request.ipv6 h.1,
   )
 
-pub wanted_same : (has : Bool) (sets : List IpSet) (lists : List (List ListEntry)) → HaveMembers sets lists
+wanted_same : (has : Bool) (sets : List IpSet) (lists : List (List ListEntry)) → HaveMembers sets lists
     → (x : Address) → IsWanted IsMember has sets x ↔ IsWanted IsInEntries has lists x
 wanted_same false sets lists h x = some_same x sets lists h
 wanted_same true [] [] h x = (λ k. k, λ k. k)
@@ -147,13 +169,30 @@ wanted_same true [] (l ∷ lists) h x = absurd h
 wanted_same true (s ∷ sets) [] h x = absurd h
 wanted_same true (s ∷ sets) (l ∷ lists) h x = some_same x sets lists h.1
 
-pub unwanted_same : (has : Bool) (sets : List IpSet) (lists : List (List ListEntry)) → HaveMembers sets lists
+unwanted_same : (has : Bool) (sets : List IpSet) (lists : List (List ListEntry)) → HaveMembers sets lists
     → (x : Address) → IsUnwanted IsMember has sets x ↔ IsUnwanted IsInEntries has lists x
 unwanted_same false sets lists h x = (λ k. k, λ k. k)
 unwanted_same true [] [] h x = (λ k. k, λ k. k)
 unwanted_same true [] (l ∷ lists) h x = absurd h
 unwanted_same true (s ∷ sets) [] h x = absurd h
 unwanted_same true (s ∷ sets) (l ∷ lists) h x = h.0 x
+
+-- a list of sets that is not empty
+pub some_sets : (list : Vec IpSet) → (vec_len list == 0) ≡ false → 0 < length list.items
+some_sets list some = elim (cases_lt 0 (length list.items)) [
+  | inl lt ↦ lt
+  | inr le ↦
+      let none : vec_len list ≡ 0 = omega (arith, le, list.ok) in
+      let is = eq-eqb (vec_len list) 0 none in
+      absurd (cc)
+]
+
+-- the sets after the first
+pub wanted_left : (has : Bool) (sets : List IpSet) → has ≡ true → 0 < length sets → (x : Address)
+    → IsInSome IsMember (remove sets 0) x ↔ IsWanted IsMember has sets x
+wanted_left false sets is some x = absurd (cc)
+wanted_left true [] is some x = absurd (omega (arith, some))
+wanted_left true (s ∷ sets) is some x = (λ k. k, λ k. k)
 
 -- the sets of the lists, the first taken away if it is to be avoided
 module _ (request : FitRequest) (r : Request) (lists : List (List ℕ)) (sets left : List IpSet) (set never : IpSet)
