@@ -1,4 +1,4 @@
--- Networks within limits: the fewest networks for a percentage, and one set in place of another with the same addresses.
+-- Networks within limits: the fewest for a percentage, and one set in place of another with the same addresses.
 use Rattle.std.proofs.Common.{◌≡◌, ◌==◌, ℕ, ◌<◌, ◌↔◌, Bool, true, false, inl, inr}
 use Rattle.std.proofs.Common.{List, [], ◌∷◌, length, map, remove, vec_len}
 use Rattle.std.proofs.Common.{Result, Ok, Err, IfOk, Option, Some, None, IfSome, IfNone, IsNone}
@@ -31,9 +31,9 @@ use Rattle.netset_entries.specs.Supernets.{IsOfFamily}
 
 -- ---- the fewest networks, for a percentage
 
-module _ {E : Type 0} (S F : Address → Type 0) (limit : FitLimit) (percent count spare : ℕ) (of : limit ≡ Spare percent)
+module _ (S F : Address → Type 0) (limit : FitLimit) (percent count spare : ℕ) (of : limit ≡ Spare percent)
     (counted : IsCountOf S count) (is : spare ≡ percent_of percent count) where
-  pub spare_some : (r : Result (Option (Vec IpNet)) E)
+  pub spare_some : {E : Type 0} (r : Result (Option (Vec IpNet)) E)
       → IfOk r (λ o. IfSome o (λ list. IsFewestCover spare S F (map ip_network list.items)))
       → IfOk r (λ o. IfSome o (λ list. IsFitted limit S F (map ip_network list.items)))
   spare_some (Ok (Some list)) h =
@@ -51,8 +51,8 @@ module _ {E : Type 0} (S F : Address → Type 0) (limit : FitLimit) (percent cou
             (ap (percent_of percent) (one_count S n count other counted) ∙ sym is) h,
       )
 
-  pub spare_none : (r : Result (Option (Vec IpNet)) E) → IfOk r (λ o. IsNone o ↔ ¬ (HasCoverAdding spare S F))
-      → IfOk r (λ o. IfNone o (¬ (HasFit limit S F)))
+  pub spare_none : {E : Type 0} (r : Result (Option (Vec IpNet)) E)
+      → IfOk r (λ o. IsNone o ↔ ¬ (HasCoverAdding spare S F)) → IfOk r (λ o. IfNone o (¬ (HasFit limit S F)))
   spare_none (Ok (Some list)) h = tt
   spare_none (Ok None) h = subst (λ z. ¬ (HasFit z S F)) (sym of) (no_fit (h.0 refl))
   spare_none (Err e) h = h

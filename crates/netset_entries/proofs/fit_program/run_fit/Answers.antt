@@ -16,13 +16,14 @@ returns-then-not-write_and_flush-clause-cut_short g c = λ _.
 
 pub returns-else-not-write_and_flush-clause-answered : goal.returns-else-not-write_and_flush-clause-answered
 returns-else-not-write_and_flush-clause-answered g c = λ _.
-    let (front, begins, reported) = c.write_and_flush-2.ensures.front in record {
+    let Contents = g.W.Write.contents in
+    let (front, begins, reported) = c.write_and_flush-in-Ok.ensures.front in record {
       text = string_bytes c.in-Ok.fitted.text;
       report = string_bytes c.in-Ok.fitted.report;
       right = c.in-Ok.ensures.text;
-      written = subst (λ z. Appends (g.W.Write.contents c.args.out.now) (g.W.Write.contents c.write_and_flush.new.out) z)
+      written = subst (λ z. Appends (Contents c.args.out.now) (Contents c.write_and_flush.new.out) z)
           c.as_bytes.ensures.value (c.write_and_flush.ensures.whole c.if-not-write_and_flush.false);
       front = front;
-      begins = subst (λ z. StartsWith z front) c.as_bytes-2.ensures.value begins;
+      begins = subst (λ z. StartsWith z front) c.as_bytes-in-Ok.ensures.value begins;
       reported = reported;
     }
