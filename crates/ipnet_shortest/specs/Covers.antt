@@ -3,8 +3,8 @@
 -- In the examples, the set is 10.0.0.0/32, 10.0.0.3/32 and 10.0.0.8/32.
 use Rattle.std.specs.Prelude.{ℕ, ◌≤◌, List, length, All}
 use Rattle.ipnet_base.specs.Address.{Address}
-use Rattle.ipnet_base.specs.Network.{Network, IsNetwork}
-use Rattle.ipnet_base.specs.Blocks.{IsCoveredBy}
+use Rattle.ipnet_base.specs.Network.{Network, IsNetwork, IsTruncated}
+use Rattle.ipnet_base.specs.Blocks.{IsCoveredBy, ArePairwiseDisjoint, IsAscending}
 use Rattle.ipnet_sets.specs.Members.{IsCountOf}
 
 -- A list of at most `limit` networks that covers every address of the set, and no forbidden address.
@@ -14,6 +14,13 @@ pub record IsCoverWithin (limit : ℕ) (InSet IsForbidden : Address → Type 0) 
   pub few : length networks ≤ limit
   pub covers : (x : Address) → InSet x → IsCoveredBy networks x
   pub avoids : (x : Address) → IsCoveredBy networks x → ¬ (IsForbidden x)
+
+-- Networks without host bits, in ascending order. No two of them share an address.
+-- Example: 10.0.0.0/30, 10.0.0.8/32.
+pub record AreInOrder (networks : List Network) : Type 0 where
+  pub truncated : All IsTruncated networks
+  pub disjoint : ArePairwiseDisjoint networks
+  pub ascending : IsAscending networks
 
 -- The list covers the address, and the set does not have it.
 -- Example: 10.0.0.0/30, 10.0.0.8/32 adds the two addresses 10.0.0.1 and 10.0.0.2.

@@ -1,11 +1,12 @@
 //! Lists of networks that cover a set of addresses and avoid others: within a limit of networks, with as few other
 //! addresses as possible; or within a limit of other addresses, with as few networks as possible.
-ghost use Rattle.std.specs.Prelude.{◌↔◌, map, IfOk, IfSome, IfNone, IsNone};
+ghost use Rattle.std.specs.Prelude.{◌↔◌, map, All, IfOk, IfSome, IfNone, IsNone};
 ghost use Rattle.ipnet_base.specs.Address.{IPv4, IPv6};
 ghost use Rattle.ipnet_base.specs.Blocks.{IsCoveredBy};
+ghost use Rattle.ipnet_base.specs.Network.{IsTruncated};
 ghost use Rattle.ipnet.specs.NetworkOf.{ip_network};
 ghost use Rattle.ipnet_sets.specs.Members.{IsMember, IsMemberOf};
-ghost use Rattle.ipnet_shortest.specs.Covers.{IsBestCover, HasCoverWithin, IsFewestCover, HasCoverAdding};
+ghost use Rattle.ipnet_shortest.specs.Covers.{IsBestCover, HasCoverWithin, IsFewestCover, HasCoverAdding, AreInOrder};
 ghost use Rattle.ipnet_shortest.specs.Halves.{AreBlocksIn, IsWholeFamily};
 ghost use Rattle.ipnet_shortest.specs.PartCovers.{IsBestOf};
 ghost use Rattle.ipnet_shortest.specs.Parts.{IsLimit, HasNoCover};
@@ -32,6 +33,8 @@ fn best_list(
     ensures best { IfOk result (λ o. IfSome o (λ list. IsBestOf (IsCoveredBy (map ip_network blocks.now))
         (IsMember terms.now.allowed) terms.now.limit spare (map ip_network list.items))) }
     ensures none { IfOk result (λ o. IfNone o (HasNoCover (map ip_network blocks.now) terms.now)) }
+    ensures order { All IsTruncated (map ip_network blocks.now)
+        → IfOk result (λ o. IfSome o (λ list. AreInOrder (map ip_network list.items))) }
 {
     let Some(part) = terms.part(alloc, around, blocks)? else {
         return Ok(None);
@@ -62,6 +65,7 @@ fn cover_of_family(
         (IsMemberOf (ip_network family.now).family set.now) (IsMember never.now) (map ip_network list.items))) }
     ensures none { IfOk result (λ o. IsNone o
         ↔ ¬ (HasCoverWithin limit (IsMemberOf (ip_network family.now).family set.now) (IsMember never.now))) }
+    ensures order { IfOk result (λ o. IfSome o (λ list. AreInOrder (map ip_network list.items))) }
 {
     let around = whole_family(family);
     let part = set.within(alloc, &around)?;
@@ -93,6 +97,7 @@ fn fewest_of_family(
         (IsMemberOf (ip_network family.now).family set.now) (IsMember never.now) (map ip_network list.items))) }
     ensures none { IfOk result (λ o. IsNone o
         ↔ ¬ (HasCoverAdding spare (IsMemberOf (ip_network family.now).family set.now) (IsMember never.now))) }
+    ensures order { IfOk result (λ o. IfSome o (λ list. AreInOrder (map ip_network list.items))) }
 {
     let around = whole_family(family);
     let part = set.within(alloc, &around)?;
@@ -112,6 +117,7 @@ fn fewest_of_family(
 
 /// Returns a list of at most `limit` networks that contains every IPv4 address of the set, and no address of `never`.
 /// No such list contains fewer other addresses. If several contain as few, the result is one with the fewest networks.
+/// The networks are in ascending order, share no address, and have no host bits.
 ///
 /// The result is `None` if and only if there is no such list. Fails only if memory runs out. If the set has at most
 /// `limit` networks, they are the list. Else the call takes O(n · limit) time and memory, for n networks of the set.
@@ -130,6 +136,7 @@ pub fn shortest_ipv4_cover(
         (map ip_network list.items))) }
     ensures none { IfOk result (λ o. IsNone o
         ↔ ¬ (HasCoverWithin limit (IsMemberOf IPv4 set.now) (IsMember never.now))) }
+    ensures order { IfOk result (λ o. IfSome o (λ list. AreInOrder (map ip_network list.items))) }
 {
     let family = IpNet::new_assert(IpAddr::V4(Ipv4Addr::new(0, 0, 0, 0)), 0);
     cover_of_family(alloc, set, &family, limit, never)
@@ -150,6 +157,7 @@ pub fn shortest_ipv6_cover(
         (map ip_network list.items))) }
     ensures none { IfOk result (λ o. IsNone o
         ↔ ¬ (HasCoverWithin limit (IsMemberOf IPv6 set.now) (IsMember never.now))) }
+    ensures order { IfOk result (λ o. IfSome o (λ list. AreInOrder (map ip_network list.items))) }
 {
     let family = IpNet::new_assert(IpAddr::V6(Ipv6Addr::new(0, 0, 0, 0, 0, 0, 0, 0)), 0);
     cover_of_family(alloc, set, &family, limit, never)
@@ -157,6 +165,7 @@ pub fn shortest_ipv6_cover(
 
 /// Returns a list of the fewest networks that contains every IPv4 address of the set, no address of `never`, and at
 /// most `spare` other addresses. No list of as few networks contains fewer addresses.
+/// The networks are in ascending order, share no address, and have no host bits.
 ///
 /// The result is `None` if and only if the set has an address of `never`. Fails only if memory runs out. The call takes
 /// O(n²) time, and memory for at most n numbers for each prefix length, for n networks of the set.
@@ -175,6 +184,7 @@ pub fn fewest_ipv4_networks(
         (IsMember never.now) (map ip_network list.items))) }
     ensures none { IfOk result (λ o. IsNone o
         ↔ ¬ (HasCoverAdding spare (IsMemberOf IPv4 set.now) (IsMember never.now))) }
+    ensures order { IfOk result (λ o. IfSome o (λ list. AreInOrder (map ip_network list.items))) }
 {
     let whole = IpNet::new_assert(IpAddr::V4(Ipv4Addr::new(0, 0, 0, 0)), 0);
     fewest_of_family(alloc, set, &whole, spare, never)
@@ -195,6 +205,7 @@ pub fn fewest_ipv6_networks(
         (IsMember never.now) (map ip_network list.items))) }
     ensures none { IfOk result (λ o. IsNone o
         ↔ ¬ (HasCoverAdding spare (IsMemberOf IPv6 set.now) (IsMember never.now))) }
+    ensures order { IfOk result (λ o. IfSome o (λ list. AreInOrder (map ip_network list.items))) }
 {
     let whole = IpNet::new_assert(IpAddr::V6(Ipv6Addr::new(0, 0, 0, 0, 0, 0, 0, 0)), 0);
     fewest_of_family(alloc, set, &whole, spare, never)

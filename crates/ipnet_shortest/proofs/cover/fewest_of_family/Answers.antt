@@ -10,6 +10,7 @@ use Rattle.ipnet_shortest.specs.Covers.{IsFewestCover, HasCoverAdding}
 use Rattle.ipnet_shortest.specs.Halves.{AreBlocksIn}
 use Rattle.ipnet_shortest.specs.PartCovers.{IsBestOf}
 use Rattle.ipnet_shortest.specs.Parts.{HasNoCover}
+use Rattle.ipnet_shortest.proofs.OrderLaws.{blocks_in_order, each_truncated}
 use Rattle.ipnet_shortest.proofs.FamilyLaws.{exact_fewest_answer, in_order, fewest_answer, some_answer}
 use Rattle.ipnet_shortest.proofs.FamilyLaws.{weaker_some, none_exactly, no_blocks, has_blocks}
 use Rattle.ipnet_shortest.proofs.cover.fewest_of_family.Goals.{then-spare-eq0-via-then-spare-eq0}
@@ -142,3 +143,16 @@ returns-clause-none c =
     (map ip_network list.items, fewest.added, fewest.cover))
     (λ none. absurd (some_answer set part never n whole w u members blocks given c.args.spare apart c.len.result few
     allowed complement none)) c.best_list.ensures.best c.best_list.ensures.none
+
+pub returns-then-spare-eq0-clause-order : goal.returns-then-spare-eq0-clause-order
+returns-then-spare-eq0-clause-order c =
+    blocks_in_order (IsMember c.in_ok-part.part) (map ip_network c.in_ok-blocks.blocks.items)
+    c.in_ok-blocks.ensures.blocks
+
+pub returns-clause-order : goal.returns-clause-order
+returns-clause-order c =
+    let part = c.in_ok-part.part in
+    let blocks = map ip_network c.as_slice.result.now in
+    let given = subst (λ z. AreMaximalBlocks (IsMember part) 0 (map ip_network z)) (sym c.as_slice.ensures.value)
+    c.in_ok-blocks.ensures.blocks in
+    c.best_list.ensures.order (each_truncated (IsMember part) blocks given)
