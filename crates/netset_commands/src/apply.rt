@@ -39,7 +39,7 @@ fn changes_of(rt: &HostRuntime, name: &str, reports: Reports) -> Result<Vec<u8>,
 
 /// Reads the arguments, the list and the changes, prints the answer, and returns the exit status.
 #[inline(never)]
-pub fn applied(rt: &HostRuntime, matches: &ArgMatches, writers: &mut Writers<'_>) -> u8 {
+pub fn apply_changes(rt: &HostRuntime, matches: &ArgMatches, writers: &mut Writers<'_>) -> u8 {
     let Some(old) = matches.get_str(FIRST) else {
         return report_argument_failure(rt, ArgumentFailure::NoCommand);
     };

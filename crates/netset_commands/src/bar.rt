@@ -226,7 +226,7 @@ fn read_pictured(
 
 /// Reads the arguments and the lists, prints the bar, and returns the exit status.
 #[inline(never)]
-pub fn drawn(rt: &HostRuntime, matches: &ArgMatches, writers: &mut Writers<'_>) -> u8 {
+pub fn draw_bar(rt: &HostRuntime, matches: &ArgMatches, writers: &mut Writers<'_>) -> u8 {
     let request = match request_of(rt, matches, writers) {
         Ok(request) => request,
         Err(status) => return status,

@@ -24,7 +24,7 @@ pub fn changes_command<'a>(alloc: Global) -> Result<Command<'a>, AllocError> {
 
 /// Reads the arguments and the lists, prints the changes, and returns the exit status.
 #[inline(never)]
-pub fn changed(rt: &HostRuntime, matches: &ArgMatches, writers: &mut Writers<'_>) -> u8 {
+pub fn print_changes(rt: &HostRuntime, matches: &ArgMatches, writers: &mut Writers<'_>) -> u8 {
     let (Some(old), Some(new)) = (matches.get_str(FIRST), matches.get_str(OTHERS)) else {
         return report_argument_failure(rt, ArgumentFailure::NoCommand);
     };

@@ -47,7 +47,7 @@ pub fn redundant_command<'a>(alloc: Global) -> Result<Command<'a>, AllocError> {
 
 /// Reads the list, and prints the smallest networks around its addresses.
 #[inline(never)]
-pub fn supernet(rt: &HostRuntime, matches: &ArgMatches, writers: &mut Writers<'_>) -> u8 {
+pub fn print_supernet(rt: &HostRuntime, matches: &ArgMatches, writers: &mut Writers<'_>) -> u8 {
     let names = [matches.get_str(FIRST).unwrap_or(STANDARD_INPUT)];
     match session_of(rt, reading_work(matches), &names, writers.reports) {
         Ok(session) => {
@@ -60,7 +60,7 @@ pub fn supernet(rt: &HostRuntime, matches: &ArgMatches, writers: &mut Writers<'_
 
 /// Reads the list, and prints the entries that the others make unnecessary.
 #[inline(never)]
-pub fn redundant(rt: &HostRuntime, matches: &ArgMatches, writers: &mut Writers<'_>) -> u8 {
+pub fn print_redundant(rt: &HostRuntime, matches: &ArgMatches, writers: &mut Writers<'_>) -> u8 {
     let name = matches.get_str(FIRST).unwrap_or(STANDARD_INPUT);
     match bytes_of(rt, name, "entries", writers.reports) {
         Ok(bytes) => {
@@ -76,7 +76,7 @@ pub fn redundant(rt: &HostRuntime, matches: &ArgMatches, writers: &mut Writers<'
 }
 
 /// Reads the lists, and prints the pairs of an entry of each that share addresses.
-fn overlaps_of_two(
+fn print_overlaps_of_two(
     rt: &HostRuntime,
     matches: &ArgMatches,
     (name, other): (&str, &str),
@@ -105,10 +105,10 @@ fn overlaps_of_two(
 
 /// Reads the list, or two lists, and prints the pairs of entries that share addresses.
 #[inline(never)]
-pub fn overlaps(rt: &HostRuntime, matches: &ArgMatches, writers: &mut Writers<'_>) -> u8 {
+pub fn print_overlaps(rt: &HostRuntime, matches: &ArgMatches, writers: &mut Writers<'_>) -> u8 {
     let name = matches.get_str(FIRST).unwrap_or(STANDARD_INPUT);
     if let Some(other) = matches.get_str(OTHERS) {
-        return overlaps_of_two(rt, matches, (name, other), writers);
+        return print_overlaps_of_two(rt, matches, (name, other), writers);
     }
     match bytes_of(rt, name, "entries", writers.reports) {
         Ok(bytes) => {

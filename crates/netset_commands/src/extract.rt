@@ -40,7 +40,7 @@ pub fn extract_command<'a>(alloc: Global) -> Result<Command<'a>, AllocError> {
 
 /// Reads the arguments and the texts, prints the entries, and returns the exit status.
 #[inline(never)]
-pub fn extracted(rt: &HostRuntime, matches: &ArgMatches, writers: &mut Writers<'_>) -> u8 {
+pub fn extract_entries(rt: &HostRuntime, matches: &ArgMatches, writers: &mut Writers<'_>) -> u8 {
     let names = matches.get_strs(FIRST).unwrap_or(&[STANDARD_INPUT]);
     if reads_input_twice(names) {
         return report_argument_failure(rt, ArgumentFailure::InputTwice);

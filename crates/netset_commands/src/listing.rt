@@ -93,7 +93,7 @@ fn network_of(rt: &HostRuntime, matches: &ArgMatches) -> Option<IpNet> {
 }
 
 /// Reads the arguments of `split`, and prints the subnets.
-pub fn split(rt: &HostRuntime, matches: &ArgMatches, writers: &mut Writers<'_>) -> u8 {
+pub fn list_subnets(rt: &HostRuntime, matches: &ArgMatches, writers: &mut Writers<'_>) -> u8 {
     let Some(network) = network_of(rt, matches) else {
         return 2;
     };
@@ -107,7 +107,7 @@ pub fn split(rt: &HostRuntime, matches: &ArgMatches, writers: &mut Writers<'_>) 
 }
 
 /// Reads the argument of `hosts`, and prints the hosts.
-pub fn hosts(rt: &HostRuntime, matches: &ArgMatches, writers: &mut Writers<'_>) -> u8 {
+pub fn list_hosts(rt: &HostRuntime, matches: &ArgMatches, writers: &mut Writers<'_>) -> u8 {
     match network_of(rt, matches) {
         Some(network) => run_hosts(&network, &mut writers.answer, &mut writers.faults),
         None => 2,

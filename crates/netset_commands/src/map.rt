@@ -229,7 +229,7 @@ fn draw_named(
 
 /// Reads the arguments and the lists, prints the map, and returns the exit status.
 #[inline(never)]
-pub fn mapped(rt: &HostRuntime, matches: &ArgMatches, writers: &mut Writers<'_>) -> u8 {
+pub fn draw_map(rt: &HostRuntime, matches: &ArgMatches, writers: &mut Writers<'_>) -> u8 {
     let frame = match frame_of(rt, matches) {
         Ok(frame) => frame,
         Err(status) => return status,

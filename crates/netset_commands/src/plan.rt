@@ -76,7 +76,7 @@ fn bar_of(
 
 /// Reads the arguments and the list, prints the plan or its bar, and returns the exit status.
 #[inline(never)]
-pub fn planned(rt: &HostRuntime, matches: &ArgMatches, writers: &mut Writers<'_>) -> u8 {
+pub fn plan_networks(rt: &HostRuntime, matches: &ArgMatches, writers: &mut Writers<'_>) -> u8 {
     let words = matches.get_strs(LENGTHS).unwrap_or(&[]);
     let lengths = match lengths_of(rt, words) {
         Ok(lengths) => lengths,

@@ -27,7 +27,7 @@ pub fn prefix_command<'a>(alloc: Global) -> Result<Command<'a>, AllocError> {
 
 /// Reads the arguments and both lists, prints the verdicts, and returns the exit status.
 #[inline(never)]
-pub fn matched(rt: &HostRuntime, matches: &ArgMatches, writers: &mut Writers<'_>) -> u8 {
+pub fn judge_networks(rt: &HostRuntime, matches: &ArgMatches, writers: &mut Writers<'_>) -> u8 {
     let Some(list) = matches.get_str(FIRST) else {
         return report_argument_failure(rt, ArgumentFailure::NoCommand);
     };

@@ -1,28 +1,30 @@
 //! A run of the program: its arguments, its output and its command.
 
-use crate::apply::{APPLY, applied};
+use crate::apply::{APPLY, apply_changes};
 use crate::arguments::{
     ArgumentFailure, Call, OUTPUT, call_of, escaped, report_argument_failure, reports_of, words,
 };
-use crate::bar::{BAR, drawn};
-use crate::changes::{CHANGES, changed};
+use crate::bar::{BAR, draw_bar};
+use crate::changes::{CHANGES, print_changes};
 use crate::commands::{
     COMPARE, COMPLEMENT, COUNT, DIFFERENCE, FILTER, INTERSECTION, ROUTE, SYMMETRIC_DIFFERENCE,
     UNION, matches_of,
 };
-use crate::entries::{OVERLAPS, REDUNDANT, SUPERNET, overlaps, redundant, supernet};
-use crate::extract::{EXTRACT, extracted};
+use crate::entries::{
+    OVERLAPS, REDUNDANT, SUPERNET, print_overlaps, print_redundant, print_supernet,
+};
+use crate::extract::{EXTRACT, extract_entries};
 use crate::forms::form_of;
-use crate::lines::{LINES, filtered};
-use crate::listing::{HOSTS, SPLIT, hosts, split};
-use crate::map::{MAP, mapped};
+use crate::listing::{HOSTS, SPLIT, list_hosts, list_subnets};
+use crate::map::{MAP, draw_map};
 use crate::output::{CLOSED, Ends, Writers};
-use crate::plan::{PLAN, planned};
-use crate::prefixes::{PREFIX_LIST, matched};
+use crate::plan::{PLAN, plan_networks};
+use crate::prefixes::{PREFIX_LIST, judge_networks};
 use crate::reading::session_of;
-use crate::rules::{PERMITTED, UNREACHED, permitted, unreached};
+use crate::rules::{PERMITTED, UNREACHED, print_permitted, print_unreached};
 use crate::stream::stream_list;
-use crate::texts::{has_text_flag, routed};
+use crate::texts::{has_text_flag, route_with_text};
+use crate::whole_lines::{LINES, filter_lines};
 use clap::ArgMatches;
 use netset_forms::FormCommand;
 use netset_lib::{AnswerCommand, Work, run_text};
@@ -106,22 +108,22 @@ fn run_command(
         UNION | INTERSECTION | DIFFERENCE | SYMMETRIC_DIFFERENCE | COMPLEMENT | COUNT | COMPARE => {
             run_call(rt, name, matches, writers)
         }
-        CHANGES => changed(rt, matches, writers),
-        APPLY => applied(rt, matches, writers),
-        EXTRACT => extracted(rt, matches, writers),
+        CHANGES => print_changes(rt, matches, writers),
+        APPLY => apply_changes(rt, matches, writers),
+        EXTRACT => extract_entries(rt, matches, writers),
         FILTER => run_filter(rt, matches, writers),
         ROUTE => run_route(rt, matches, writers),
-        PLAN => planned(rt, matches, writers),
-        BAR => drawn(rt, matches, writers),
-        MAP => mapped(rt, matches, writers),
-        SUPERNET => supernet(rt, matches, writers),
-        REDUNDANT => redundant(rt, matches, writers),
-        OVERLAPS => overlaps(rt, matches, writers),
-        SPLIT => split(rt, matches, writers),
-        HOSTS => hosts(rt, matches, writers),
-        PERMITTED => permitted(rt, matches, writers),
-        UNREACHED => unreached(rt, matches, writers),
-        PREFIX_LIST => matched(rt, matches, writers),
+        PLAN => plan_networks(rt, matches, writers),
+        BAR => draw_bar(rt, matches, writers),
+        MAP => draw_map(rt, matches, writers),
+        SUPERNET => print_supernet(rt, matches, writers),
+        REDUNDANT => print_redundant(rt, matches, writers),
+        OVERLAPS => print_overlaps(rt, matches, writers),
+        SPLIT => list_subnets(rt, matches, writers),
+        HOSTS => list_hosts(rt, matches, writers),
+        PERMITTED => print_permitted(rt, matches, writers),
+        UNREACHED => print_unreached(rt, matches, writers),
+        PREFIX_LIST => judge_networks(rt, matches, writers),
         _ => report_argument_failure(rt, ArgumentFailure::NoCommand),
     }
 }
@@ -130,7 +132,7 @@ fn run_command(
 #[inline(never)]
 fn run_filter(rt: &HostRuntime, matches: &ArgMatches, writers: &mut Writers<'_>) -> u8 {
     if matches.get_flag(LINES) {
-        filtered(rt, matches, writers)
+        filter_lines(rt, matches, writers)
     } else {
         run_call(rt, FILTER, matches, writers)
     }
@@ -140,7 +142,7 @@ fn run_filter(rt: &HostRuntime, matches: &ArgMatches, writers: &mut Writers<'_>)
 #[inline(never)]
 fn run_route(rt: &HostRuntime, matches: &ArgMatches, writers: &mut Writers<'_>) -> u8 {
     if has_text_flag(matches) {
-        routed(rt, matches, writers)
+        route_with_text(rt, matches, writers)
     } else {
         run_call(rt, ROUTE, matches, writers)
     }

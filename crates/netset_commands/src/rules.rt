@@ -85,7 +85,7 @@ fn rules_of(rt: &HostRuntime, matches: &ArgMatches, reports: Reports) -> Result<
 
 /// Reads the arguments and the rules, prints what they permit, and returns the status.
 #[inline(never)]
-pub fn permitted(rt: &HostRuntime, matches: &ArgMatches, writers: &mut Writers<'_>) -> u8 {
+pub fn print_permitted(rt: &HostRuntime, matches: &ArgMatches, writers: &mut Writers<'_>) -> u8 {
     let form = match form_of(rt, matches) {
         Ok(form) => form,
         Err(status) => return status,
@@ -106,7 +106,7 @@ pub fn permitted(rt: &HostRuntime, matches: &ArgMatches, writers: &mut Writers<'
 
 /// Reads the rules, prints those that decide on no address, and returns the status.
 #[inline(never)]
-pub fn unreached(rt: &HostRuntime, matches: &ArgMatches, writers: &mut Writers<'_>) -> u8 {
+pub fn print_unreached(rt: &HostRuntime, matches: &ArgMatches, writers: &mut Writers<'_>) -> u8 {
     match rules_of(rt, matches, writers.reports) {
         Ok(list) => {
             let (out, faults) = (&mut writers.answer, &mut writers.faults);

@@ -28,7 +28,7 @@ pub fn has_text_flag(matches: &ArgMatches) -> bool
 
 /// Reads the arguments, the table and the list, prints the answers, and returns the exit status.
 #[inline(never)]
-pub fn routed(rt: &HostRuntime, matches: &ArgMatches, writers: &mut Writers<'_>) -> u8 {
+pub fn route_with_text(rt: &HostRuntime, matches: &ArgMatches, writers: &mut Writers<'_>) -> u8 {
     let Some(table) = matches.get_str(FIRST) else {
         return report_argument_failure(rt, ArgumentFailure::NoCommand);
     };

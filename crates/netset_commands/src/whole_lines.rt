@@ -41,7 +41,7 @@ pub fn with_lines<'a>(alloc: Global, command: Command<'a>) -> Result<Command<'a>
 
 /// Reads the set and the arguments, and prints the lines of the log while it is read. Returns the exit status.
 #[inline(never)]
-pub fn filtered(rt: &HostRuntime, matches: &ArgMatches, writers: &mut Writers<'_>) -> u8 {
+pub fn filter_lines(rt: &HostRuntime, matches: &ArgMatches, writers: &mut Writers<'_>) -> u8 {
     let Some(set) = matches.get_str(FIRST) else {
         return report_argument_failure(rt, ArgumentFailure::NoCommand);
     };
