@@ -1,3 +1,7 @@
 -- The definitions that the contracts of this crate use.
 pub mod Arguments
+pub mod Calls
 pub mod Files
+pub mod Logs
+pub mod Statuses
+pub mod Words

@@ -1,5 +1,6 @@
 //! The output of a command: standard output, or a file that only a whole answer replaces.
-ghost use Rattle.std.specs.Prelude.{IsTrue};
+ghost use Rattle.std.specs.Prelude.{◌≤◌, IsTrue};
+ghost use Rattle.netset_commands.specs.Statuses.{IsExitStatus};
 
 use crate::lists::Reports;
 use crate::replacement::{OutputFailure, Replacement};
@@ -190,7 +191,9 @@ impl<'a> Writers<'a> {
     /// Ends a command with this status, and returns the exit status of the program. The file is replaced at status 0
     /// or 1; otherwise it stays as it is.
     #[inline(never)]
-    pub fn end(self, status: u8) -> u8 {
+    pub fn end(self, status: u8) -> u8
+        ensures { status ≤ 2 → IsExitStatus result }
+    {
         let Writers {
             mut answer,
             mut faults,

@@ -1,4 +1,6 @@
 //! A run of the program: its arguments, its output and its command.
+ghost use Rattle.std.specs.Prelude.{◌≤◌};
+ghost use Rattle.netset_commands.specs.Statuses.{IsExitStatus};
 
 use crate::apply::{APPLY, apply_changes};
 use crate::arguments::{
@@ -31,7 +33,9 @@ use netset_lib::{AnswerCommand, Work, run_text};
 use std::io::{ErrorKind, Write};
 
 /// Runs the program that prints this version of itself, and returns its exit status.
-pub fn run(rt: &HostRuntime, version: &'static str) -> u8 {
+pub fn run(rt: &HostRuntime, version: &'static str) -> u8
+    ensures { IsExitStatus result }
+{
     let words = match words(rt) {
         Ok(words) => words,
         Err(status) => return status,
@@ -49,12 +53,9 @@ pub fn run(rt: &HostRuntime, version: &'static str) -> u8 {
 /// Prints what is wrong with these words, and returns the status. Their bytes are escaped, as in names: the words are
 /// escaped, and then parsed again.
 #[inline(never)]
-fn print_fault(
-    rt: &HostRuntime,
-    error: &clap::Error,
-    words: &[String],
-    version: &'static str,
-) -> u8 {
+fn print_fault(rt: &HostRuntime, error: &clap::Error, words: &[String], version: &'static str) -> u8
+    ensures { IsExitStatus result }
+{
     if let Ok(shown) = escaped(rt.alloc(), words) {
         if let Err(fault) = matches_of(rt.alloc(), shown.as_slice(), version) {
             return print_usage(rt, &fault);
@@ -64,7 +65,9 @@ fn print_fault(
 }
 
 /// Prints help, the version or what is wrong with the arguments, and returns the status.
-fn print_usage(rt: &HostRuntime, error: &clap::Error) -> u8 {
+fn print_usage(rt: &HostRuntime, error: &clap::Error) -> u8
+    ensures { IsExitStatus result }
+{
     let result = error.print(rt);
     if error.use_stderr() {
         return 2;
@@ -81,7 +84,9 @@ fn print_usage(rt: &HostRuntime, error: &clap::Error) -> u8 {
 
 /// Opens the output, runs the command of this name, and returns its exit status.
 #[inline(never)]
-fn open_and_run(rt: &HostRuntime, name: &str, matches: &ArgMatches) -> u8 {
+fn open_and_run(rt: &HostRuntime, name: &str, matches: &ArgMatches) -> u8
+    ensures { IsExitStatus result }
+{
     let file = matches.get_str(OUTPUT);
     let ends = Ends::new();
     let mut writers = match Writers::open(rt, file, reports_of(matches), &ends) {
@@ -98,12 +103,9 @@ fn open_and_run(rt: &HostRuntime, name: &str, matches: &ArgMatches) -> u8 {
 
 /// Runs the command of this name, and returns its status.
 #[inline(never)]
-fn run_command(
-    rt: &HostRuntime,
-    name: &str,
-    matches: &ArgMatches,
-    writers: &mut Writers<'_>,
-) -> u8 {
+fn run_command(rt: &HostRuntime, name: &str, matches: &ArgMatches, writers: &mut Writers<'_>) -> u8
+    ensures { result ≤ 2 }
+{
     match name {
         UNION | INTERSECTION | DIFFERENCE | SYMMETRIC_DIFFERENCE | COMPLEMENT | COUNT | COMPARE => {
             run_call(rt, name, matches, writers)
@@ -130,7 +132,9 @@ fn run_command(
 
 /// Prints the lines of a text or the entries of a list, and returns the status.
 #[inline(never)]
-fn run_filter(rt: &HostRuntime, matches: &ArgMatches, writers: &mut Writers<'_>) -> u8 {
+fn run_filter(rt: &HostRuntime, matches: &ArgMatches, writers: &mut Writers<'_>) -> u8
+    ensures { result ≤ 2 }
+{
     if matches.get_flag(LINES) {
         filter_lines(rt, matches, writers)
     } else {
@@ -140,7 +144,9 @@ fn run_filter(rt: &HostRuntime, matches: &ArgMatches, writers: &mut Writers<'_>)
 
 /// Prints the routes of entries, with the texts of the table if they are asked for, and returns the status.
 #[inline(never)]
-fn run_route(rt: &HostRuntime, matches: &ArgMatches, writers: &mut Writers<'_>) -> u8 {
+fn run_route(rt: &HostRuntime, matches: &ArgMatches, writers: &mut Writers<'_>) -> u8
+    ensures { result ≤ 2 }
+{
     if has_text_flag(matches) {
         route_with_text(rt, matches, writers)
     } else {
@@ -150,7 +156,9 @@ fn run_route(rt: &HostRuntime, matches: &ArgMatches, writers: &mut Writers<'_>) 
 
 /// Reads the arguments and the lists, and runs the operation or the query.
 #[inline(never)]
-fn run_call(rt: &HostRuntime, name: &str, matches: &ArgMatches, writers: &mut Writers<'_>) -> u8 {
+fn run_call(rt: &HostRuntime, name: &str, matches: &ArgMatches, writers: &mut Writers<'_>) -> u8
+    ensures { result ≤ 2 }
+{
     let call = match call_of(rt.alloc(), name, matches) {
         Ok(call) => call,
         Err(failure) => return report_argument_failure(rt, failure),
@@ -168,7 +176,9 @@ fn run_operation(
     matches: &ArgMatches,
     call: Call<'_>,
     writers: &mut Writers<'_>,
-) -> u8 {
+) -> u8
+    ensures { result ≤ 2 }
+{
     let form = match form_of(rt, matches) {
         Ok(form) => form,
         Err(status) => return status,
@@ -185,7 +195,9 @@ fn run_operation(
 
 /// Reads the lists, prints the answer to the query, and returns the status.
 #[inline(never)]
-fn run_query(rt: &HostRuntime, call: Call<'_>, writers: &mut Writers<'_>) -> u8 {
+fn run_query(rt: &HostRuntime, call: Call<'_>, writers: &mut Writers<'_>) -> u8
+    ensures { result ≤ 2 }
+{
     let work = call.work;
     let names = call.names.as_slice();
     match names {
