@@ -1,11 +1,12 @@
 -- The operation or the query that a command line asks for, with its lists.
 use Rattle.std.specs.Prelude.{◌≡◌, ◌≢◌, ◌<◌, ◌++◌, ℕ, true, false, List, map, codes}
 use Rattle.clap.specs.declared.parser.matches.ArgMatches.{ArgMatches}
-use Rattle.netset_commands.specs.Arguments.{AreListNames, IsFlag, have_control, input_count, values_of}
+use Rattle.netset_commands.specs.Arguments.{AreListNames, IsFlag, have_control, input_count, list_name, values_of}
 use Rattle.netset_commands.specs.declared.arguments.ArgumentFailure.{ArgumentFailure}
 use Rattle.netset_commands.specs.declared.arguments.ArgumentFailure.TheVariants.{InputTwice, ControlCharacter}
 use Rattle.netset_commands.specs.declared.arguments.ArgumentFailure.TheVariants.{NoCommand, Memory}
 use Rattle.netset_commands.specs.declared.arguments.Call.{Call}
+use Rattle.netset_commands.specs.declared.arguments.TwoNames.{TwoNames}
 use Rattle.netset_lib.specs.Commands.{name_of, work_of}
 use Rattle.netset_lib.specs.Counts.{Names}
 use Rattle.netset_lib.specs.declared.command.Flags.{Flags}
@@ -50,6 +51,12 @@ IsNameFailure work names InputTwice = 1 < input_count names
 IsNameFailure work names ControlCharacter = PrintsNames work × (have_control names ≡ true)
 IsNameFailure work names NoCommand = ⊥
 IsNameFailure work names Memory = ⊥
+
+-- These are the names of the first list of a command line, and of the other.
+-- Example: `a` and `b` of `changes a b`.
+pub record AreTwoNames (matches : ArgMatches) (names : TwoNames) : Type 0 where
+  pub first : names.first.now ≡ list_name matches (codes "first")
+  pub other : names.other.now ≡ list_name matches (codes "others")
 
 -- These are the names of the lists of a command line that asks for this work.
 abbrev pub AreNamesOf : ArgMatches → Work → Names → Type 0

@@ -3,5 +3,6 @@ pub mod Arguments
 pub mod Calls
 pub mod Files
 pub mod Logs
+pub mod MapTitles
 pub mod Statuses
 pub mod Words

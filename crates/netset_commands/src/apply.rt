@@ -43,7 +43,7 @@ pub fn apply_changes(rt: &HostRuntime, matches: &ArgMatches, writers: &mut Write
     ensures { result ≤ 2 }
 {
     let names = match two_or_report(rt, matches) {
-        Ok(names) => names,
+        Ok(names) => names.in_order(),
         Err(status) => return status,
     };
     let session = match session_of(rt, reading_work(matches), &names[..1], writers.reports) {

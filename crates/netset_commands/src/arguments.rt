@@ -4,6 +4,7 @@ ghost use Rattle.std.specs.Prelude.{OnOk, IsOk};
 ghost use Rattle.netset_commands.specs.Arguments.{values_of, list_name, list_names, standard_input, IsFlag, AreListNames};
 ghost use Rattle.netset_commands.specs.Arguments.{empties_of, input_count, have_control, most_before_input};
 ghost use Rattle.netset_commands.specs.Calls.{IsCall, IsCallFailure, IsNameFailure, AreGoodNames, PrintsNames, AreFlags};
+ghost use Rattle.netset_commands.specs.Calls.{AreTwoNames};
 ghost use Rattle.netset_commands.specs.declared.arguments.ArgumentFailure.TheVariants.{InputTwice};
 
 use crate::input::STANDARD_INPUT;
@@ -318,16 +319,30 @@ pub fn name_of_list<'a>(matches: &ArgMatches<'a>, id: &str) -> &'a str
 pub fn names_of_any<'m, 'a>(matches: &'m ArgMatches<'a>) -> &'m [&'a str]
     ensures { map (λ name. name.now) result.now ≡ list_names matches.now (codes "first") }
 {
-    match matches.get_strs(FIRST) {
-        Some(names) => names,
-        None => &[STANDARD_INPUT],
+    matches.get_strs(FIRST).unwrap_or(&[STANDARD_INPUT])
+}
+
+/// The names of the two lists of a command.
+#[derive(Clone, Copy)]
+pub struct TwoNames<'a> {
+    /// The list that is named first.
+    pub first: &'a str,
+    /// The list after it.
+    pub other: &'a str,
+}
+
+impl<'a> TwoNames<'a> {
+    /// The names, in order.
+    pub fn in_order(self) -> [&'a str; 2]
+        ensures { result ≡ self.entry.first ∷ self.entry.other ∷ [] }
+    {
+        [self.first, self.other]
     }
 }
 
-/// The names of the two lists of a command, the first list first. They cannot both be standard input.
-pub fn names_of_two<'a>(matches: &ArgMatches<'a>) -> Result<[&'a str; 2], ArgumentFailure>
-    ensures named { IfOk result (λ names. map (λ name. name.now) names
-        ≡ list_name matches.now (codes "first") ∷ list_name matches.now (codes "others") ∷ []) }
+/// The names of the two lists of a command. They cannot both be standard input.
+fn names_of_two<'a>(matches: &ArgMatches<'a>) -> Result<TwoNames<'a>, ArgumentFailure>
+    ensures named { IfOk result (AreTwoNames matches.now) }
     ensures twice { IsErr result ↔ ((list_name matches.now (codes "first") ≡ standard_input)
         × (list_name matches.now (codes "others") ≡ standard_input)) }
     ensures failed { IfErr result (λ failure. failure ≡ InputTwice) }
@@ -337,13 +352,12 @@ pub fn names_of_two<'a>(matches: &ArgMatches<'a>) -> Result<[&'a str; 2], Argume
     if first == STANDARD_INPUT && other == STANDARD_INPUT {
         return Err(ArgumentFailure::InputTwice);
     }
-    Ok([first, other])
+    Ok(TwoNames { first, other })
 }
 
 /// Returns what `names_of_two` does. If that fails, it is reported, and the error is the exit status.
-pub fn two_or_report<'a>(rt: &HostRuntime, matches: &ArgMatches<'a>) -> Result<[&'a str; 2], u8>
-    ensures named { IfOk result (λ names. map (λ name. name.now) names
-        ≡ list_name matches.now (codes "first") ∷ list_name matches.now (codes "others") ∷ []) }
+pub fn two_or_report<'a>(rt: &HostRuntime, matches: &ArgMatches<'a>) -> Result<TwoNames<'a>, u8>
+    ensures named { IfOk result (AreTwoNames matches.now) }
     ensures failed { IfErr result (λ status. status ≡ 2) }
 {
     match names_of_two(matches) {

@@ -27,7 +27,7 @@ pub fn print_changes(rt: &HostRuntime, matches: &ArgMatches, writers: &mut Write
     ensures { result ≤ 2 }
 {
     let names = match two_or_report(rt, matches) {
-        Ok(names) => names,
+        Ok(names) => names.in_order(),
         Err(status) => return status,
     };
     match session_of(rt, comparing_work(matches), &names, writers.reports) {

@@ -84,7 +84,7 @@ fn print_overlaps_of_two(rt: &HostRuntime, matches: &ArgMatches, writers: &mut W
     ensures { result ≤ 2 }
 {
     let names = match two_or_report(rt, matches) {
-        Ok(names) => names,
+        Ok(names) => names.in_order(),
         Err(status) => return status,
     };
     let bytes = match bytes_of(rt, names[0], "entries", writers.reports) {

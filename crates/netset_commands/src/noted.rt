@@ -1,4 +1,7 @@
 //! The lists of a map: a session that notes the largest entries of each list while it reads them.
+ghost use Rattle.std.specs.Prelude.{◌≡◌, ◌≤◌, ◌↔◌, ◌<◌, ◌++◌, codes, length, string_bytes, IsTrue, IfOk, OnOk};
+ghost use Rattle.netset_commands.specs.MapTitles.{listed_title, longer_title, longer_count, is_v4, AreFirst};
+
 use crate::lists::ListReader;
 use ipnet::{Grammar, IpNet};
 use ipnet_lists::ReadFailure;
@@ -83,16 +86,31 @@ pub struct EntryList {
     pub count: usize,
 }
 
+/// The text of an entry after the name of its list.
+fn title_after(alloc: Global, name: &str, title: &str) -> Result<String, AllocError>
+    ensures { IfOk result (λ text. string_bytes text ≡ name.now ++ codes ": " ++ title.now) }
+{
+    let mut text = String::from_str(alloc, name)?;
+    text.push_str(": ")?;
+    text.push_str(title)?;
+    Ok(text)
+}
+
 /// The text of an entry of the list at this place; after the name of the list, if there are several.
 fn listed_title(
     alloc: Global,
     names: &[&str],
     place: usize,
     title: String,
-) -> Result<String, AllocError> {
+) -> Result<String, AllocError>
+    ensures { IfOk result (λ text. string_bytes text ≡ listed_title names.now place (string_bytes title)) }
+{
+    if names.len() <= 1 {
+        return Ok(title);
+    }
     match names.get(place) {
-        Some(name) if names.len() > 1 => format!(in alloc; "{name}: {title}"),
-        _ => Ok(title),
+        Some(name) => title_after(alloc, name, title.as_str()),
+        None => Ok(title),
     }
 }
 
@@ -120,7 +138,10 @@ fn all_entries(
 
 /// Adds the text of another entry of the network, if neither the title nor all that was added is too long. Returns how
 /// many bytes were added to all titles by then.
-fn push_title(title: &mut String, other: &str, added: usize) -> Result<usize, AllocError> {
+fn push_title(title: &mut String, other: &str, added: usize) -> Result<usize, AllocError>
+    ensures title { OnOk result (string_bytes title.new ≡ longer_title (string_bytes title.old) other.now added) }
+    ensures count { IfOk result (λ count. count ≡ longer_count (string_bytes title.old) other.now added) }
+{
     if title.len() >= MOST_BYTES || added >= MOST_ADDED {
         return Ok(added);
     }
@@ -144,23 +165,31 @@ fn join_titles(alloc: Global, entries: Vec<MapEntry>) -> Result<Vec<MapEntry>, A
     Ok(joined)
 }
 
+/// Whether the network is of IPv4.
+fn is_ipv4(network: &IpNet) -> bool
+    ensures { result ≡ is_v4 network.now }
+{
+    match network {
+        IpNet::V4(_) => true,
+        IpNet::V6(_) => false,
+    }
+}
+
 /// The first of the entries of each family, as many as a map has.
-fn first_entries(alloc: Global, entries: Vec<MapEntry>) -> Result<Vec<MapEntry>, AllocError> {
+fn first_entries(alloc: Global, entries: Vec<MapEntry>) -> Result<Vec<MapEntry>, AllocError>
+    ensures { IfOk result (λ first. AreFirst entries.items first.items) }
+{
     let mut first = Vec::new(alloc);
     let mut ipv4: usize = 0;
     let mut ipv6: usize = 0;
     for entry in entries {
-        let count = match entry.network {
-            IpNet::V4(_) => {
-                ipv4 = ipv4.saturating_add(1);
-                ipv4
+        if is_ipv4(&entry.network) {
+            if ipv4 < MOST {
+                ipv4 += 1;
+                first.push(entry)?;
             }
-            IpNet::V6(_) => {
-                ipv6 = ipv6.saturating_add(1);
-                ipv6
-            }
-        };
-        if count <= MOST {
+        } else if ipv6 < MOST {
+            ipv6 += 1;
             first.push(entry)?;
         }
     }

@@ -29,7 +29,7 @@ pub fn judge_networks(rt: &HostRuntime, matches: &ArgMatches, writers: &mut Writ
     ensures { result ≤ 2 }
 {
     let names = match two_or_report(rt, matches) {
-        Ok(names) => names,
+        Ok(names) => names.in_order(),
         Err(status) => return status,
     };
     let prefixes = match bytes_of(rt, names[0], "rules", writers.reports) {

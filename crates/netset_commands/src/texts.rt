@@ -29,7 +29,7 @@ pub fn route_with_text(rt: &HostRuntime, matches: &ArgMatches, writers: &mut Wri
     ensures { result ≤ 2 }
 {
     let names = match two_or_report(rt, matches) {
-        Ok(names) => names,
+        Ok(names) => names.in_order(),
         Err(status) => return status,
     };
     let table = match bytes_of(rt, names[0], "entries", writers.reports) {

@@ -65,7 +65,7 @@ pub fn filter_lines(rt: &HostRuntime, matches: &ArgMatches, writers: &mut Writer
     ensures { result ≤ 2 }
 {
     let names = match two_or_report(rt, matches) {
-        Ok(names) => names,
+        Ok(names) => names.in_order(),
         Err(status) => return status,
     };
     let how = lines_request(matches);

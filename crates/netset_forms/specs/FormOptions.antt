@@ -126,7 +126,7 @@ IsFormFault form options (Faults.NftName name) = (form ≡ Nft) × ¬ (IsNftName
 IsFormFault form options (Faults.IpsetName name) = (form ≡ Ipset) × ¬ (IsIpsetName name.now)
     × ((options.sets.ipv4 ≡ Some name) ⊎ (options.sets.ipv6 ≡ Some name))
 IsFormFault form options Faults.OneSet =
-    IsSomeAnd options.sets.ipv4 (λ ipv4. IsSomeAnd options.sets.ipv6 (λ ipv6. ipv4.now ≡ ipv6.now))
+    IsSomeAnd options.sets.ipv4 (λ ipv4. IsSomeAnd options.sets.ipv6 (λ ipv6. ¬ (ipv4.now ≢ ipv6.now)))
 IsFormFault form options Faults.NewSet = (form ≡ Ipset)
     × IsSomeAnd options.sets.ipv4 (λ ipv4. IsSomeAnd options.sets.ipv6 (λ ipv6. ¬ (AreApart ipv4.now ipv6.now)))
 IsFormFault form options Faults.OtherMaxelem = IsSome options.maxelem × (form ≢ Ipset)

@@ -1,0 +1,41 @@
+-- The entries of several lists on one map: their titles, and how many there are.
+use Rattle.std.specs.Prelude.{◌≡◌, ◌++◌, ◌+◌, ◌||◌, nat_le, nat_lt, ℕ, Bool, true, false, cond, not, List, length, filter, take}
+use Rattle.std.specs.Prelude.{Option, Some, None, codes, slice_get}
+use Rattle.std.specs.Borrow.{Bor}
+use Rattle.ipnet.specs.declared.net.IpNet.{IpNet}
+use Rattle.ipnet.specs.declared.net.IpNet.TheVariants.{V4, V6}
+use Rattle.netset_lib.specs.Counts.{Names}
+use Rattle.svg_maps.specs.declared.entry.MapEntry.{MapEntry}
+
+-- The title of an entry after the name of its list, if the list has a name.
+-- Example: `office.txt: 10.20.94.0/23: desks` of `office.txt` and `10.20.94.0/23: desks`.
+abbrev pub title_after : Option (Bor (List ℕ)) → List ℕ → List ℕ
+title_after None title = title
+title_after (Some name) title = name.now ++ codes ": " ++ title
+
+-- The title of an entry of the list at this place. If there are several lists, the name of its list comes first.
+abbrev pub listed_title : Names → ℕ → List ℕ → List ℕ
+listed_title names place title = cond (nat_lt 1 (length names)) (title_after (slice_get names place) title) title
+
+-- The title is long, or much was added to all titles: then nothing more is added.
+abbrev pub is_full : List ℕ → ℕ → Bool
+is_full title added = nat_le 300 (length title) || nat_le 50000 added
+
+-- The title of a network after the text of another of its entries. `added` is the number of bytes that were added to
+-- all titles.
+abbrev pub longer_title : List ℕ → List ℕ → ℕ → List ℕ
+longer_title title other added = cond (is_full title added) title (title ++ codes "; " ++ other)
+
+-- How many bytes were added to all titles then.
+abbrev pub longer_count : List ℕ → List ℕ → ℕ → ℕ
+longer_count title other added = cond (is_full title added) added (added + length other)
+
+-- The network is of IPv4.
+abbrev pub is_v4 : IpNet → Bool
+is_v4 (V4 net) = true
+is_v4 (V6 net) = false
+
+-- Of each family these are the first 1,500 entries, or all.
+pub record AreFirst (entries first : List MapEntry) : Type 0 where
+  pub ipv4 : filter (λ e. is_v4 e.network) first ≡ take 1500 (filter (λ e. is_v4 e.network) entries)
+  pub ipv6 : filter (λ e. not (is_v4 e.network)) first ≡ take 1500 (filter (λ e. not (is_v4 e.network)) entries)
