@@ -1,3 +1,3 @@
 -- Lemmas of this crate.
-mod MapLaws
-mod WordLaws
+pub mod MapLaws
+pub mod WordLaws

@@ -47,7 +47,7 @@ empties_of true allows = Refuse
 empties_of false true = Allow
 empties_of false false = Report
 
--- How many of the names are that of standard input.
+-- How many of the names are `-`, the name of standard input.
 abbrev pub input_count : Names → ℕ
 input_count names = count_by (λ name. bytes_eq name.now standard_input) names
 

@@ -1,12 +1,12 @@
 -- How a text of UTF-16 begins. Entries are not found in such a text.
 use Rattle.std.specs.Prelude.{◌==◌, ◌&&◌, ◌||◌, nat_eq, ℕ, Bool, true, cond, not, List, [], ◌∷◌, length}
-use Rattle.std.specs.Slice.{starts_with}
+use Rattle.std.specs.List.{starts_with}
 
 -- One of the two bytes is NUL, and the other is not.
 abbrev pub is_one_null : ℕ → ℕ → Bool
 is_one_null byte next = cond (byte == 0) (not (next == 0)) (next == 0)
 
--- Of any two neighbours one is NUL, and the other is not. So it is in ASCII as UTF-16.
+-- Any two neighbours are NUL and another byte, as in ASCII text in UTF-16.
 -- Example: 0, 49, 0, 48 and 49, 0, 48.
 abbrev pub alternate : List ℕ → Bool
 alternate [] = true

@@ -1,6 +1,6 @@
 -- The entries of several lists on one map: their titles, and how many there are.
-use Rattle.std.specs.Prelude.{◌≡◌, ◌++◌, ◌+◌, ◌||◌, nat_le, nat_lt, ℕ, Bool, true, false, cond, not, List, length, filter, take}
-use Rattle.std.specs.Prelude.{Option, Some, None, codes, slice_get}
+use Rattle.std.specs.Prelude.{◌≡◌, ◌≤◌, ◌++◌, ◌+◌, ◌||◌, nat_le, nat_lt, ℕ, Bool, true, false, cond, not, List}
+use Rattle.std.specs.Prelude.{Option, Some, None, codes, filter, length, slice_get, take}
 use Rattle.std.specs.Borrow.{Bor}
 use Rattle.ipnet.specs.declared.net.IpNet.{IpNet}
 use Rattle.ipnet.specs.declared.net.IpNet.TheVariants.{V4, V6}
@@ -35,7 +35,12 @@ abbrev pub is_v4 : IpNet → Bool
 is_v4 (V4 net) = true
 is_v4 (V6 net) = false
 
--- Of each family these are the first 1,500 entries, or all.
+-- These are the first 1,500 entries of each family, or all.
 pub record AreFirst (entries first : List MapEntry) : Type 0 where
   pub ipv4 : filter (λ e. is_v4 e.network) first ≡ take 1500 (filter (λ e. is_v4 e.network) entries)
   pub ipv6 : filter (λ e. not (is_v4 e.network)) first ≡ take 1500 (filter (λ e. not (is_v4 e.network)) entries)
+
+-- Each family has at most 1,500 entries.
+pub record AreFew (entries : List MapEntry) : Type 0 where
+  pub ipv4 : length (filter (λ e. is_v4 e.network) entries) ≤ 1500
+  pub ipv6 : length (filter (λ e. not (is_v4 e.network)) entries) ≤ 1500

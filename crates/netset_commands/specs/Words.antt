@@ -1,5 +1,6 @@
 -- Words of a command line that are networks, prefix lengths and choices.
-use Rattle.std.specs.Prelude.{◌≡◌, ◌<◌, ℕ, Bool, true, false, List, [], ◌∷◌, length, codes, Some, None, unwrap_or, option_map}
+use Rattle.std.specs.Prelude.{◌≡◌, ◌<◌, ℕ, Bool, true, false, List, [], ◌∷◌, length, codes, Some, None}
+use Rattle.std.specs.Prelude.{unwrap_or, option_map}
 use Rattle.clap.specs.declared.parser.matches.ArgMatches.{ArgMatches}
 use Rattle.clap.specs.Matches.{found_of, first_value}
 use Rattle.ipnet.specs.NetworkOf.{ip_network}
@@ -50,7 +51,7 @@ AreLengths [] (n ∷ lengths) = ⊥
 AreLengths (word ∷ words) [] = ⊥
 AreLengths (word ∷ words) (n ∷ lengths) = IsLengthText word.now n × AreLengths words lengths
 
--- What decides on the marks of a bar, by the flags `--ascii` and `--utf8`, and whether the output is a terminal.
+-- The choice of the marks of a bar, by the flags `--ascii` and `--utf8`, and whether the output is a terminal.
 abbrev pub mark_choice : Bool → Bool → Bool → MarkChoice
 mark_choice true utf8 terminal = Ascii
 mark_choice false true terminal = Utf8
@@ -78,7 +79,7 @@ pub record AreFormOptions (matches : ArgMatches) (options : FormOptions) : Type 
   pub format : option_map (λ word. word.now) options.format ≡ first_value (found_of matches) (codes "format")
   pub ranges : IsFlag matches (codes "ranges") options.ranges
   pub prefix : option_map (λ word. word.now) options.prefix ≡ first_value (found_of matches) (codes "prefix")
-  pub min_length : option_map (λ word. word.now) options.min_length ≡ first_value (found_of matches) (codes "min-length")
+  pub least : option_map (λ word. word.now) options.min_length ≡ first_value (found_of matches) (codes "min-length")
   pub ipv4_set : option_map (λ word. word.now) options.sets.ipv4 ≡ first_value (found_of matches) (codes "ipv4-set")
   pub ipv6_set : option_map (λ word. word.now) options.sets.ipv6 ≡ first_value (found_of matches) (codes "ipv6-set")
   pub maxelem : option_map (λ word. word.now) options.maxelem ≡ first_value (found_of matches) (codes "maxelem")

@@ -1,10 +1,13 @@
 //! The command line: the lists to read, and what to do with them.
 ghost use Rattle.std.specs.Prelude.{◌≡◌, ◌≤◌, ◌<◌, ◌↔◌, ◌∷◌, ◌++◌, [], Bool, map, codes, IsTrue, IfOk, IfErr, IsErr};
-ghost use Rattle.std.specs.Prelude.{OnOk, IsOk};
-ghost use Rattle.netset_commands.specs.Arguments.{values_of, list_name, list_names, standard_input, IsFlag, AreListNames};
-ghost use Rattle.netset_commands.specs.Arguments.{empties_of, input_count, have_control, most_before_input};
-ghost use Rattle.netset_commands.specs.Calls.{IsCall, IsCallFailure, IsNameFailure, AreGoodNames, PrintsNames, AreFlags};
-ghost use Rattle.netset_commands.specs.Calls.{AreTwoNames};
+ghost use Rattle.std.specs.Prelude.{OnOk, IsOk, length};
+ghost use Rattle.std.specs.Char.{is_ascii_control};
+ghost use Rattle.std.specs.List.{list_any};
+ghost use Rattle.netset_commands.specs.Arguments.{values_of, list_name, list_names, standard_input, IsFlag};
+ghost use Rattle.netset_commands.specs.Arguments.{AreListNames, empties_of, input_count, have_control};
+ghost use Rattle.netset_commands.specs.Arguments.{most_before_input};
+ghost use Rattle.netset_commands.specs.Calls.{IsCall, IsCallFailure, IsNameFailure, AreGoodNames, PrintsNames};
+ghost use Rattle.netset_commands.specs.Calls.{AreFlags, AreTwoNames};
 ghost use Rattle.netset_commands.specs.declared.arguments.ArgumentFailure.TheVariants.{InputTwice};
 
 use crate::input::STANDARD_INPUT;
@@ -119,7 +122,9 @@ fn report_not_utf8(rt: &HostRuntime) -> u8
 
 /// Returns the words, each with the bytes escaped that are not printable ASCII, so that a message about a word cannot
 /// move the terminal's cursor, or look like another message.
-pub fn escaped(alloc: Global, words: &[String]) -> Result<Vec<String>, AllocError> {
+pub fn escaped(alloc: Global, words: &[String]) -> Result<Vec<String>, AllocError>
+    ensures { IfOk result (λ shown. length shown.items ≡ length words.now) }
+{
     let mut shown = Vec::new(alloc);
     for word in words {
         let mut text = String::new(alloc);
@@ -382,13 +387,18 @@ pub fn reads_input_twice(names: &[&str]) -> bool
     inputs.count() > 1
 }
 
+/// Whether the name has a control character.
+fn has_control(name: &str) -> bool
+    ensures { result ≡ list_any is_ascii_control name.now }
+{
+    name.bytes().any(|byte| byte.is_ascii_control())
+}
+
 /// Whether one of the names has a control character.
 fn have_control(names: &[&str]) -> bool
     ensures { result ≡ have_control names.now }
 {
-    names
-        .iter()
-        .any(|name| name.bytes().any(|byte| byte.is_ascii_control()))
+    names.iter().any(|name| has_control(name))
 }
 
 /// Whether the answer has the names of the lists.

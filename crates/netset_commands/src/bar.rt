@@ -132,7 +132,7 @@ fn variable(rt: &HostRuntime, name: &str) -> Result<String, u8>
     }
 }
 
-/// The flag or the output that decides on the marks.
+/// The choice of the marks, by the flags and the output.
 fn mark_choice(ascii: bool, utf8: bool, is_terminal: bool) -> MarkChoice
     ensures { result ≡ mark_choice ascii utf8 is_terminal }
 {

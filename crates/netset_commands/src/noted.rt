@@ -1,6 +1,6 @@
 //! The lists of a map: a session that notes the largest entries of each list while it reads them.
 ghost use Rattle.std.specs.Prelude.{◌≡◌, ◌≤◌, ◌↔◌, ◌<◌, ◌++◌, codes, length, string_bytes, IsTrue, IfOk, OnOk};
-ghost use Rattle.netset_commands.specs.MapTitles.{listed_title, longer_title, longer_count, is_v4, AreFirst};
+ghost use Rattle.netset_commands.specs.MapTitles.{listed_title, longer_title, longer_count, is_v4, AreFew, AreFirst};
 
 use crate::lists::ListReader;
 use ipnet::{Grammar, IpNet};
@@ -177,7 +177,8 @@ fn is_ipv4(network: &IpNet) -> bool
 
 /// The first of the entries of each family, as many as a map has.
 fn first_entries(alloc: Global, entries: Vec<MapEntry>) -> Result<Vec<MapEntry>, AllocError>
-    ensures { IfOk result (λ first. AreFirst entries.items first.items) }
+    ensures first { IfOk result (λ first. AreFirst entries.items first.items) }
+    ensures few { IfOk result (λ first. AreFew first.items) }
 {
     let mut first = Vec::new(alloc);
     let mut ipv4: usize = 0;
@@ -202,7 +203,9 @@ pub fn entries_of(
     alloc: Global,
     lists: Vec<EntryNotes>,
     names: &[&str],
-) -> Result<EntryList, AllocError> {
+) -> Result<EntryList, AllocError>
+    ensures { IfOk result (λ list. AreFew list.entries.items) }
+{
     let mut count: usize = 0;
     for notes in lists.as_slice() {
         count = count.saturating_add(notes.count());

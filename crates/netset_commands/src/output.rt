@@ -40,7 +40,7 @@ impl Ends {
     }
 }
 
-/// Where the answer is written.
+/// A destination of the answer.
 #[derive(Drop)]
 enum Destination<'a> {
     Standard(Stdout),

@@ -13,7 +13,7 @@ pub number_digits : (most greatest : ℕ) (text : List ℕ) (n : ℕ) → IsDeci
     → list_all is_ascii_digit text ≡ true
 number_digits most greatest text n h = same_digits text ∙ digits_model.from text h.digits.1
 
--- the text is no number, if none was read
+-- if no number was read, the text is not one
 pub none_read : (P : ℕ → Type 0) (r : Option ℕ) → ((n : ℕ) → (r ≡ Some n) ↔ P n) → r ≡ None → (n : ℕ) → ¬ (P n)
 none_read P r reads none n h = let clash : None ≡ Some n = sym none ∙ (reads n).1 h in absurd cc
 
