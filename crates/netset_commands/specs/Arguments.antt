@@ -35,11 +35,6 @@ pub record IsFlag (matches : ArgMatches) (id : List ℕ) (flag : Bool) : Type 0 
 abbrev pub list_name : ArgMatches → List ℕ → List ℕ
 list_name matches id = unwrap_or (first_value (found_of matches) id) standard_input
 
--- The names of the lists with this id: what was given, or `-` for standard input.
-abbrev pub list_names : ArgMatches → List ℕ → List (List ℕ)
-list_names matches id =
-    unwrap_or (option_map raw_values (matched_of (found_of matches) id)) (standard_input ∷ [])
-
 -- The choice for files without an entry, by the flags `--no-empty` and `--allow-empty`. Without a flag they are
 -- reported.
 abbrev pub empties_of : Bool → Bool → Empties

@@ -1,7 +1,9 @@
 -- The entries of several lists on one map: their titles, and how many there are.
-use Rattle.std.specs.Prelude.{◌≡◌, ◌≤◌, ◌++◌, ◌+◌, ◌||◌, nat_le, nat_lt, ℕ, Bool, true, false, cond, not, List}
-use Rattle.std.specs.Prelude.{Option, Some, None, codes, filter, length, slice_get, take}
+use Rattle.std.specs.Prelude.{◌≡◌, ◌≤◌, ◌++◌, ◌+◌, ◌-◌, ◌||◌, nat_le, nat_lt, ℕ, Bool, true, false, cond, not, List}
+use Rattle.std.specs.Prelude.{Option, Some, None, codes, filter, length, map, slice_get, take}
 use Rattle.std.specs.Borrow.{Bor}
+use Rattle.std.specs.List.{dedup}
+use Rattle.ipnet.specs.contracts.net.IpNetPartialEq.TheImpl.{eq-value}
 use Rattle.ipnet.specs.declared.net.IpNet.{IpNet}
 use Rattle.ipnet.specs.declared.net.IpNet.TheVariants.{V4, V6}
 use Rattle.netset_lib.specs.Counts.{Names}
@@ -44,3 +46,21 @@ pub record AreFirst (entries first : List MapEntry) : Type 0 where
 pub record AreFew (entries : List MapEntry) : Type 0 where
   pub ipv4 : length (filter (λ e. is_v4 e.network) entries) ≤ 1500
   pub ipv6 : length (filter (λ e. not (is_v4 e.network)) entries) ≤ 1500
+
+-- The networks of the entries, in order.
+abbrev pub networks_of : List MapEntry → List IpNet
+networks_of entries = map (λ e. e.network) entries
+
+-- The networks without those that are the same as the one before.
+-- Example: a, b, a of a, a, b, a, a.
+abbrev pub each_once : List IpNet → List IpNet
+each_once networks = dedup eq-value.it networks
+
+-- There is a last network, and it is this one.
+abbrev pub is_that : IpNet → Option IpNet → Bool
+is_that network None = false
+is_that network (Some last) = eq-value.it network last
+
+-- Whether the last of the networks is this one.
+abbrev pub ends_with : List IpNet → IpNet → Bool
+ends_with networks network = is_that network (slice_get networks (length networks - 1))

@@ -3,7 +3,7 @@ ghost use Rattle.std.specs.Prelude.{◌≡◌, ◌≤◌, ◌<◌, ◌↔◌, �
 ghost use Rattle.std.specs.Prelude.{OnOk, IsOk, length};
 ghost use Rattle.std.specs.Char.{is_ascii_control};
 ghost use Rattle.std.specs.List.{list_any};
-ghost use Rattle.netset_commands.specs.Arguments.{values_of, list_name, list_names, standard_input, IsFlag};
+ghost use Rattle.netset_commands.specs.Arguments.{values_of, list_name, standard_input, IsFlag};
 ghost use Rattle.netset_commands.specs.Arguments.{AreListNames, empties_of, input_count, have_control};
 ghost use Rattle.netset_commands.specs.Arguments.{most_before_input};
 ghost use Rattle.netset_commands.specs.Calls.{IsCall, IsCallFailure, IsNameFailure, AreGoodNames, PrintsNames};
@@ -318,13 +318,6 @@ pub fn name_of_list<'a>(matches: &ArgMatches<'a>, id: &str) -> &'a str
         Some(name) => name,
         None => STANDARD_INPUT,
     }
-}
-
-/// The names of any number of lists, or "-" for standard input if none is named.
-pub fn names_of_any<'m, 'a>(matches: &'m ArgMatches<'a>) -> &'m [&'a str]
-    ensures { map (λ name. name.now) result.now ≡ list_names matches.now (codes "first") }
-{
-    matches.get_strs(FIRST).unwrap_or(&[STANDARD_INPUT])
 }
 
 /// The names of the two lists of a command.

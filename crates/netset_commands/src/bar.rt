@@ -8,9 +8,10 @@ ghost use Rattle.netset_commands.specs.Words.{IsFrameOf, IsPicturedWork, mark_ch
 ghost use Rattle.netset_pictures.specs.BarAnswers.{width_text};
 
 use crate::arguments::{
-    ArgumentFailure, any_files, command_of, flag, flags_of, is_set, names_of_any,
-    reads_input_twice, report_argument_failure,
+    ArgumentFailure, FIRST, any_files, command_of, flag, flags_of, is_set, reads_input_twice,
+    report_argument_failure,
 };
+use crate::input::STANDARD_INPUT;
 use crate::listing::network_or_report;
 use crate::lists::Reports;
 use crate::output::Writers;
@@ -281,7 +282,7 @@ pub fn draw_bar(rt: &HostRuntime, matches: &ArgMatches, writers: &mut Writers<'_
         Ok(request) => request,
         Err(status) => return status,
     };
-    let names = names_of_any(matches);
+    let names = matches.get_strs(FIRST).unwrap_or(&[STANDARD_INPUT]);
     let session = match read_pictured(rt, matches, names, writers.reports) {
         Ok(session) => session,
         Err(status) => return status,

@@ -6,9 +6,10 @@ ghost use Rattle.netset_lib.specs.Commands.{grammar_of};
 ghost use Rattle.netset_lib.specs.declared.command.Flags.{Flags};
 
 use crate::arguments::{
-    ArgumentFailure, any_files, command_of, flag, flags_of, is_set, names_of_any,
-    reads_input_twice, report_argument_failure,
+    ArgumentFailure, FIRST, any_files, command_of, flag, flags_of, is_set, reads_input_twice,
+    report_argument_failure,
 };
+use crate::input::STANDARD_INPUT;
 use crate::output::Writers;
 use crate::reading::fill;
 use clap::{Arg, ArgAction, ArgMatches, Command};
@@ -61,7 +62,7 @@ fn request_of(matches: &ArgMatches) -> ExtractRequest
 pub fn extract_entries(rt: &HostRuntime, matches: &ArgMatches, writers: &mut Writers<'_>) -> u8
     ensures { result ≤ 2 }
 {
-    let names = names_of_any(matches);
+    let names = matches.get_strs(FIRST).unwrap_or(&[STANDARD_INPUT]);
     if reads_input_twice(names) {
         return report_argument_failure(rt, ArgumentFailure::InputTwice);
     }

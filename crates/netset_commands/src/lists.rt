@@ -1,5 +1,5 @@
 //! The lists, read from files and from standard input.
-ghost use Rattle.std.specs.Prelude.{◌≡◌, ◌≢◌, ◌⊎◌, ◌↔◌, IsTrue};
+ghost use Rattle.std.specs.Prelude.{◌≡◌, ◌≢◌, ◌⊎◌, ◌↔◌, IsTrue, IfOk};
 ghost use Rattle.netset_commands.specs.Arguments.{standard_input};
 ghost use Rattle.netset_commands.specs.declared.lists.Empties.TheVariants.{Refuse};
 
@@ -118,7 +118,9 @@ pub fn read_lists<'a, L: ListReader>(
     lists: &mut L,
     names: &[&'a str],
     reports: Reports,
-) -> Result<bool, (&'a str, Unread)> {
+) -> Result<bool, (&'a str, Unread)>
+    ensures { IfOk result (λ allowed. reports.empties ≢ Refuse → IsTrue allowed) }
+{
     let mut total: usize = 0;
     let mut allowed = true;
     for name in names {

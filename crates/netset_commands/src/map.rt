@@ -7,7 +7,7 @@ ghost use Rattle.svg_maps.specs.declared.style.Theme.{Theme};
 ghost use Rattle.svg_maps.specs.declared.style.Theme.TheVariants.{Auto};
 
 use crate::arguments::{
-    ArgumentFailure, any_files, command_of, flag, flags_of, is_set, names_of_any, reads_input,
+    ArgumentFailure, FIRST, any_files, command_of, flag, flags_of, is_set, reads_input,
     report_argument_failure,
 };
 use crate::bar::{COMPARE, frame_of, pictured_work, with_frame};
@@ -228,7 +228,7 @@ fn draw_table(
             count: 0,
         },
     };
-    let names = names_of_any(matches);
+    let names = matches.get_strs(FIRST).unwrap_or(&[STANDARD_INPUT]);
     draw_lists(rt, matches, names, MapRequest { frame, look }, writers)
 }
 
@@ -261,7 +261,7 @@ pub fn draw_map(rt: &HostRuntime, matches: &ArgMatches, writers: &mut Writers<'_
         Ok(frame) => frame,
         Err(status) => return status,
     };
-    let names = names_of_any(matches);
+    let names = matches.get_strs(FIRST).unwrap_or(&[STANDARD_INPUT]);
     if are_too_many(rt, matches, names) {
         return 2;
     }

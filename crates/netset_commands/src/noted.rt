@@ -1,6 +1,7 @@
 //! The lists of a map: a session that notes the largest entries of each list while it reads them.
 ghost use Rattle.std.specs.Prelude.{◌≡◌, ◌≤◌, ◌↔◌, ◌<◌, ◌++◌, codes, length, string_bytes, IsTrue, IfOk, OnOk};
 ghost use Rattle.netset_commands.specs.MapTitles.{listed_title, longer_title, longer_count, is_v4, AreFew, AreFirst};
+ghost use Rattle.netset_commands.specs.MapTitles.{each_once, ends_with, networks_of};
 
 use crate::lists::ListReader;
 use ipnet::{Grammar, IpNet};
@@ -150,14 +151,36 @@ fn push_title(title: &mut String, other: &str, added: usize) -> Result<usize, Al
     Ok(added.saturating_add(other.len()))
 }
 
+/// Whether the last of the entries is of this network.
+fn ends_with(entries: &[MapEntry], network: &IpNet) -> bool
+    ensures { result ≡ ends_with (networks_of entries.now) network.now }
+{
+    match entries.last() {
+        Some(entry) => *network == entry.network,
+        None => false,
+    }
+}
+
+/// Adds the text of another entry to the title of the last of the entries, as `push_title` does.
+fn push_last(entries: &mut [MapEntry], other: &str, added: usize) -> Result<usize, AllocError>
+    ensures { OnOk result (networks_of entries.new ≡ networks_of entries.old) }
+{
+    let count = entries.len();
+    if count == 0 {
+        return Ok(added);
+    }
+    push_title(&mut entries[count - 1].title, other, added)
+}
+
 /// Joins the texts of entries that have one network and come one after the other.
-fn join_titles(alloc: Global, entries: Vec<MapEntry>) -> Result<Vec<MapEntry>, AllocError> {
+fn join_titles(alloc: Global, entries: Vec<MapEntry>) -> Result<Vec<MapEntry>, AllocError>
+    ensures { IfOk result (λ joined. networks_of joined.items ≡ each_once (networks_of entries.items)) }
+{
     let mut joined: Vec<MapEntry> = Vec::new(alloc);
     let mut added: usize = 0;
     for entry in entries {
-        let count = joined.len();
-        if count > 0 && joined[count - 1].network == entry.network {
-            added = push_title(&mut joined[count - 1].title, entry.title.as_str(), added)?;
+        if ends_with(joined.as_slice(), &entry.network) {
+            added = push_last(joined.as_mut_slice(), entry.title.as_str(), added)?;
         } else {
             joined.push(entry)?;
         }

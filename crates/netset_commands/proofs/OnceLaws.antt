@@ -1,0 +1,72 @@
+-- One more network after networks of which each is kept once.
+use Rattle.std.proofs.Common.{◌≡◌, ◌∙◌, ◌<◌, ◌-◌, ◌++◌, ◌∷◌, [], ℕ, Bool, true, false, cond, List, length}
+use Rattle.std.proofs.Common.{slice_get, refl, sym, ap, arith}
+use Rattle.std.specs.List.{dedup, dedup_from}
+use Rattle.ipnet.specs.contracts.net.IpNetPartialEq.TheImpl.{eq-value}
+use Rattle.ipnet.specs.declared.net.IpNet.{IpNet}
+use Rattle.netset_commands.specs.MapTitles.{each_once, ends_with, is_that}
+
+-- the networks and this one, unless it is the last of them
+next : List IpNet → IpNet → List IpNet
+next kept x = cond (ends_with kept x) kept (kept ++ x ∷ [])
+
+-- the last of a list is the last of its rest
+last_of_rest : (k x y : IpNet) (ys : List IpNet) → ends_with (k ∷ y ∷ ys) x ≡ ends_with (y ∷ ys) x
+last_of_rest k x y ys =
+    let same : slice_get (k ∷ y ∷ ys) (length (k ∷ y ∷ ys) - 1) ≡ slice_get (y ∷ ys) (length (y ∷ ys) - 1) =
+        grind arith in
+    ap (is_that x) same
+
+under : (k x : IpNet) (kept : List IpNet) → 0 < length kept → k ∷ next kept x ≡ next (k ∷ kept) x
+unfolding next
+under k x [] some = absurd (omega (arith, some))
+under k x (y ∷ ys) some =
+    let P : Bool → List IpNet = λ b. cond b (k ∷ y ∷ ys) ((k ∷ y ∷ ys) ++ x ∷ []) in
+    split (ends_with (y ∷ ys) x) ∙ sym (ap P (last_of_rest k x y ys))
+  where
+    split : (b : Bool) → k ∷ cond b (y ∷ ys) ((y ∷ ys) ++ x ∷ []) ≡ cond b (k ∷ y ∷ ys) ((k ∷ y ∷ ys) ++ x ∷ [])
+    split true = refl
+    split false = refl
+
+some_kept : (k : IpNet) (ys : List IpNet) → 0 < length (dedup_from eq-value.it k ys)
+some_kept k [] = omega arith
+some_kept k (y ∷ ys) = split (eq-value.it y k)
+  where
+    split : (b : Bool) → 0 < length (cond b (dedup_from eq-value.it k ys) (k ∷ dedup_from eq-value.it y ys))
+    split true = some_kept k ys
+    split false = omega arith
+
+after : (k x : IpNet) (ys : List IpNet)
+    → dedup_from eq-value.it k (ys ++ x ∷ []) ≡ next (dedup_from eq-value.it k ys) x
+unfolding next
+after k x [] = refl
+after k x (y ∷ ys) = split (eq-value.it y k)
+  where
+    split : (b : Bool) → cond b (dedup_from eq-value.it k (ys ++ x ∷ [])) (k ∷ dedup_from eq-value.it y (ys ++ x ∷ []))
+        ≡ next (cond b (dedup_from eq-value.it k ys) (k ∷ dedup_from eq-value.it y ys)) x
+    split true = after k x ys
+    split false =
+        ap (λ kept. k ∷ kept) (after y x ys) ∙ under k x (dedup_from eq-value.it y ys) (some_kept y ys)
+
+-- of all networks and one more, each once
+once_more : (xs : List IpNet) (x : IpNet) → each_once (xs ++ x ∷ []) ≡ next (each_once xs) x
+unfolding next
+once_more [] x = refl
+once_more (k ∷ xs) x = after k x xs
+
+-- a network that is the last one changes nothing
+pub same_again : (xs : List IpNet) (x : IpNet) (kept : List IpNet) → kept ≡ each_once xs → ends_with kept x ≡ true
+    → kept ≡ each_once (xs ++ x ∷ [])
+unfolding next
+same_again xs x kept is last =
+    is ∙ sym (ap (λ b. cond b (each_once xs) (each_once xs ++ x ∷ [])) (ap (λ ns. ends_with ns x) (sym is) ∙ last))
+    ∙ sym (once_more xs x)
+
+-- another network comes after them
+pub another : (xs : List IpNet) (x : IpNet) (kept : List IpNet) → kept ≡ each_once xs → ends_with kept x ≡ false
+    → kept ++ x ∷ [] ≡ each_once (xs ++ x ∷ [])
+unfolding next
+another xs x kept is last =
+    ap (λ ns. ns ++ x ∷ []) is
+    ∙ sym (ap (λ b. cond b (each_once xs) (each_once xs ++ x ∷ [])) (ap (λ ns. ends_with ns x) (sym is) ∙ last))
+    ∙ sym (once_more xs x)
