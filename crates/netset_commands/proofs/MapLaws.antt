@@ -81,7 +81,7 @@ takes {p = p} {q = q} {xs = xs} {first = first} {m = m} x h has lacks room = rec
 
 -- there is no room for the next element
 pub passes : {X : Type 0} {p q : X → Bool} {xs first : List X} {m n : ℕ} (x : X) → HaveTaken p q xs first m n
-    → p x ≡ true → q x ≡ false → ¬ (m < 1500) → HaveTaken p q (xs ++ x ∷ []) first m n
+    → p x ≡ true → q x ≡ false → 1500 ≤ m → HaveTaken p q (xs ++ x ∷ []) first m n
 passes {p = p} {q = q} {xs = xs} {first = first} {m = m} x h has lacks full = record {
   ps = full_next p 1500 xs first x has h.ps (omega (arith, full, h.p_count));
   qs = other_next q 1500 xs first x lacks h.qs;

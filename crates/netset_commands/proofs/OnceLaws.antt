@@ -1,10 +1,12 @@
 -- One more network after networks of which each is kept once.
 use Rattle.std.proofs.Common.{◌≡◌, ◌∙◌, ◌<◌, ◌-◌, ◌++◌, ◌∷◌, [], ℕ, Bool, true, false, cond, List, length}
 use Rattle.std.proofs.Common.{slice_get, refl, sym, ap, arith}
+use Rattle.std.proofs.lemmas.List.{map-append}
 use Rattle.std.specs.List.{dedup, dedup_from}
 use Rattle.ipnet.specs.contracts.net.IpNetPartialEq.TheImpl.{eq-value}
 use Rattle.ipnet.specs.declared.net.IpNet.{IpNet}
-use Rattle.netset_commands.specs.MapTitles.{each_once, ends_with, is_that}
+use Rattle.netset_commands.specs.MapTitles.{each_once, ends_with, is_that, networks_of}
+use Rattle.svg_maps.specs.declared.entry.MapEntry.{MapEntry}
 
 -- the networks and this one, unless it is the last of them
 next : List IpNet → IpNet → List IpNet
@@ -14,7 +16,7 @@ next kept x = cond (ends_with kept x) kept (kept ++ x ∷ [])
 last_of_rest : (k x y : IpNet) (ys : List IpNet) → ends_with (k ∷ y ∷ ys) x ≡ ends_with (y ∷ ys) x
 last_of_rest k x y ys =
     let same : slice_get (k ∷ y ∷ ys) (length (k ∷ y ∷ ys) - 1) ≡ slice_get (y ∷ ys) (length (y ∷ ys) - 1) =
-        grind arith in
+    grind arith in
     ap (is_that x) same
 
 under : (k x : IpNet) (kept : List IpNet) → 0 < length kept → k ∷ next kept x ≡ next (k ∷ kept) x
@@ -55,7 +57,7 @@ once_more [] x = refl
 once_more (k ∷ xs) x = after k x xs
 
 -- a network that is the last one changes nothing
-pub same_again : (xs : List IpNet) (x : IpNet) (kept : List IpNet) → kept ≡ each_once xs → ends_with kept x ≡ true
+same_again : (xs : List IpNet) (x : IpNet) (kept : List IpNet) → kept ≡ each_once xs → ends_with kept x ≡ true
     → kept ≡ each_once (xs ++ x ∷ [])
 unfolding next
 same_again xs x kept is last =
@@ -63,10 +65,30 @@ same_again xs x kept is last =
     ∙ sym (once_more xs x)
 
 -- another network comes after them
-pub another : (xs : List IpNet) (x : IpNet) (kept : List IpNet) → kept ≡ each_once xs → ends_with kept x ≡ false
+another : (xs : List IpNet) (x : IpNet) (kept : List IpNet) → kept ≡ each_once xs → ends_with kept x ≡ false
     → kept ++ x ∷ [] ≡ each_once (xs ++ x ∷ [])
 unfolding next
 another xs x kept is last =
     ap (λ ns. ns ++ x ∷ []) is
     ∙ sym (ap (λ b. cond b (each_once xs) (each_once xs ++ x ∷ [])) (ap (λ ns. ends_with ns x) (sym is) ∙ last))
     ∙ sym (once_more xs x)
+
+-- the networks of entries and one more
+one_more : (entries : List MapEntry) (e : MapEntry)
+    → networks_of (entries ++ e ∷ []) ≡ networks_of entries ++ e.network ∷ []
+one_more entries e = map-append (λ (x : MapEntry). x.network) entries (e ∷ [])
+
+-- an entry of the last network leaves the networks as they are
+pub entry_again : (all kept new : List MapEntry) (e : MapEntry) → networks_of kept ≡ each_once (networks_of all)
+    → ends_with (networks_of kept) e.network ≡ true → networks_of new ≡ networks_of kept
+    → networks_of new ≡ each_once (networks_of (all ++ e ∷ []))
+entry_again all kept new e is last same =
+    same ∙ same_again (networks_of all) e.network (networks_of kept) is last ∙ ap each_once (sym (one_more all e))
+
+-- an entry of another network is kept
+pub entry_kept : (all kept new : List MapEntry) (e : MapEntry) → networks_of kept ≡ each_once (networks_of all)
+    → ends_with (networks_of kept) e.network ≡ false → new ≡ kept ++ e ∷ []
+    → networks_of new ≡ each_once (networks_of (all ++ e ∷ []))
+entry_kept all kept new e is last pushed =
+    ap networks_of pushed ∙ one_more kept e ∙ another (networks_of all) e.network (networks_of kept) is last
+    ∙ ap each_once (sym (one_more all e))

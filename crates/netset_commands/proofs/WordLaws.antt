@@ -1,5 +1,6 @@
 -- Words that are prefix lengths, read one after another.
-use Rattle.std.proofs.Common.{◌≡◌, ◌<◌, ◌+◌, ◌++◌, ◌∷◌, [], ℕ, List, drop, length, get_or, subst, sym, arith}
+use Rattle.std.proofs.Common.{◌≡◌, ◌<◌, ◌≤◌, ◌+◌, ◌++◌, ◌∷◌, [], ℕ, List, drop, length, get_or, subst, sym}
+use Rattle.std.proofs.Common.{false, Result, Ok, Err, OnOk, is_err}
 use Rattle.std.proofs.Common.{append_assoc, append-nil}
 use Rattle.std.proofs.lemmas.List.{drop_all, drop_more}
 use Rattle.std.specs.Borrow.{Bor}
@@ -19,10 +20,20 @@ next_length {word = word} words i n lengths inside is before rest others =
     (before (n ∷ rest) (subst Q (sym (drop_more words i word inside)) (is, others)))
 
 -- after the last word there are no other lengths
-pub all_lengths : (words : Names) (i : ℕ) (lengths : List ℕ) → ¬ (i < length words)
+pub all_lengths : (words : Names) (i : ℕ) (lengths : List ℕ) → length words ≤ i
     → ((rest : List ℕ) → AreLengths (drop i words) rest → AreLengths words (lengths ++ rest)) → AreLengths words lengths
 all_lengths words i lengths past before =
     let P : List ℕ → Type 0 = λ all. AreLengths words all in
     let Q : Names → Type 0 = λ left. AreLengths left [] in
-    let none : drop i words ≡ [] = drop_all i words (omega (arith, past)) in
+    let none : drop i words ≡ [] = drop_all i words past in
     subst P (append-nil lengths) (before [] (subst Q (sym none) tt))
+
+-- a call that does not fail does what it promises
+pub on_ok : {T E : Type 0} {P : Type 0} (r : Result T E) → is_err r ≡ false → OnOk r P → P
+on_ok (Ok x) same h = h
+on_ok (Err e) same h = absurd cc
+
+-- what is so anyway is promised
+pub anyway : {T E : Type 0} {P : Type 0} (r : Result T E) → P → OnOk r P
+anyway (Ok x) h = h
+anyway (Err e) h = tt

@@ -4,4 +4,4 @@ use Rattle.netset_commands.specs.declared.lists.Empties.TheVariants.{Refuse}
 use Rattle.netset_commands.proofs.lists.read_lists.Given as goal
 
 abbrev pub invariant-loop-name : goal.invariant-loop-name
-invariant-loop-name l = l.reports.empties ≢ Refuse → IsTrue l.allowed
+invariant-loop-name g l = l.reports.empties ≢ Refuse → IsTrue l.allowed

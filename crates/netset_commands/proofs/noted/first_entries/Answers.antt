@@ -8,7 +8,7 @@ use Rattle.svg_maps.specs.declared.entry.MapEntry.{MapEntry}
 pub loop-entry-preserved-in-Continue-1 : goal.loop-entry-preserved-in-Continue-1
 loop-entry-preserved-in-Continue-1 c =
     let entry = c.in-Some.entry in
-    let pushed : c.push.new.self.items ≡ c.loop-entry.first.items ++ entry ∷ [] = search in
+    let pushed : c.push.new.self.items ≡ c.loop-entry.first.items ++ entry ∷ [] = c.in_ok-push.ensures.items in
     let has : is_v4 entry.network ≡ true = sym c.is_ipv4.ensures ∙ c.if-is_ipv4.true in
     let P : List MapEntry → Type 0 = λ items. HaveTaken (λ e. is_v4 e.network) (λ e. not (is_v4 e.network))
     (c.loop-entry.yielded ++ entry ∷ []) items (c.loop-entry.ipv4 + 1) c.loop-entry.ipv6 in
@@ -24,7 +24,8 @@ loop-entry-preserved-else-ipv4-lt-MOST c =
 pub loop-entry-preserved-in-Continue-branch-2 : goal.loop-entry-preserved-in-Continue-branch-2
 loop-entry-preserved-in-Continue-branch-2 c =
     let entry = c.in-Some.entry in
-    let pushed : c.push-then-ipv6-lt-MOST.new.self.items ≡ c.loop-entry.first.items ++ entry ∷ [] = search in
+    let pushed : c.push-then-ipv6-lt-MOST.new.self.items ≡ c.loop-entry.first.items ++ entry ∷ [] =
+    c.in_ok-push-2.ensures.items in
     let lacks : is_v4 entry.network ≡ false = sym c.is_ipv4.ensures ∙ c.if-is_ipv4.false in
     let P : List MapEntry → Type 0 = λ items. HaveTaken (λ e. is_v4 e.network) (λ e. not (is_v4 e.network))
     (c.loop-entry.yielded ++ entry ∷ []) items c.loop-entry.ipv4 (c.loop-entry.ipv6 + 1) in
