@@ -32,23 +32,27 @@ under k x (y ∷ ys) some =
 
 some_kept : (k : IpNet) (ys : List IpNet) → 0 < length (dedup_from eq-value.it k ys)
 some_kept k [] = omega arith
-some_kept k (y ∷ ys) = split (eq-value.it y k)
+some_kept k (y ∷ ys) = split (eq-value.it y k) (some_kept k ys)
   where
-    split : (b : Bool) → 0 < length (cond b (dedup_from eq-value.it k ys) (k ∷ dedup_from eq-value.it y ys))
-    split true = some_kept k ys
-    split false = omega arith
+    split : (b : Bool) → 0 < length (dedup_from eq-value.it k ys)
+        → 0 < length (cond b (dedup_from eq-value.it k ys) (k ∷ dedup_from eq-value.it y ys))
+    split true h = h
+    split false h = omega arith
 
 after : (k x : IpNet) (ys : List IpNet)
     → dedup_from eq-value.it k (ys ++ x ∷ []) ≡ next (dedup_from eq-value.it k ys) x
 unfolding next
 after k x [] = refl
-after k x (y ∷ ys) = split (eq-value.it y k)
+after k x (y ∷ ys) = either (eq-value.it y k) (after k x ys)
+    (ap (λ kept. k ∷ kept) (after y x ys) ∙ under k x (dedup_from eq-value.it y ys) (some_kept y ys))
   where
-    split : (b : Bool) → cond b (dedup_from eq-value.it k (ys ++ x ∷ [])) (k ∷ dedup_from eq-value.it y (ys ++ x ∷ []))
+    either : (b : Bool)
+        → dedup_from eq-value.it k (ys ++ x ∷ []) ≡ next (dedup_from eq-value.it k ys) x
+        → k ∷ dedup_from eq-value.it y (ys ++ x ∷ []) ≡ next (k ∷ dedup_from eq-value.it y ys) x
+        → cond b (dedup_from eq-value.it k (ys ++ x ∷ [])) (k ∷ dedup_from eq-value.it y (ys ++ x ∷ []))
         ≡ next (cond b (dedup_from eq-value.it k ys) (k ∷ dedup_from eq-value.it y ys)) x
-    split true = after k x ys
-    split false =
-        ap (λ kept. k ∷ kept) (after y x ys) ∙ under k x (dedup_from eq-value.it y ys) (some_kept y ys)
+    either true same other = same
+    either false same other = other
 
 -- of all networks and one more, each once
 once_more : (xs : List IpNet) (x : IpNet) → each_once (xs ++ x ∷ []) ≡ next (each_once xs) x
