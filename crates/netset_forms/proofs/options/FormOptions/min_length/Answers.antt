@@ -17,6 +17,8 @@ returns-in-Some-read_length c = record {
 pub returns-in-None : goal.returns-in-None
 returns-in-None c = record {
   good = tt;
-  fault =
-      (c.in-Some.is, none_read (IsLengthText c.in-Some.word.now) c.read_length.result c.read_length.ensures c.in-None.is);
+  fault = (
+    c.in-Some.is,
+    none_read (IsLengthText c.in-Some.word.now) c.read_length.result c.read_length.ensures c.in-None.is,
+  );
 }
