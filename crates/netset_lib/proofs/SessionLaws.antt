@@ -28,8 +28,8 @@ use Rattle.netset_lib.specs.PairSets.{ArePairSets}
 use Rattle.netset_lib.specs.PlanAnswers.{IsResultSet}
 use Rattle.netset_lib.specs.declared.operation.Families.TheVariants.{Named}
 use Rattle.netset_lib.specs.declared.operation.ListOperation.TheVariants.{Complement}
-use Rattle.netset_lib.specs.Replies.{work_grammar, TakesCount, IsWorkAnswer, AreReplies, IsFoundFor, IsKept}
-use Rattle.netset_lib.specs.Replies.{HasNoRoute, IsOutcome}
+use Rattle.netset_lib.specs.Replies.{work_grammar, TakesCount, CanAnswer, IsWorkAnswer, AreReplies, IsFoundFor}
+use Rattle.netset_lib.specs.Replies.{IsKept, HasNoRoute, IsOutcome}
 use Rattle.netset_lib.specs.Sessions.{WereRead, IsGood, IsState, IsAskState, IsReplyOf}
 use Rattle.netset_lib.proofs.AnswerTexts.{text_of_same}
 use Rattle.netset_lib.proofs.AnsweringLaws.{replies_right, found_right}
@@ -161,6 +161,22 @@ family_some (set ∷ []) entries members some e =
     some set refl (none_inside set (subst (HaveMembers (set ∷ [])) e members).0)
 family_some (set ∷ other ∷ sets) entries members some e =
     absurd (subst (HaveMembers (set ∷ other ∷ sets)) e members).1
+
+-- the lists of a good session have an answer
+pub can_answer : (work : Work) (lists : List (List ℕ)) (s : Session) → WereRead work lists s → IsGood s
+    → CanAnswer work lists
+can_answer work lists s h good = record {
+  count = (count_taken work lists s h).0 good.count;
+  entries = h.entries;
+  read = subst (AreListsRead (work_grammar work) 0 lists h.entries)
+      (none_of_length h.refusals (sym h.kept.count ∙ good.none)) h.read;
+  named = named work h.same_work h.state;
+}
+  where
+    named : (w : Work) → s.work ≡ w → IsState w s h.entries → IsNamedComplement w → h.entries ≢ [] ∷ []
+    named (Combine request) same state is =
+        family_some s.sets.items h.entries state (good.named (subst IsNamedComplement (sym same) is))
+    named (Ask query grammar) same state is = absurd is
 
 -- the set that an operation makes of the sets is that of its result on the lists
 pub result_right : (q request : Request) (lists : List (List ℕ)) (s : Session) (set : IpSet)

@@ -22,6 +22,7 @@ const NO_FAMILY: &str = "netset: the list has no entries: choose --ipv4 or --ipv
 ///
 /// | Status | On `faults` | When |
 /// |---|---|---|
+/// | 2 | `netset: a list could not be read` | `Session::read` failed |
 /// | 2 | `netset: another number of lists is wanted` | the work takes another number of lists |
 /// | 2 | `NAME:LINE: not a network, an address or a range: TEXT (CAUSE)`, ten at most | some lines are not entries |
 /// | 2 | `netset: the list has no entries: choose --ipv4 or --ipv6, or both` | as `Failure::NoFamily` says |
@@ -163,6 +164,7 @@ pub fn report_failure<X: Write>(
         Failure::Count => writeln!(faults, "netset: another number of lists is wanted"),
         Failure::NoFamily => writeln!(faults, "{NO_FAMILY}"),
         Failure::Memory => writeln!(faults, "netset: out of memory"),
+        Failure::Unreadable => writeln!(faults, "netset: a list could not be read"),
         Failure::Refused(lines) => report_since(faults, names, lines, (0, 0)),
     }
 }
