@@ -11,6 +11,7 @@ use crate::mark::skip_mark;
 use crate::number::next_number;
 use crate::reader::first_line_of_bytes;
 use crate::refused::{LineCause, MOST_LINES, report_more};
+use crate::report::report_line;
 use std::alloc::{AllocError, Global};
 use std::io;
 use std::io::Write;
@@ -57,23 +58,6 @@ impl<C: Drop> From<AllocError> for ListFailure<C> {
 
     fn from(_: AllocError) -> ListFailure<C> {
         ListFailure::Memory
-    }
-}
-
-impl<C: LineCause> ListFailure<C> {
-    /// Reports the failure on `faults`, and returns the exit status. `name` is the name of the list.
-    ///
-    /// ```text
-    /// Memory: 2, and faults gets "netset: out of memory\n"
-    /// ```
-    pub fn report<X: Write>(self, faults: &mut X, name: &str) -> u8
-        ensures { result ≡ 2 }
-    {
-        let _ = match self {
-            ListFailure::Refused(lines) => report_refused(faults, name, lines.as_slice()),
-            ListFailure::Memory => writeln!(faults, "netset: out of memory"),
-        };
-        2
     }
 }
 
@@ -179,8 +163,8 @@ pub fn report_refused<X: Write, C: LineCause>(
     }
     let shown = lines.len().min(MOST_LINES);
     for line in &lines[..shown] {
-        line.cause
-            .report(faults, name, line.number, line.text.as_slice())?;
+        let text = line.text.as_slice();
+        report_line(faults, name, line.number, text, line.cause.explain(text))?;
     }
     report_more(faults, lines.len() - shown)
 }

@@ -1,9 +1,18 @@
 //! The lines of lists that are refused.
-ghost use Rattle.std.specs.Prelude.{◌≡◌, ◌≤◌, [], ◌∷◌, ◌++◌, length, take, OnOk};
-ghost use Rattle.std.specs.Io.KnownBytes.{Keeps};
+ghost use Rattle.std.specs.Prelude.{◌≡◌, ◌≤◌, ℕ, List, [], ◌∷◌, ◌++◌, length, take, drop, map, Option, OnOk};
+ghost use Rattle.std.specs.Io.{StartsWith};
+ghost use Rattle.std.specs.Io.KnownBytes.{Appends, Keeps};
+ghost use Rattle.ipnet_text.specs.Outputs.{IsWritten, IsFrontWritten};
+ghost use Rattle.ipnet_lists.specs.Explanations.{words_of};
+ghost use Rattle.ipnet_lists.specs.Names.{name_at};
+ghost use Rattle.ipnet_lists.specs.RefusedLines.{refusal_of};
+ghost use Rattle.ipnet_lists.specs.Reports.{IsReportOf, AreReported, AreFirstReported, IsReport, IsReportBegun};
+ghost use Rattle.ipnet_lists.specs.Reports.{OfNew, more_line};
 
 use crate::cause::NotEntry;
 use crate::number::next_number;
+use crate::report::{Part, report_line, write_parts};
+use itoa::Buffer;
 use std::alloc::{AllocError, Global};
 use std::io;
 use std::io::Write;
@@ -11,16 +20,27 @@ use std::io::Write;
 /// At most this many refused lines are reported.
 pub const MOST_LINES: usize = 10;
 
+/// What a refused text is not, and why, in the words of a report.
+///
+/// ```text
+/// of 10.0.0.0/33: what "not a network, an address or a range", why "the prefix length is above 32"
+/// ```
+#[derive(Clone, Copy, Debug)]
+pub struct Explanation {
+    /// What the text is not.
+    pub what: &'static str,
+    /// Why, if that can be named.
+    pub why: Option<&'static str>,
+}
+
 /// Why a line is refused.
 pub trait LineCause: Drop {
-    /// Reports that the line with this number of the list with this name is refused. `text` is the refused part.
-    fn report<X: Write>(
-        &self,
-        faults: &mut X,
-        name: &str,
-        number: usize,
-        text: &[u8],
-    ) -> io::Result<()>;
+    /// The relation of a cause, the text that is refused for it, what the text is not, and the reason.
+    ghost explains: { Self → List ℕ → List ℕ → Option (List ℕ) → Type 0 };
+
+    /// Returns what this text is not, and why. The text is refused for this cause.
+    fn explain(&self, text: &[u8]) -> Explanation
+        ensures { explains self.now text.now result.what.now (words_of result.why) };
 }
 
 /// A line that is refused, or the part of it that is.
@@ -113,6 +133,70 @@ impl<C: Drop> Refusals<C> {
     }
 }
 
+/// Returns the name of the list with this index.
+///
+/// ```text
+/// 1 of a and b: "b"; 2: "list"
+/// ```
+pub fn name_of<'a>(names: &[&'a str], index: usize) -> &'a str
+    ensures { result.now ≡ name_at names.now index }
+{
+    match names.get(index) {
+        Some(name) => *name,
+        None => "list",
+    }
+}
+
+/// Reports a refused line.
+fn report_one<X: Write, C: LineCause>(
+    faults: &mut X,
+    names: &[&str],
+    line: &Refused<C>,
+) -> io::Result<()>
+    ensures whole { OnOk result (IsWritten (IsReportOf C.explains names.now (refusal_of line.now))
+        (X.contents faults.old) (X.contents faults.new)) }
+    ensures front { IsFrontWritten (IsReportOf C.explains names.now (refusal_of line.now))
+        (X.contents faults.old) (X.contents faults.new) }
+{
+    let text = line.text.as_slice();
+    let explanation = line.cause.explain(text);
+    report_line(
+        faults,
+        name_of(names, line.list),
+        line.number,
+        text,
+        explanation,
+    )
+}
+
+/// Reports the refused lines, one after another.
+fn report_lines<X: Write, C: LineCause>(
+    faults: &mut X,
+    names: &[&str],
+    lines: &[Refused<C>],
+) -> io::Result<()>
+    ensures whole { OnOk result (IsWritten (AreReported C.explains names.now (map refusal_of lines.now))
+        (X.contents faults.old) (X.contents faults.new)) }
+    ensures front { IsFrontWritten (AreFirstReported C.explains names.now (map refusal_of lines.now))
+        (X.contents faults.old) (X.contents faults.new) }
+{
+    for line in lines {
+        report_one(faults, names, line)?;
+    }
+    Ok(())
+}
+
+/// The lines after the first `shown`.
+fn lines_after<C>(lines: &[Refused<C>], shown: usize) -> &[Refused<C>]
+    ensures { result.now ≡ drop shown lines.now }
+{
+    if shown <= lines.len() {
+        &lines[shown..]
+    } else {
+        &[]
+    }
+}
+
 /// Reports the refused lines that are kept, and the number of the others. `before` is how many of them are reported
 /// already, first of those that are kept, and then of all. Nothing is printed if these are all.
 ///
@@ -125,29 +209,45 @@ pub fn report_since<X: Write, C: LineCause>(
     lines: &Refusals<C>,
     before: (usize, usize),
 ) -> io::Result<()>
-    ensures { lines.now.count ≡ before.1 → Keeps (X.contents faults.old) (X.contents faults.new) }
+    ensures none { lines.now.count ≡ before.1 → Keeps (X.contents faults.old) (X.contents faults.new) }
+    ensures whole { OnOk result (IsWritten
+        (OfNew (IsReport C.explains names.now) lines.now before.0 before.1)
+        (X.contents faults.old) (X.contents faults.new)) }
+    ensures front { IsFrontWritten (OfNew (IsReportBegun C.explains names.now) lines.now before.0 before.1)
+        (X.contents faults.old) (X.contents faults.new) }
 {
     let (shown, count) = before;
     if lines.count == count {
         return Ok(());
     }
-    for index in shown..lines.shown.len() {
-        let line = &lines.shown[index];
-        let name = names.get(line.list).copied().unwrap_or("list");
-        line.cause
-            .report(faults, name, line.number, line.text.as_slice())?;
-    }
-    let new = lines.count.saturating_sub(count);
-    report_more(
-        faults,
-        new.saturating_sub(lines.shown.len().saturating_sub(shown)),
-    )
+    let new = lines_after(lines.shown.as_slice(), shown);
+    report_lines(faults, names, new)?;
+    let more = lines.count.saturating_sub(count).saturating_sub(new.len());
+    report_more(faults, more)
 }
 
 /// Reports the number of the refused lines that are not shown. Nothing is printed if all are.
-pub fn report_more<X: Write>(faults: &mut X, more: usize) -> io::Result<()> {
+///
+/// ```text
+/// 2: "netset: and 2 more\n"; 0: nothing
+/// ```
+pub fn report_more<X: Write>(faults: &mut X, more: usize) -> io::Result<()>
+    ensures none { more ≡ 0 → Keeps (X.contents faults.old) (X.contents faults.new) }
+    ensures whole { OnOk result (Appends (X.contents faults.old) (X.contents faults.new) (more_line more)) }
+    ensures front { (front : List ℕ) × StartsWith (more_line more) front
+        × Appends (X.contents faults.old) (X.contents faults.new) front }
+{
     if more == 0 {
         return Ok(());
     }
-    writeln!(faults, "netset: and {more} more")
+    let mut buffer = Buffer::new();
+    let number = buffer.format(more);
+    write_parts(
+        faults,
+        &[
+            Part::Plain(b"netset: and "),
+            Part::Plain(number.as_bytes()),
+            Part::Plain(b" more\n"),
+        ],
+    )
 }

@@ -1,6 +1,17 @@
 //! Reports of refused lines.
+ghost use Rattle.std.specs.Prelude.{◌≡◌, ◌++◌, List, ℕ, codes, decimal, take, OnOk};
+ghost use Rattle.std.specs.Char.Escape.{escape_ascii};
+ghost use Rattle.std.specs.Io.{StartsWith};
+ghost use Rattle.std.specs.Io.KnownBytes.{Appends};
+ghost use Rattle.ipnet_lists.specs.ReportParts.{part_text, parts_text};
+ghost use Rattle.ipnet_lists.specs.Reports.{escaped, dots_after, reason_text, report_line, most_text};
+ghost use Rattle.ipnet_lists.specs.Reports.{no_entry, cause_words, ExplainsCause, ExplainsEntry};
+ghost use Rattle.ipnet_lists.specs.Explanations.{words_of};
+
 use crate::cause::{Cause, NotEntry};
-use crate::refused::LineCause;
+use crate::refused::{Explanation, LineCause};
+use ipnet_text::write_whole;
+use itoa::Buffer;
 use std::io;
 use std::io::Write;
 
@@ -10,51 +21,185 @@ const MOST_SHOWN: usize = 100;
 /// The words of a report for a line that is not an entry.
 pub const NO_ENTRY: &str = "not a network, an address or a range";
 
-/// Reports a refused text of this line, and what it is not. Bytes of the name and the text that are not printable ASCII
-/// are escaped. Of a long text only the beginning is reported, so that a file that is not a list does not fill the
-/// screen.
+/// A part of a report.
+#[derive(Clone, Copy)]
+pub enum Part<'a> {
+    /// Bytes that are written as they are.
+    Plain(&'a [u8]),
+    /// Bytes of which those that are not printable ASCII are escaped.
+    Escaped(&'a [u8]),
+}
+
+/// Writes the escape of the byte, or the byte if it is printable.
+fn write_escape<X: Write>(out: &mut X, byte: u8) -> io::Result<()>
+    ensures whole { OnOk result (Appends (X.contents out.old) (X.contents out.new) (escape_ascii byte)) }
+    ensures front { (front : List ℕ) × StartsWith (escape_ascii byte) front
+        × Appends (X.contents out.old) (X.contents out.new) front }
+{
+    let mut rest = byte.escape_ascii();
+    'escape: while let Some(escaped) = rest.next() {
+        write_whole(out, &[escaped])?;
+    }
+    Ok(())
+}
+
+/// Writes the bytes, escaped.
+fn write_escaped<X: Write>(out: &mut X, bytes: &[u8]) -> io::Result<()>
+    ensures whole { OnOk result (Appends (X.contents out.old) (X.contents out.new) (escaped bytes.now)) }
+    ensures front { (front : List ℕ) × StartsWith (escaped bytes.now) front
+        × Appends (X.contents out.old) (X.contents out.new) front }
+{
+    for byte in bytes {
+        write_escape(out, *byte)?;
+    }
+    Ok(())
+}
+
+/// Writes the part.
+fn write_part<X: Write>(out: &mut X, part: Part<'_>) -> io::Result<()>
+    ensures whole { OnOk result (Appends (X.contents out.old) (X.contents out.new) (part_text part)) }
+    ensures front { (front : List ℕ) × StartsWith (part_text part) front
+        × Appends (X.contents out.old) (X.contents out.new) front }
+{
+    match part {
+        Part::Plain(bytes) => write_whole(out, bytes),
+        Part::Escaped(bytes) => write_escaped(out, bytes),
+    }
+}
+
+/// Writes the parts, one after another. If a write fails, the writer has taken a front of their text.
 ///
 /// ```text
-/// the name a, line 2, what "not a rule", the text "x\ty": "a:2: not a rule: x\\ty"
+/// the parts Escaped("a\t") and Plain(":"): "a\\t:"
 /// ```
-pub fn report_text<X: Write>(
+pub fn write_parts<X: Write>(out: &mut X, parts: &[Part<'_>]) -> io::Result<()>
+    ensures whole { OnOk result (Appends (X.contents out.old) (X.contents out.new) (parts_text parts.now)) }
+    ensures front { (front : List ℕ) × StartsWith (parts_text parts.now) front
+        × Appends (X.contents out.old) (X.contents out.new) front }
+{
+    for part in parts {
+        write_part(out, *part)?;
+    }
+    Ok(())
+}
+
+/// The bytes of a refused text that are reported.
+fn shown_of(text: &[u8]) -> &[u8]
+    ensures { result.now ≡ take most_text text.now }
+{
+    if text.len() <= MOST_SHOWN {
+        text
+    } else {
+        &text[..MOST_SHOWN]
+    }
+}
+
+/// What follows the bytes of a text that are reported.
+fn dots_of(text: &[u8]) -> &'static str
+    ensures { result.now ≡ dots_after text.now }
+{
+    if text.len() > MOST_SHOWN { ".." } else { "" }
+}
+
+/// The reason for which a text is refused, as it is reported.
+#[derive(Clone, Copy)]
+struct Reason {
+    open: &'static str,
+    why: &'static str,
+    close: &'static str,
+}
+
+/// The reason, in parentheses.
+fn reason_of(why: Option<&'static str>) -> Reason
+    ensures { result.open.now ++ result.why.now ++ result.close.now ≡ reason_text (words_of why) }
+{
+    match why {
+        Some(why) => Reason {
+            open: " (",
+            why,
+            close: ")",
+        },
+        None => Reason {
+            open: "",
+            why: "",
+            close: "",
+        },
+    }
+}
+
+/// Reports a refused text of the line with this number of the list with this name. Bytes of the name and the text that
+/// are not printable ASCII are escaped. Of a long text only the beginning is reported, so that a file that is not a
+/// list does not fill the screen. If a write fails, a front of the line has been written.
+///
+/// ```text
+/// the name a, line 2, the text "x\ty", what "not a rule", and no reason: "a:2: not a rule: x\\ty\n"
+/// ```
+pub fn report_line<X: Write>(
     faults: &mut X,
     name: &str,
     number: usize,
-    what: &str,
     text: &[u8],
-) -> io::Result<()> {
-    let shown = text.len().min(MOST_SHOWN);
-    let rest = if shown < text.len() { ".." } else { "" };
-    let text = text[..shown].escape_ascii();
-    let name = name.as_bytes().escape_ascii();
-    write!(faults, "{name}:{number}: {what}: {text}{rest}")
+    explanation: Explanation,
+) -> io::Result<()>
+    ensures whole { OnOk result (Appends (X.contents faults.old) (X.contents faults.new)
+        (report_line name.now number text.now explanation.what.now (words_of explanation.why))) }
+    ensures front { (front : List ℕ)
+        × StartsWith (report_line name.now number text.now explanation.what.now (words_of explanation.why)) front
+        × Appends (X.contents faults.old) (X.contents faults.new) front }
+{
+    let mut buffer = Buffer::new();
+    let number = buffer.format(number);
+    let reason = reason_of(explanation.why);
+    write_parts(
+        faults,
+        &[
+            Part::Escaped(name.as_bytes()),
+            Part::Plain(b":"),
+            Part::Plain(number.as_bytes()),
+            Part::Plain(b": "),
+            Part::Plain(explanation.what.as_bytes()),
+            Part::Plain(b": "),
+            Part::Escaped(shown_of(text)),
+            Part::Plain(dots_of(text).as_bytes()),
+            Part::Plain(reason.open.as_bytes()),
+            Part::Plain(reason.why.as_bytes()),
+            Part::Plain(reason.close.as_bytes()),
+            Part::Plain(b"\n"),
+        ],
+    )
+}
+
+/// Why a text is not an entry, in the words of a report.
+///
+/// ```text
+/// of LengthAbove32: "not a network, an address or a range", and "the prefix length is above 32"
+/// ```
+pub fn explain_cause(cause: Option<Cause>) -> Explanation
+    ensures what { result.what.now ≡ no_entry }
+    ensures why { words_of result.why ≡ cause_words cause }
+{
+    let why = match cause {
+        Some(cause) => Some(cause.text()),
+        None => None,
+    };
+    Explanation {
+        what: NO_ENTRY,
+        why,
+    }
 }
 
 impl LineCause for Option<Cause> {
-    fn report<X: Write>(
-        &self,
-        faults: &mut X,
-        name: &str,
-        number: usize,
-        text: &[u8],
-    ) -> io::Result<()> {
-        report_text(faults, name, number, NO_ENTRY, text)?;
-        match self {
-            Some(cause) => writeln!(faults, " ({cause})"),
-            None => writeln!(faults),
-        }
+    ghost explains = { ExplainsCause };
+
+    fn explain(&self, _: &[u8]) -> Explanation {
+        explain_cause(*self)
     }
 }
 
 impl LineCause for NotEntry {
-    fn report<X: Write>(
-        &self,
-        faults: &mut X,
-        name: &str,
-        number: usize,
-        text: &[u8],
-    ) -> io::Result<()> {
-        self.cause(text).report(faults, name, number, text)
+    ghost explains = { ExplainsEntry };
+
+    fn explain(&self, text: &[u8]) -> Explanation {
+        explain_cause(self.cause(text))
     }
 }

@@ -19,7 +19,8 @@ use Rattle.netset_lib.specs.declared.query.Query.TheVariants.{Count, Compare, Fi
 use Rattle.netset_lib.specs.declared.session.Session.{Session}
 use Rattle.netset_lib.specs.Answers.{AreListsRead, IsSetText, IsNamedComplement}
 use Rattle.netset_lib.specs.Answering.{IsAnswererFor, AreAnswersBy}
-use Rattle.netset_lib.specs.Counts.{Names, IsComparison}
+use Rattle.ipnet_lists.specs.Names.{Names}
+use Rattle.netset_lib.specs.Counts.{IsComparison}
 use Rattle.netset_lib.specs.EntryAnswers.{IsFoundIn}
 use Rattle.ipnet_lists.specs.Lists.{ListEntry, Refusal, AreRead, IsInEntries, HaveAddresses}
 use Rattle.netset_lib.specs.ListSets.{HaveMembers}

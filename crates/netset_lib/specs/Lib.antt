@@ -39,3 +39,6 @@ pub mod PrefixReading
 pub mod TextTables
 pub mod TextSteps
 pub mod TextReplies
+pub mod Reports
+pub mod ListReports
+pub mod Reasons

@@ -8,7 +8,8 @@ use Rattle.netset_lib.specs.declared.command.Work.TheVariants.{Combine, Ask}
 use Rattle.netset_lib.specs.declared.query.Query.{Query}
 use Rattle.netset_lib.specs.declared.query.Query.TheVariants.{Count, Compare, Filter, Route}
 use Rattle.netset_lib.specs.Answers.{AreListsRead, IsAnswer, IsNamedComplement, HasRefused}
-use Rattle.netset_lib.specs.Counts.{Names, IsCountAnswer, IsCompareAnswer, HaveSame}
+use Rattle.ipnet_lists.specs.Names.{Names}
+use Rattle.netset_lib.specs.Counts.{IsCountAnswer, IsCompareAnswer, HaveSame}
 use Rattle.netset_lib.specs.EntryAnswers.{IsFoundIn}
 use Rattle.netset_lib.specs.declared.filter.Side.{Side}
 use Rattle.netset_lib.specs.Filters.{IsOnSide, LiesIn, AreKept, text_of_entries, IsFilterAnswer}

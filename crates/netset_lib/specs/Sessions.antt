@@ -15,7 +15,8 @@ use Rattle.netset_lib.specs.declared.query.Query.TheVariants.{Count, Compare, Fi
 use Rattle.netset_lib.specs.declared.session.Session.{Session}
 use Rattle.netset_lib.specs.Answering.{IsAnswererFor, AreAnswersBy}
 use Rattle.netset_lib.specs.Answers.{AreListsRead, IsSetText, IsNamedComplement}
-use Rattle.netset_lib.specs.Counts.{Names, IsCountText, IsComparison}
+use Rattle.ipnet_lists.specs.Names.{Names}
+use Rattle.netset_lib.specs.Counts.{IsCountText, IsComparison}
 use Rattle.ipnet_lists.specs.Lists.{ListEntry, Refusal, IsListRead, IsInEntries}
 use Rattle.netset_lib.specs.ListSets.{HaveMembers}
 use Rattle.netset_lib.specs.Operations.{IsInResult}
