@@ -41,8 +41,9 @@ pub use reader::{Collector, FoundEntry, LineReader, first_line_of_bytes, read_te
 pub use reading::{ReadFailure, Reading, read_bytes};
 pub use refused::{
     Explanation, LineCause, MOST_LINES, Refusals, Refused, RefusedLine, RefusedLines, RefusedPart,
-    name_of, report_more, report_since,
 };
-pub use report::{NO_ENTRY, Part, explain_cause, report_line, write_parts};
+pub use report::{
+    NO_ENTRY, Part, explain_cause, name_of, report_line, report_more, report_since, write_parts,
+};
 pub use set_lines::{network_lines, range_lines};
 pub use word::{cut_word, first_blank};

@@ -1,15 +1,20 @@
 //! Reports of refused lines.
-ghost use Rattle.std.specs.Prelude.{◌≡◌, ◌++◌, List, ℕ, codes, decimal, take, OnOk};
+ghost use Rattle.std.specs.Prelude.{◌≡◌, ◌++◌, List, ℕ, take, drop, map, OnOk};
 ghost use Rattle.std.specs.Char.Escape.{escape_ascii};
 ghost use Rattle.std.specs.Io.{StartsWith};
-ghost use Rattle.std.specs.Io.KnownBytes.{Appends};
+ghost use Rattle.std.specs.Io.KnownBytes.{Appends, Keeps};
+ghost use Rattle.ipnet_text.specs.Outputs.{IsWritten, IsFrontWritten};
+ghost use Rattle.ipnet_lists.specs.Names.{name_at};
+ghost use Rattle.ipnet_lists.specs.RefusedLines.{refusal_of};
+ghost use Rattle.ipnet_lists.specs.Reports.{IsReportOf, AreReported, AreFirstReported, IsReport, IsReportBegun};
+ghost use Rattle.ipnet_lists.specs.Reports.{OfNew, more_line};
 ghost use Rattle.ipnet_lists.specs.ReportParts.{part_text, parts_text};
 ghost use Rattle.ipnet_lists.specs.Reports.{escaped, dots_after, reason_text, report_line, most_text};
 ghost use Rattle.ipnet_lists.specs.Reports.{no_entry, cause_words, ExplainsCause, ExplainsEntry};
 ghost use Rattle.ipnet_lists.specs.Explanations.{words_of};
 
 use crate::cause::{Cause, NotEntry};
-use crate::refused::{Explanation, LineCause};
+use crate::refused::{Explanation, LineCause, Refusals, Refused};
 use ipnet_text::write_whole;
 use itoa::Buffer;
 use std::io;
@@ -134,11 +139,11 @@ fn reason_of(why: Option<&'static str>) -> Reason
 /// ```text
 /// the name a, line 2, the text "x\ty", what "not a rule", and no reason: "a:2: not a rule: x\\ty\n"
 /// ```
-pub fn report_line<X: Write>(
+pub fn report_line<'a, X: Write>(
     faults: &mut X,
-    name: &str,
+    name: &'a str,
     number: usize,
-    text: &[u8],
+    text: &'a [u8],
     explanation: Explanation,
 ) -> io::Result<()>
     ensures whole { OnOk result (Appends (X.contents faults.old) (X.contents faults.new)
@@ -202,4 +207,123 @@ impl LineCause for NotEntry {
     fn explain(&self, text: &[u8]) -> Explanation {
         explain_cause(self.cause(text))
     }
+}
+
+/// Returns the name of the list with this index.
+///
+/// ```text
+/// 1 of a and b: "b"; 2: "list"
+/// ```
+pub fn name_of<'a>(names: &[&'a str], index: usize) -> &'a str
+    ensures { result.now ≡ name_at names.now index }
+{
+    match names.get(index) {
+        Some(name) => *name,
+        None => "list",
+    }
+}
+
+/// Reports a refused line.
+fn report_one<X: Write, C: LineCause>(
+    faults: &mut X,
+    names: &[&str],
+    line: &Refused<C>,
+) -> io::Result<()>
+    ensures whole { OnOk result (IsWritten (IsReportOf C.explains names.now (refusal_of line.now))
+        (X.contents faults.old) (X.contents faults.new)) }
+    ensures front { IsFrontWritten (IsReportOf C.explains names.now (refusal_of line.now))
+        (X.contents faults.old) (X.contents faults.new) }
+{
+    let text = line.text.as_slice();
+    let explanation = line.cause.explain(text);
+    report_line(
+        faults,
+        name_of(names, line.list),
+        line.number,
+        text,
+        explanation,
+    )
+}
+
+/// Reports the refused lines, one after another.
+fn report_lines<X: Write, C: LineCause>(
+    faults: &mut X,
+    names: &[&str],
+    lines: &[Refused<C>],
+) -> io::Result<()>
+    ensures whole { OnOk result (IsWritten (AreReported C.explains names.now (map refusal_of lines.now))
+        (X.contents faults.old) (X.contents faults.new)) }
+    ensures front { IsFrontWritten (AreFirstReported C.explains names.now (map refusal_of lines.now))
+        (X.contents faults.old) (X.contents faults.new) }
+{
+    for line in lines {
+        report_one(faults, names, line)?;
+    }
+    Ok(())
+}
+
+/// The lines after the first `shown`.
+fn lines_after<C>(lines: &[Refused<C>], shown: usize) -> &[Refused<C>]
+    ensures { result.now ≡ drop shown lines.now }
+{
+    if shown <= lines.len() {
+        &lines[shown..]
+    } else {
+        &[]
+    }
+}
+
+/// Reports the refused lines that are kept, and the number of the others. `before` is how many of them are reported
+/// already, first of those that are kept, and then of all. Nothing is printed if these are all.
+///
+/// ```text
+/// twelve lines of a list, before (0, 0): ten lines, and "netset: and 2 more"
+/// ```
+pub fn report_since<X: Write, C: LineCause>(
+    faults: &mut X,
+    names: &[&str],
+    lines: &Refusals<C>,
+    before: (usize, usize),
+) -> io::Result<()>
+    ensures none { lines.now.count ≡ before.1 → Keeps (X.contents faults.old) (X.contents faults.new) }
+    ensures whole { OnOk result (IsWritten
+        (OfNew (IsReport C.explains names.now) lines.now before.0 before.1)
+        (X.contents faults.old) (X.contents faults.new)) }
+    ensures front { IsFrontWritten (OfNew (IsReportBegun C.explains names.now) lines.now before.0 before.1)
+        (X.contents faults.old) (X.contents faults.new) }
+{
+    let (shown, count) = before;
+    if lines.count == count {
+        return Ok(());
+    }
+    let new = lines_after(lines.shown.as_slice(), shown);
+    report_lines(faults, names, new)?;
+    let more = lines.count.saturating_sub(count).saturating_sub(new.len());
+    report_more(faults, more)
+}
+
+/// Reports the number of the refused lines that are not shown. Nothing is printed if all are.
+///
+/// ```text
+/// 2: "netset: and 2 more\n"; 0: nothing
+/// ```
+pub fn report_more<X: Write>(faults: &mut X, more: usize) -> io::Result<()>
+    ensures none { more ≡ 0 → Keeps (X.contents faults.old) (X.contents faults.new) }
+    ensures whole { OnOk result (Appends (X.contents faults.old) (X.contents faults.new) (more_line more)) }
+    ensures front { (front : List ℕ) × StartsWith (more_line more) front
+        × Appends (X.contents faults.old) (X.contents faults.new) front }
+{
+    if more == 0 {
+        return Ok(());
+    }
+    let mut buffer = Buffer::new();
+    let number = buffer.format(more);
+    write_parts(
+        faults,
+        &[
+            Part::Plain(b"netset: and "),
+            Part::Plain(number.as_bytes()),
+            Part::Plain(b" more\n"),
+        ],
+    )
 }

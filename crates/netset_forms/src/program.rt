@@ -1,13 +1,16 @@
 //! The commands of the program whose answer is a set, in any form.
-ghost use Rattle.std.specs.Prelude.{◌≡◌, IsTrue, List, ℕ, OnOk, ⊤};
+ghost use Rattle.std.specs.Prelude.{◌≡◌, IsTrue, List, ℕ, OnOk};
 ghost use Rattle.ipnet_text.specs.Outputs.{IsWritten, IsFrontWritten};
 ghost use Rattle.netset_forms.specs.FormWords.{form_words};
 ghost use Rattle.netset_lib.specs.Reports.{words_line};
 ghost use Rattle.ipnet.specs.declared.parser.Grammar.{Grammar};
-ghost use Rattle.netset_lib.specs.RuleAnswers.{IsRuleFailure};
+ghost use Rattle.netset_lib.specs.RuleAnswers.{IsRuleFailure, IsPermittedSet};
 ghost use Rattle.netset_lib.specs.RuleContentsOf.{contents_of};
 ghost use Rattle.netset_lib.specs.RuleLines.{IsRuleList};
-ghost use Rattle.netset_lib.specs.Runs.{OfCombined, IsFault, HasNoResult};
+ghost use Rattle.netset_lib.specs.Runs.{OfCombined, OfResult, IsFault, HasNoResult};
+ghost use Rattle.ipnet_sets.specs.Members.{IsMember};
+ghost use Rattle.ipnet_sets.specs.declared.set.IpSet.{IpSet};
+ghost use Rattle.netset_forms.specs.Forms.{IsFormFailure};
 ghost use Rattle.netset_forms.specs.FormAnswers.{IsFormAnswer, IsPermittedForm};
 
 use crate::form::{FormFailure, FormRequest};
@@ -64,7 +67,8 @@ impl<'a> Command for FormCommand<'a> {
 
     ghost is_outcome = { λ _ succeeded. IsTrue succeeded };
 
-    ghost is_failure = { λ c. IsFault (HasNoResult c.session) (λ _. ⊤) };
+    ghost is_failure = { λ c. IsFault (HasNoResult c.session) (λ failure.
+        OfResult (λ set. IsFormFailure c.form.form c.form.min_length (IsMember set) failure) c.session) };
 
     fn write<W: Write>(self, out: &mut W) -> Result<bool, Fault<Failure, FormFailure>> {
         let FormCommand { session, form } = self;
@@ -102,7 +106,9 @@ impl<'a> Command for PermittedCommand<'a> {
 
     ghost is_outcome = { λ _ succeeded. IsTrue succeeded };
 
-    ghost is_failure = { λ c. IsFault (IsRuleFailure (contents_of c.list)) (λ _. ⊤) };
+    ghost is_failure = { λ c. IsFault (IsRuleFailure (contents_of c.list)) (λ failure. (set : IpSet)
+        × IsPermittedSet c.default (contents_of c.list) set
+        × IsFormFailure c.form.form c.form.min_length (IsMember set) failure) };
 
     fn write<W: Write>(
         self,

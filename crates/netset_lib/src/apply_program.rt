@@ -1,7 +1,9 @@
 //! The command `apply` of the program.
-ghost use Rattle.std.specs.Prelude.{IsTrue, ⊤};
+ghost use Rattle.std.specs.Prelude.{IsTrue};
+ghost use Rattle.ipnet_sets.specs.Members.{IsMember};
+ghost use Rattle.netset_lib.specs.ApplySteps.{IsChangeFailure};
 ghost use Rattle.netset_lib.specs.ChangeLists.{IsChangedAnswer};
-ghost use Rattle.netset_lib.specs.Runs.{OfCombined, IsFault, HasNoResult};
+ghost use Rattle.netset_lib.specs.Runs.{OfCombined, HoldsOfSet, IsFault, HasNoResult};
 
 use crate::apply::changed_text;
 use crate::change_line::ChangeCause;
@@ -45,7 +47,9 @@ impl<'a> TextCommand for ApplyCommand<'a> {
 
     ghost is_outcome = { λ _ succeeded. IsTrue succeeded };
 
-    ghost is_failure = { λ command. IsFault (HasNoResult command.session) (λ _. ⊤) };
+    ghost is_failure = { λ command. IsFault (HasNoResult command.session) (λ failure. OfCombined (λ request lists.
+        HoldsOfSet request lists (λ set. IsChangeFailure request.grammar (IsMember set) command.changes.now failure))
+        command.session) };
 
     fn answer(self) -> Result<(String, bool), Fault<Failure, ListFailure<ChangeCause>>> {
         let ApplyCommand { session, changes } = self;
