@@ -1,5 +1,6 @@
 -- Reports that are written part by part: what is written after some parts, and what after a front of the next.
-use Rattle.std.proofs.Common.{◌≡◌, ◌≢◌, ◌+◌, ◌-◌, ℕ, List, [], ◌∷◌, ◌++◌, length, take, drop, map, refl, sym, ap, ◌∙◌, subst}
+use Rattle.std.proofs.Common.{◌≡◌, ◌≢◌, ◌+◌, ◌-◌, ℕ, List, [], ◌∷◌, ◌++◌, length, take, drop, map, refl, sym, ap, ◌∙◌}
+use Rattle.std.proofs.Common.{subst, arith, codes, decimal, zero, suc}
 use Rattle.std.proofs.Common.{append_assoc, append-nil, take-append-drop, take_all, flat_map, ap₂, Option, inl, inr}
 use Rattle.std.specs.Io.{StartsWith}
 use Rattle.std.specs.Io.KnownBytes.{Appends}
@@ -14,10 +15,11 @@ use Rattle.ipnet_lists.specs.Lists.{RefusalFor}
 use Rattle.ipnet_lists.specs.Names.{Names, name_at}
 use Rattle.ipnet_lists.specs.RefusedLines.{refusal_of}
 use Rattle.ipnet_lists.specs.Reports.{IsReportOf, AreReported, AreFirstReported, IsReport, IsReportBegun}
-use Rattle.ipnet_lists.specs.Reports.{OfNew, new_refusals, more_refusals, more_line, report_line}
+use Rattle.ipnet_lists.specs.Reports.{OfNew, new_refusals, more_refusals, count_line, more_line}
+use Rattle.ipnet_lists.specs.Reports.{report_line, escaped, dots_after, reason_text, most_text}
 
 -- a front of the text was written
-pub IsFrontOf : List ℕ → Option (List ℕ) → Option (List ℕ) → Type 0
+abbrev pub IsFrontOf : List ℕ → Option (List ℕ) → Option (List ℕ) → Type 0
 IsFrontOf text a b = (front : List ℕ) × StartsWith text front × Appends a b front
 
 -- a front of the second text, after the first text
@@ -28,19 +30,40 @@ front_after done text front begins =
     ap (λ z. done ++ z) (starts_with_rest text front begins) ∙ sym (append_assoc done front rest) in
     ap (take (length (done ++ front))) cut ∙ take_at (done ++ front) rest _ refl
 
--- a front of the first text is one of the texts together
-pub front_before : (text more front : List ℕ) → StartsWith text front → StartsWith (text ++ more) front
-front_before text more front begins =
-    let rest = drop (length front) text in
-    let cut : text ++ more ≡ front ++ (rest ++ more) =
-    ap (λ z. z ++ more) (starts_with_rest text front begins) ∙ append_assoc front rest more in
-    ap (take (length front)) cut ∙ take_at front (rest ++ more) _ refl
-
 -- a front of the next piece, after what is done
 pub front_more : (done piece more whole : List ℕ) (a b c : Option (List ℕ)) → whole ≡ (done ++ piece) ++ more
     → Appends a b done → IsFrontOf piece b c → IsFrontOf whole a c
 front_more done piece more whole a b c is written front =
     front_written a b c piece (done ++ piece) more whole (record { done = done; written = written; is = refl }) is front
+
+-- ---- lines
+
+-- the text of the parts of a line
+abbrev pub parts_of_line : ℕ → List ℕ → List ℕ → List ℕ → List ℕ → List ℕ → List ℕ
+parts_of_line number what name shown dots tail =
+    escaped name ++ codes ":" ++ decimal number ++ codes ": " ++ what ++ codes ": " ++ escaped shown ++ dots ++ tail
+
+-- the parts of a line are the line
+pub line_of_parts : (name named : List ℕ) (number : ℕ) (what text shown dots left because right : List ℕ)
+    (why : Option (List ℕ)) → named ≡ name → shown ≡ take most_text text → dots ≡ dots_after text
+    → left ++ because ++ right ≡ reason_text why
+    → parts_of_line number what named shown dots (left ++ because ++ right ++ 10 ∷ [])
+    ≡ report_line name number text what why
+line_of_parts name named number what text shown dots left because right why n s d r =
+    let tail = left ++ because ++ right ++ 10 ∷ [] in
+    let front = take most_text text in
+    ap (λ z. parts_of_line number what z shown dots tail) n
+    ∙ ap (λ z. parts_of_line number what name z dots tail) s
+    ∙ ap (λ z. parts_of_line number what name front z tail) d
+    ∙ ap (parts_of_line number what name front (dots_after text))
+    (sym (append_assoc left (because ++ right) (10 ∷ [])
+    ∙ ap (λ z. left ++ z) (append_assoc because right (10 ∷ [])))
+    ∙ ap (λ z. z ++ 10 ∷ []) r)
+
+-- if there are other lines, their number is reported
+pub more_is_line : (more : ℕ) → more ≢ 0 → count_line more ≡ more_line more
+more_is_line zero ne = absurd (ne refl)
+more_is_line (suc more) ne = refl
 
 -- ---- the texts of the elements of a list, one after another
 
@@ -68,7 +91,7 @@ module _ {X : Type 0} (f : X → List ℕ) (xs : List X) (i : ℕ) (x : X) (a b 
 module _ {C : Type 0} (Explains : C → List ℕ → List ℕ → Option (List ℕ) → Type 0) (names : Names) where
   module _ (r : RefusalFor C) (name text what : List ℕ) (why : Option (List ℕ)) (a b : Option (List ℕ))
       (named : name ≡ name_at names r.list) (same : text ≡ r.text) (explains : Explains r.cause text what why) where
-    line : List ℕ
+    abbrev pub line : List ℕ
     line = report_line name r.number text what why
 
     reports : IsReportOf Explains names r line

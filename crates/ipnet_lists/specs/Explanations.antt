@@ -1,4 +1,4 @@
--- What a text is not, and why, as contracts see them.
+-- The words for why a text is refused, as contracts see them.
 use Rattle.std.specs.Prelude.{ℕ, List, Option, Some, None}
 use Rattle.std.specs.Borrow.{Bor}
 

@@ -1,6 +1,6 @@
 -- The reports of refused lines, as they are on standard error.
-use Rattle.std.specs.Prelude.{◌≡◌, ◌≢◌, ◌⊎◌, ℕ, ◌-◌, ◌==◌, nat_lt, if◌then◌else◌, List, [], ◌∷◌, ◌++◌, length, take, drop}
-use Rattle.std.specs.Prelude.{flat_map, codes, decimal, Option, Some, None}
+use Rattle.std.specs.Prelude.{◌≡◌, ◌≢◌, ◌⊎◌, ℕ, ◌-◌, ◌==◌, nat_lt, if◌then◌else◌, List, [], ◌∷◌, ◌++◌, length, take}
+use Rattle.std.specs.Prelude.{drop, flat_map, codes, decimal, Option, Some, None}
 use Rattle.std.specs.Char.Escape.{escape_ascii}
 use Rattle.ipnet_lists.specs.declared.cause.Cause.{Cause}
 use Rattle.ipnet_lists.specs.declared.cause.NotEntry.{NotEntry}
@@ -11,16 +11,16 @@ use Rattle.ipnet_lists.specs.Lists.{RefusalFor}
 use Rattle.ipnet_lists.specs.Names.{Names, name_at}
 use Rattle.ipnet_lists.specs.RefusedLines.{shown_refusals}
 
--- The bytes as they are reported: a byte that is not printable ASCII, a quotation mark and a backslash become an escape.
+-- The bytes as they are reported. A byte that is not printable ASCII, a quotation mark and a backslash become an escape.
 -- Example: a tab (9) becomes `\t`, and the byte 200 becomes `\xc8`.
 abbrev pub escaped : List ℕ → List ℕ
 escaped bytes = flat_map escape_ascii bytes
 
--- Of a refused text at most this many bytes are reported.
+-- At most this many bytes of a refused text are reported.
 abbrev pub most_text : ℕ
 most_text = 100
 
--- What follows the reported bytes of a text: `..` if the text has more bytes.
+-- The bytes after those of the text: `..` if the text has more bytes than are reported.
 abbrev pub dots_after : List ℕ → List ℕ
 dots_after text = if nat_lt most_text (length text) then codes ".." else []
 
@@ -30,13 +30,13 @@ reason_text None = []
 reason_text (Some why) = codes " (" ++ why ++ codes ")"
 
 -- The line that reports a refused text: the name of its list, its number, what it is not, its first bytes, and why.
--- Example: `a:1: not a network, an address or a range: 10.0.0.0/33 (the prefix length is above 32)`, and a line feed (10).
+-- Example: `a:1: not a network, an address or a range: 10.0.0.0/33 (the prefix length is above 32)`, and byte 10.
 abbrev pub report_line : List ℕ → ℕ → List ℕ → List ℕ → Option (List ℕ) → List ℕ
 report_line name number text what why =
     escaped name ++ codes ":" ++ decimal number ++ codes ": " ++ what ++ codes ": " ++ escaped (take most_text text)
     ++ dots_after text ++ reason_text why ++ 10 ∷ []
 
--- What a line is not that is not an entry.
+-- The words for a line that is not an entry.
 abbrev pub no_entry : List ℕ
 no_entry = codes "not a network, an address or a range"
 
@@ -71,8 +71,12 @@ AreReported Explains names (r ∷ refusals) text = (line : List ℕ) × (rest : 
     × IsReportOf Explains names r line × AreReported Explains names refusals rest
 
 -- The line that says how many other lines are refused. Example: `netset: and 2 more`, and a line feed.
+abbrev pub count_line : ℕ → List ℕ
+count_line more = codes "netset: and " ++ decimal more ++ codes " more" ++ 10 ∷ []
+
+-- This line, if there are other lines.
 abbrev pub more_line : ℕ → List ℕ
-more_line more = if more == 0 then [] else codes "netset: and " ++ decimal more ++ codes " more" ++ 10 ∷ []
+more_line more = if more == 0 then [] else count_line more
 
 -- The report of these refusals, and of the number of others that are not shown.
 pub record IsReport {C : Type 0} (Explains : C → List ℕ → List ℕ → Option (List ℕ) → Type 0) (names : Names)
@@ -92,7 +96,7 @@ abbrev pub IsReportBegun : {C : Type 0} → (C → List ℕ → List ℕ → Opt
 IsReportBegun Explains names shown more text =
     AreFirstReported Explains names shown text ⊎ IsReport Explains names shown more text
 
--- Of the kept lines, the ones after the first `shown`.
+-- The kept lines after the first `shown`.
 abbrev pub new_refusals : {C : Type 0} → Refusals C → ℕ → List (RefusalFor C)
 new_refusals lines shown = drop shown (shown_refusals lines)
 

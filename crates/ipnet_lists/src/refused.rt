@@ -9,14 +9,14 @@ use std::alloc::{AllocError, Global};
 /// At most this many refused lines are reported.
 pub const MOST_LINES: usize = 10;
 
-/// What a refused text is not, and why, in the words of a report.
+/// The words of a report for a refused text: what it is not, and why.
 ///
 /// ```text
 /// of 10.0.0.0/33: what "not a network, an address or a range", why "the prefix length is above 32"
 /// ```
 #[derive(Clone, Copy, Debug)]
 pub struct Explanation {
-    /// What the text is not.
+    /// The words for what the text is not.
     pub what: &'static str,
     /// Why, if that can be named.
     pub why: Option<&'static str>,

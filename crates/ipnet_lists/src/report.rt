@@ -1,5 +1,5 @@
 //! Reports of refused lines.
-ghost use Rattle.std.specs.Prelude.{◌≡◌, ◌++◌, List, ℕ, take, drop, map, OnOk};
+ghost use Rattle.std.specs.Prelude.{◌≡◌, ◌++◌, ◌-◌, List, ℕ, take, drop, map, OnOk};
 ghost use Rattle.std.specs.Char.Escape.{escape_ascii};
 ghost use Rattle.std.specs.Io.{StartsWith};
 ghost use Rattle.std.specs.Io.KnownBytes.{Appends, Keeps};
@@ -7,7 +7,7 @@ ghost use Rattle.ipnet_text.specs.Outputs.{IsWritten, IsFrontWritten};
 ghost use Rattle.ipnet_lists.specs.Names.{name_at};
 ghost use Rattle.ipnet_lists.specs.RefusedLines.{refusal_of};
 ghost use Rattle.ipnet_lists.specs.Reports.{IsReportOf, AreReported, AreFirstReported, IsReport, IsReportBegun};
-ghost use Rattle.ipnet_lists.specs.Reports.{OfNew, more_line};
+ghost use Rattle.ipnet_lists.specs.Reports.{OfNew, count_line, more_line};
 ghost use Rattle.ipnet_lists.specs.ReportParts.{part_text, parts_text};
 ghost use Rattle.ipnet_lists.specs.Reports.{escaped, dots_after, reason_text, report_line, most_text};
 ghost use Rattle.ipnet_lists.specs.Reports.{no_entry, cause_words, ExplainsCause, ExplainsEntry};
@@ -29,6 +29,10 @@ pub const NO_ENTRY: &str = "not a network, an address or a range";
 /// A part of a report.
 #[derive(Clone, Copy)]
 pub enum Part<'a> {
+    /// Words of the program.
+    Words(&'static str),
+    /// A number, in decimal.
+    Number(usize),
     /// Bytes that are written as they are.
     Plain(&'a [u8]),
     /// Bytes of which those that are not printable ASCII are escaped.
@@ -36,9 +40,9 @@ pub enum Part<'a> {
 }
 
 /// Writes the escape of the byte, or the byte if it is printable.
-fn write_escape<X: Write>(out: &mut X, byte: u8) -> io::Result<()>
-    ensures whole { OnOk result (Appends (X.contents out.old) (X.contents out.new) (escape_ascii byte)) }
-    ensures front { (front : List ℕ) × StartsWith (escape_ascii byte) front
+fn write_escape<X: Write>(out: &mut X, byte: &u8) -> io::Result<()>
+    ensures whole { OnOk result (Appends (X.contents out.old) (X.contents out.new) (escape_ascii byte.now)) }
+    ensures front { (front : List ℕ) × StartsWith (escape_ascii byte.now) front
         × Appends (X.contents out.old) (X.contents out.new) front }
 {
     let mut rest = byte.escape_ascii();
@@ -55,18 +59,20 @@ fn write_escaped<X: Write>(out: &mut X, bytes: &[u8]) -> io::Result<()>
         × Appends (X.contents out.old) (X.contents out.new) front }
 {
     for byte in bytes {
-        write_escape(out, *byte)?;
+        write_escape(out, byte)?;
     }
     Ok(())
 }
 
 /// Writes the part.
-fn write_part<X: Write>(out: &mut X, part: Part<'_>) -> io::Result<()>
-    ensures whole { OnOk result (Appends (X.contents out.old) (X.contents out.new) (part_text part)) }
-    ensures front { (front : List ℕ) × StartsWith (part_text part) front
+fn write_part<X: Write>(out: &mut X, part: &Part<'_>) -> io::Result<()>
+    ensures whole { OnOk result (Appends (X.contents out.old) (X.contents out.new) (part_text part.now)) }
+    ensures front { (front : List ℕ) × StartsWith (part_text part.now) front
         × Appends (X.contents out.old) (X.contents out.new) front }
 {
     match part {
+        Part::Words(words) => write_whole(out, words.as_bytes()),
+        Part::Number(number) => write_whole(out, Buffer::new().format(*number).as_bytes()),
         Part::Plain(bytes) => write_whole(out, bytes),
         Part::Escaped(bytes) => write_escaped(out, bytes),
     }
@@ -75,7 +81,7 @@ fn write_part<X: Write>(out: &mut X, part: Part<'_>) -> io::Result<()>
 /// Writes the parts, one after another. If a write fails, the writer has taken a front of their text.
 ///
 /// ```text
-/// the parts Escaped("a\t") and Plain(":"): "a\\t:"
+/// the parts Escaped("a\t"), Words(":") and Number(2): "a\\t:2"
 /// ```
 pub fn write_parts<X: Write>(out: &mut X, parts: &[Part<'_>]) -> io::Result<()>
     ensures whole { OnOk result (Appends (X.contents out.old) (X.contents out.new) (parts_text parts.now)) }
@@ -83,7 +89,7 @@ pub fn write_parts<X: Write>(out: &mut X, parts: &[Part<'_>]) -> io::Result<()>
         × Appends (X.contents out.old) (X.contents out.new) front }
 {
     for part in parts {
-        write_part(out, *part)?;
+        write_part(out, part)?;
     }
     Ok(())
 }
@@ -99,7 +105,7 @@ fn shown_of(text: &[u8]) -> &[u8]
     }
 }
 
-/// What follows the bytes of a text that are reported.
+/// The bytes after those of a text that are reported.
 fn dots_of(text: &[u8]) -> &'static str
     ensures { result.now ≡ dots_after text.now }
 {
@@ -109,25 +115,25 @@ fn dots_of(text: &[u8]) -> &'static str
 /// The reason for which a text is refused, as it is reported.
 #[derive(Clone, Copy)]
 struct Reason {
-    open: &'static str,
+    left: &'static str,
     why: &'static str,
-    close: &'static str,
+    right: &'static str,
 }
 
 /// The reason, in parentheses.
 fn reason_of(why: Option<&'static str>) -> Reason
-    ensures { result.open.now ++ result.why.now ++ result.close.now ≡ reason_text (words_of why) }
+    ensures { result.left.now ++ result.why.now ++ result.right.now ≡ reason_text (words_of why.entry) }
 {
     match why {
         Some(why) => Reason {
-            open: " (",
+            left: " (",
             why,
-            close: ")",
+            right: ")",
         },
         None => Reason {
-            open: "",
+            left: "",
             why: "",
-            close: "",
+            right: "",
         },
     }
 }
@@ -152,24 +158,22 @@ pub fn report_line<'a, X: Write>(
         × StartsWith (report_line name.now number text.now explanation.what.now (words_of explanation.why)) front
         × Appends (X.contents faults.old) (X.contents faults.new) front }
 {
-    let mut buffer = Buffer::new();
-    let number = buffer.format(number);
     let reason = reason_of(explanation.why);
     write_parts(
         faults,
         &[
             Part::Escaped(name.as_bytes()),
-            Part::Plain(b":"),
-            Part::Plain(number.as_bytes()),
-            Part::Plain(b": "),
-            Part::Plain(explanation.what.as_bytes()),
-            Part::Plain(b": "),
+            Part::Words(":"),
+            Part::Number(number),
+            Part::Words(": "),
+            Part::Words(explanation.what),
+            Part::Words(": "),
             Part::Escaped(shown_of(text)),
-            Part::Plain(dots_of(text).as_bytes()),
-            Part::Plain(reason.open.as_bytes()),
-            Part::Plain(reason.why.as_bytes()),
-            Part::Plain(reason.close.as_bytes()),
-            Part::Plain(b"\n"),
+            Part::Words(dots_of(text)),
+            Part::Words(reason.left),
+            Part::Words(reason.why),
+            Part::Words(reason.right),
+            Part::Words("\n"),
         ],
     )
 }
@@ -273,6 +277,13 @@ fn lines_after<C>(lines: &[Refused<C>], shown: usize) -> &[Refused<C>]
     }
 }
 
+/// How many of all lines are neither among the first `count` nor shown.
+fn hidden_of(all: usize, count: usize, shown: usize) -> usize
+    ensures { result ≡ (all - count) - shown }
+{
+    all.saturating_sub(count).saturating_sub(shown)
+}
+
 /// Reports the refused lines that are kept, and the number of the others. `before` is how many of them are reported
 /// already, first of those that are kept, and then of all. Nothing is printed if these are all.
 ///
@@ -298,7 +309,7 @@ pub fn report_since<X: Write, C: LineCause>(
     }
     let new = lines_after(lines.shown.as_slice(), shown);
     report_lines(faults, names, new)?;
-    let more = lines.count.saturating_sub(count).saturating_sub(new.len());
+    let more = hidden_of(lines.count, count, new.len());
     report_more(faults, more)
 }
 
@@ -316,14 +327,21 @@ pub fn report_more<X: Write>(faults: &mut X, more: usize) -> io::Result<()>
     if more == 0 {
         return Ok(());
     }
-    let mut buffer = Buffer::new();
-    let number = buffer.format(more);
+    report_count(faults, more)
+}
+
+/// Reports this number of lines that are not shown.
+fn report_count<X: Write>(faults: &mut X, more: usize) -> io::Result<()>
+    ensures whole { OnOk result (Appends (X.contents faults.old) (X.contents faults.new) (count_line more)) }
+    ensures front { (front : List ℕ) × StartsWith (count_line more) front
+        × Appends (X.contents faults.old) (X.contents faults.new) front }
+{
     write_parts(
         faults,
         &[
-            Part::Plain(b"netset: and "),
-            Part::Plain(number.as_bytes()),
-            Part::Plain(b" more\n"),
+            Part::Words("netset: and "),
+            Part::Number(more),
+            Part::Words(" more\n"),
         ],
     )
 }

@@ -18,8 +18,8 @@ long_words length most = codes "/" ++ decimal length ++ codes ": the prefix leng
 abbrev pub unwritable : List ℕ
 unwritable = codes "output cannot be written"
 
--- The text reports why lists have no answer. Of refused lines it is what `Is` says of those that are kept, and of the
--- number of the others.
+-- The text reports why lists have no answer. For refused lines, `Is` says so of the kept ones and the number of the
+-- others.
 abbrev pub IsFailureText : (List Refusal → ℕ → List ℕ → Type 0) → Failure → List ℕ → Type 0
 IsFailureText Is Failures.Count text = text ≡ words_line (codes "another number of lists is wanted")
 IsFailureText Is Failures.NoFamily text =

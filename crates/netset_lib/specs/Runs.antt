@@ -17,8 +17,8 @@ use Rattle.netset_lib.specs.PairSets.{ArePairSets}
 use Rattle.netset_lib.specs.Replies.{IsWorkFailure}
 use Rattle.netset_lib.specs.Sessions.{WereCombined, WereCompared}
 
--- A failure with this property has this exit status, and a front of its report was written, perhaps all of it. `IsBegun`
--- says so of a failure and the bytes of the writer, before and after.
+-- A failure with this property has this exit status, and a front of its report was written, perhaps all. `IsBegun` says
+-- so of a failure and the bytes of the writer, before and after.
 abbrev pub IsReportBegun : {F : Type 0} → (F → Type 0) → (F → ℕ) → (F → Option (List ℕ) → Option (List ℕ) → Type 0)
     → ℕ → Option (List ℕ) → Option (List ℕ) → Type 0
 IsReportBegun IsFailure exit IsBegun status held held_after =

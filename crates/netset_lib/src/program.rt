@@ -144,8 +144,8 @@ fn report_stream<X: Write>(
     }
 }
 
-/// Reports the failure of a session on `faults`, as `AnswerCommand` says. `names` are the names of the lists. If a write
-/// fails, a front of the report has been written.
+/// Reports the failure of a session on `faults`, as `AnswerCommand` says. `names` are the names of the lists. After a
+/// failed write, a front of the report has been written.
 ///
 /// ```text
 /// Memory: "netset: out of memory\n"

@@ -28,9 +28,9 @@ pub fn report_words<X: Write>(faults: &mut X, words: &str) -> io::Result<()>
     write_parts(
         faults,
         &[
-            Part::Plain(b"netset: "),
+            Part::Words("netset: "),
             Part::Plain(words.as_bytes()),
-            Part::Plain(b"\n"),
+            Part::Words("\n"),
         ],
     )
 }

@@ -24,7 +24,7 @@ pub trait Report: Drop {
     /// The exit status.
     ghost exit: { Self → ℕ };
 
-    /// Its report on lists with these names was written. The bytes before and after it are those of a writer.
+    /// Its report on lists with these names was written. A writer had the first bytes before it, and then the others.
     ghost is_reported: { Self → Names → Option (List ℕ) → Option (List ℕ) → Type 0 };
 
     /// A front of such a report was written, perhaps all of it.
