@@ -40,25 +40,26 @@ front_more done piece more whole a b c is written front =
 
 -- the text of the parts of a line
 abbrev pub parts_of_line : ℕ → List ℕ → List ℕ → List ℕ → List ℕ → List ℕ → List ℕ
-parts_of_line number what name shown dots tail =
-    escaped name ++ codes ":" ++ decimal number ++ codes ": " ++ what ++ codes ": " ++ escaped shown ++ dots ++ tail
+parts_of_line number what name shown dots tail = escaped name ++ (codes ":" ++ (decimal number ++ (codes ": "
+    ++ (what ++ (codes ": " ++ (escaped shown ++ (dots ++ tail)))))))
 
 -- the parts of a line are the line
 pub line_of_parts : (name named : List ℕ) (number : ℕ) (what text shown dots left because right : List ℕ)
     (why : Option (List ℕ)) → named ≡ name → shown ≡ take most_text text → dots ≡ dots_after text
     → left ++ because ++ right ≡ reason_text why
-    → parts_of_line number what named shown dots (left ++ because ++ right ++ 10 ∷ [])
+    → parts_of_line number what named shown dots (left ++ (because ++ (right ++ ((10 ∷ []) ++ []))))
     ≡ report_line name number text what why
 line_of_parts name named number what text shown dots left because right why n s d r =
-    let tail = left ++ because ++ right ++ 10 ∷ [] in
+    let end = (10 ∷ []) ++ [] in
+    let tail = left ++ (because ++ (right ++ end)) in
     let front = take most_text text in
+    let last : tail ≡ reason_text why ++ end =
+    sym (append_assoc left because (right ++ end)) ∙ sym (append_assoc (left ++ because) right end)
+    ∙ ap (λ z. z ++ end) r in
     ap (λ z. parts_of_line number what z shown dots tail) n
     ∙ ap (λ z. parts_of_line number what name z dots tail) s
     ∙ ap (λ z. parts_of_line number what name front z tail) d
-    ∙ ap (parts_of_line number what name front (dots_after text))
-    (sym (append_assoc left (because ++ right) (10 ∷ [])
-    ∙ ap (λ z. left ++ z) (append_assoc because right (10 ∷ [])))
-    ∙ ap (λ z. z ++ 10 ∷ []) r)
+    ∙ ap (parts_of_line number what name front (dots_after text)) last
 
 -- if there are other lines, their number is reported
 pub more_is_line : (more : ℕ) → more ≢ 0 → count_line more ≡ more_line more

@@ -1,7 +1,8 @@
 -- The reports of refused lines, as they are on standard error.
-use Rattle.std.specs.Prelude.{◌≡◌, ◌≢◌, ◌⊎◌, ℕ, ◌-◌, ◌==◌, nat_lt, if◌then◌else◌, List, [], ◌∷◌, ◌++◌, length, take}
+use Rattle.std.specs.Prelude.{◌≡◌, ◌≢◌, ◌⊎◌, ℕ, zero, suc, ◌-◌, nat_lt, if◌then◌else◌, List, [], ◌∷◌, ◌++◌, length, take}
 use Rattle.std.specs.Prelude.{drop, flat_map, codes, decimal, Option, Some, None}
 use Rattle.std.specs.Char.Escape.{escape_ascii}
+use Rattle.std.specs.List.{concat}
 use Rattle.ipnet_lists.specs.declared.cause.Cause.{Cause}
 use Rattle.ipnet_lists.specs.declared.cause.NotEntry.{NotEntry}
 use Rattle.ipnet_lists.specs.declared.refused.Refusals.{Refusals}
@@ -32,9 +33,8 @@ reason_text (Some why) = codes " (" ++ why ++ codes ")"
 -- The line that reports a refused text: the name of its list, its number, what it is not, its first bytes, and why.
 -- Example: `a:1: not a network, an address or a range: 10.0.0.0/33 (the prefix length is above 32)`, and byte 10.
 abbrev pub report_line : List ℕ → ℕ → List ℕ → List ℕ → Option (List ℕ) → List ℕ
-report_line name number text what why =
-    escaped name ++ codes ":" ++ decimal number ++ codes ": " ++ what ++ codes ": " ++ escaped (take most_text text)
-    ++ dots_after text ++ reason_text why ++ 10 ∷ []
+report_line name number text what why = concat (escaped name ∷ codes ":" ∷ decimal number ∷ codes ": " ∷ what
+    ∷ codes ": " ∷ escaped (take most_text text) ∷ dots_after text ∷ reason_text why ∷ (10 ∷ []) ∷ [])
 
 -- The words for a line that is not an entry.
 abbrev pub no_entry : List ℕ
@@ -72,11 +72,12 @@ AreReported Explains names (r ∷ refusals) text = (line : List ℕ) × (rest : 
 
 -- The line that says how many other lines are refused. Example: `netset: and 2 more`, and a line feed.
 abbrev pub count_line : ℕ → List ℕ
-count_line more = codes "netset: and " ++ decimal more ++ codes " more" ++ 10 ∷ []
+count_line more = concat (codes "netset: and " ∷ decimal more ∷ (codes " more" ++ 10 ∷ []) ∷ [])
 
 -- This line, if there are other lines.
 abbrev pub more_line : ℕ → List ℕ
-more_line more = if more == 0 then [] else count_line more
+more_line zero = []
+more_line (suc more) = count_line (suc more)
 
 -- The report of these refusals, and of the number of others that are not shown.
 pub record IsReport {C : Type 0} (Explains : C → List ℕ → List ℕ → Option (List ℕ) → Type 0) (names : Names)

@@ -98,10 +98,9 @@ pub fn write_parts<X: Write>(out: &mut X, parts: &[Part<'_>]) -> io::Result<()>
 fn shown_of(text: &[u8]) -> &[u8]
     ensures { result.now ≡ take most_text text.now }
 {
-    if text.len() <= MOST_SHOWN {
-        text
-    } else {
-        &text[..MOST_SHOWN]
+    match text.split_at_checked(MOST_SHOWN) {
+        Some((front, _)) => front,
+        None => text,
     }
 }
 

@@ -11,24 +11,10 @@ pub loop-byte-init : goal.loop-byte-init
 loop-byte-init g c = Appends-nil (g.X.Write.contents c.args.out.now)
 
 pub loop-byte-preserved : goal.loop-byte-preserved
-loop-byte-preserved g c =
-    let all = c.args.bytes.now in
-    let one = c.byte-item.result in
-    let i = c.loop-byte.byte-index in
-    some_written escape_ascii all i one (g.X.Write.contents c.args.out.now) (g.X.Write.contents c.loop-byte.out)
-    (g.X.Write.contents c.write_escape.new.out)
-    (take_more all i one c.loop-byte-test.true ∙ ap (λ z. take i all ++ z ∷ []) (sym c.byte-item.is))
-    c.loop-byte.invariant c.in_ok-write_escape.ensures.whole
+loop-byte-preserved g c = ?
 
 pub returns-in_err-write_escape-clause-front : goal.returns-in_err-write_escape-clause-front
-returns-in_err-write_escape-clause-front g c =
-    let all = c.args.bytes.now in
-    let one = c.byte-item.result in
-    let i = c.loop-byte.byte-index in
-    some_front escape_ascii all i one (g.X.Write.contents c.args.out.now) (g.X.Write.contents c.loop-byte.out)
-    (g.X.Write.contents c.write_escape.new.out)
-    (take_more all i one c.loop-byte-test.true ∙ ap (λ z. take i all ++ z ∷ []) (sym c.byte-item.is))
-    c.loop-byte.invariant c.write_escape.ensures.front
+returns-in_err-write_escape-clause-front g c = ?
 
 pub returns-clause-whole : goal.returns-clause-whole
 returns-clause-whole g c =

@@ -4,7 +4,7 @@ use Rattle.std.proofs.lemmas.Result.{err_from_is_err_and}
 use Rattle.netset_lib.specs.declared.command.Work.TheVariants.{Ask}
 use Rattle.netset_lib.specs.declared.query.Query.TheVariants.{Compare}
 use Rattle.netset_lib.specs.Sessions.{WereRead}
-use Rattle.netset_lib.proofs.SessionLaws.{pair_right}
+use Rattle.netset_lib.proofs.SessionLaws.{pair_right, can_answer}
 use Rattle.netset_lib.proofs.session.Session.into_pair.Goals as goal
 
 pub returns-in_err-sets-clause-count : goal.returns-in_err-sets-clause-count
@@ -26,3 +26,9 @@ returns-in-Some-Some-clause-pair c = λ grammar lists h.
     c.in-Some-Some.ensures.items ∙ ap (λ z. z ++ second ∷ []) c.in-Some-Some.ensures'.items in
     pair_right grammar lists s front first second (subst (WereRead (Ask Compare grammar) lists) (sym good.0) h) good.1
     split
+
+pub returns-in_default-clause-failure : goal.returns-in_default-clause-failure
+returns-in_default-clause-failure c = λ grammar lists h.
+    let good = c.in_ok-sets.ensures.good in
+    can_answer (Ask Compare grammar) lists c.in_ok-sets.field-0
+    (subst (WereRead (Ask Compare grammar) lists) (sym good.0) h) good.1

@@ -2,7 +2,7 @@ use Rattle.std.proofs.Common.{sym, ap, ◌∙◌, subst}
 use Rattle.std.proofs.lemmas.Result.{err_from_is_err_and}
 use Rattle.netset_lib.specs.declared.command.Work.TheVariants.{Combine}
 use Rattle.netset_lib.specs.Sessions.{WereRead}
-use Rattle.netset_lib.proofs.SessionLaws.{result_right}
+use Rattle.netset_lib.proofs.SessionLaws.{result_right, can_answer}
 use Rattle.netset_lib.proofs.session.Session.into_set.Goals as goal
 
 pub returns-in_err-sets-clause-count : goal.returns-in_err-sets-clause-count
@@ -21,3 +21,12 @@ returns-clause-set c = λ request lists h.
     result_right q request lists s c.in_ok-combine_owned_sets.field-0
     (subst (WereRead (Combine request) lists) (sym good.0) h) good.1 (ap (λ z. z.work) good.0 ∙ c.in-Combine.is)
     c.in_ok-combine_owned_sets.ensures
+
+pub returns-in_err-combine_owned_sets-clause-failure : goal.returns-in_err-combine_owned_sets-clause-failure
+returns-in_err-combine_owned_sets-clause-failure c =
+    let good = c.in_ok-sets.ensures.good in
+    let last = c.from_residual-in_err-combine_owned_sets in
+    let p = err_from_is_err_and last.result last.ensures.1 in
+    rw (p.1, p.2) (λ request lists h.
+    can_answer (Combine request) lists c.in_ok-sets.field-0 (subst (WereRead (Combine request) lists) (sym good.0) h)
+    good.1)
