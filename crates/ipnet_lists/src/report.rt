@@ -65,14 +65,14 @@ fn write_escaped<X: Write>(out: &mut X, bytes: &[u8]) -> io::Result<()>
 }
 
 /// Writes the part.
-fn write_part<X: Write>(out: &mut X, part: &Part<'_>) -> io::Result<()>
-    ensures whole { OnOk result (Appends (X.contents out.old) (X.contents out.new) (part_text part.now)) }
-    ensures front { (front : List ℕ) × StartsWith (part_text part.now) front
+fn write_part<X: Write>(out: &mut X, part: Part<'_>) -> io::Result<()>
+    ensures whole { OnOk result (Appends (X.contents out.old) (X.contents out.new) (part_text part.entry)) }
+    ensures front { (front : List ℕ) × StartsWith (part_text part.entry) front
         × Appends (X.contents out.old) (X.contents out.new) front }
 {
     match part {
         Part::Words(words) => write_whole(out, words.as_bytes()),
-        Part::Number(number) => write_whole(out, Buffer::new().format(*number).as_bytes()),
+        Part::Number(number) => write_whole(out, Buffer::new().format(number).as_bytes()),
         Part::Plain(bytes) => write_whole(out, bytes),
         Part::Escaped(bytes) => write_escaped(out, bytes),
     }
@@ -89,7 +89,7 @@ pub fn write_parts<X: Write>(out: &mut X, parts: &[Part<'_>]) -> io::Result<()>
         × Appends (X.contents out.old) (X.contents out.new) front }
 {
     for part in parts {
-        write_part(out, part)?;
+        write_part(out, *part)?;
     }
     Ok(())
 }

@@ -1,5 +1,6 @@
 -- The reports of failures, as they are on standard error.
-use Rattle.std.specs.Prelude.{◌≡◌, ℕ, List, ◌∷◌, ◌++◌, codes, decimal}
+use Rattle.std.specs.Prelude.{◌≡◌, ℕ, List, [], ◌∷◌, ◌++◌, codes, decimal}
+use Rattle.std.specs.List.{concat}
 use Rattle.ipnet_lists.specs.Lists.{Refusal}
 use Rattle.ipnet_lists.specs.Names.{Names}
 use Rattle.ipnet_lists.specs.Reports.{ExplainsEntry, OfNew, IsReport, IsReportBegun}
@@ -8,7 +9,7 @@ use Rattle.netset_lib.specs.declared.failure.Failure.TheVariants as Failures
 
 -- The line that reports these words. Example: `netset: out of memory`, and a line feed (10).
 abbrev pub words_line : List ℕ → List ℕ
-words_line words = codes "netset: " ++ words ++ 10 ∷ []
+words_line words = concat (codes "netset: " ∷ words ∷ (10 ∷ []) ∷ [])
 
 -- The words of a prefix length that is too long for its family. Example: `/33: the prefix length is above 32`.
 abbrev pub long_words : ℕ → ℕ → List ℕ

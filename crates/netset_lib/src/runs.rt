@@ -243,10 +243,36 @@ fn end_with<F: Report, X: Write>(failure: &F, names: &[&str], faults: &mut X) ->
         → F.is_reported failure.now names.now (X.contents faults.old) (X.contents faults.new) }
     ensures front { F.is_begun failure.now names.now (X.contents faults.old) (X.contents faults.new) }
 {
-    let is_reported = failure.report(names, faults).is_ok();
-    Ended {
-        status: failure.status(),
-        is_reported,
+    let status = failure.status();
+    match failure.report(names, faults) {
+        Ok(()) => Ended {
+            status,
+            is_reported: true,
+        },
+        Err(_) => Ended {
+            status,
+            is_reported: false,
+        },
+    }
+}
+
+/// Reports that the output cannot be written, and ends with status 2.
+fn end_unwritable<X: Write>(faults: &mut X) -> Ended
+    ensures status { result.status ≡ 2 }
+    ensures whole { IsTrue result.is_reported → IsWritten (λ t. t ≡ words_line unwritable)
+        (X.contents faults.old) (X.contents faults.new) }
+    ensures front { IsFrontWritten (λ t. t ≡ words_line unwritable)
+        (X.contents faults.old) (X.contents faults.new) }
+{
+    match report_words(faults, UNWRITABLE) {
+        Ok(()) => Ended {
+            status: 2,
+            is_reported: true,
+        },
+        Err(_) => Ended {
+            status: 2,
+            is_reported: false,
+        },
     }
 }
 
@@ -321,12 +347,13 @@ pub fn run_text_to_end<C: TextCommand, W: Write, X: Write>(
     match command.answer() {
         Ok((text, succeeded)) => {
             if !write_and_flush(out, text.lend()) {
-                return Ended {
-                    status: 2,
-                    is_reported: report_words(faults, UNWRITABLE).is_ok(),
-                };
+                return end_unwritable(faults);
             }
-            Ended::quiet(if succeeded { 0 } else { 1 })
+            if succeeded {
+                Ended::quiet(0)
+            } else {
+                Ended::quiet(1)
+            }
         }
         Err(why) => end_with(&why, names, faults),
     }

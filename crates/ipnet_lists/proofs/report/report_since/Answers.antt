@@ -1,4 +1,4 @@
-use Rattle.std.proofs.Common.{◌-◌, ap, ◌∙◌, drop}
+use Rattle.std.proofs.Common.{ap, ◌∙◌, drop}
 use Rattle.std.proofs.lemmas.Result.{on_ok_weaker}
 use Rattle.ipnet_lists.specs.Reports.{IsReport, IsReportBegun}
 use Rattle.ipnet_lists.proofs.ReportLaws.{none_written, none_begun, new_written, new_begun, more_begun}
@@ -32,7 +32,7 @@ returns-clause-whole g c =
     (c.lines_after-new.ensures ∙ ap (drop c.args.before.0) c.as_slice.ensures.value) c.if-lines-count.false
     c.hidden_of-more.result (g.X.Write.contents c.args.faults.now) (g.X.Write.contents c.report_lines.new.faults)
     (g.X.Write.contents c.report_more.new.faults)
-    (c.hidden_of-more.ensures ∙ ap (λ n. (c.args.lines.now.count - c.args.before.1) - n) c.len.ensures)
+    c.hidden_of-more.ensures
     c.in_ok-report_lines.ensures.whole k)
     c.report_more.ensures.whole
 
@@ -43,5 +43,5 @@ returns-clause-front g c =
     (c.lines_after-new.ensures ∙ ap (drop c.args.before.0) c.as_slice.ensures.value) c.if-lines-count.false
     c.hidden_of-more.result (g.X.Write.contents c.args.faults.now) (g.X.Write.contents c.report_lines.new.faults)
     (g.X.Write.contents c.report_more.new.faults)
-    (c.hidden_of-more.ensures ∙ ap (λ n. (c.args.lines.now.count - c.args.before.1) - n) c.len.ensures)
+    c.hidden_of-more.ensures
     c.in_ok-report_lines.ensures.whole c.report_more.ensures.front

@@ -13,21 +13,21 @@ loop-part-init g c = Appends-nil (g.X.Write.contents c.args.out.now)
 pub loop-part-preserved : goal.loop-part-preserved
 loop-part-preserved g c =
     let all = c.args.parts.now in
-    let one = c.write_part-arg-1.result.now in
+    let one = c.part-item.result in
     let i = c.loop-part.part-index in
     some_written part_text all i one (g.X.Write.contents c.args.out.now) (g.X.Write.contents c.loop-part.out)
     (g.X.Write.contents c.write_part.new.out)
-    (take_more all i one c.loop-part-test.true ∙ ap (λ z. take i all ++ z ∷ []) (sym c.write_part-arg-1.is))
+    (take_more all i one c.loop-part-test.true ∙ ap (λ z. take i all ++ z ∷ []) (sym c.part-item.is))
     c.loop-part.invariant c.in_ok-write_part.ensures.whole
 
 pub returns-in_err-write_part-clause-front : goal.returns-in_err-write_part-clause-front
 returns-in_err-write_part-clause-front g c =
     let all = c.args.parts.now in
-    let one = c.write_part-arg-1.result.now in
+    let one = c.part-item.result in
     let i = c.loop-part.part-index in
     some_front part_text all i one (g.X.Write.contents c.args.out.now) (g.X.Write.contents c.loop-part.out)
     (g.X.Write.contents c.write_part.new.out)
-    (take_more all i one c.loop-part-test.true ∙ ap (λ z. take i all ++ z ∷ []) (sym c.write_part-arg-1.is))
+    (take_more all i one c.loop-part-test.true ∙ ap (λ z. take i all ++ z ∷ []) (sym c.part-item.is))
     c.loop-part.invariant c.write_part.ensures.front
 
 pub returns-clause-whole : goal.returns-clause-whole
