@@ -209,7 +209,8 @@ module _ {C : Type 0} (Explains : C → List ℕ → List ℕ → Option (List �
         written = Appends-trans a b c h.text (more_line more) h.written k;
       }
 
-      pub new_begun : (a b : Option (List ℕ)) → IsFrontWritten (AreFirstReported Explains names (map refusal_of new)) a b
+      pub new_begun : (a b : Option (List ℕ))
+          → IsFrontWritten (AreFirstReported Explains names (map refusal_of new)) a b
           → IsFrontWritten (OfNew (IsReportBegun Explains names) lines shown count) a b
       new_begun a b h = record {
         text = h.text;

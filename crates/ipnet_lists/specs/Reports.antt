@@ -1,6 +1,6 @@
 -- The reports of refused lines, as they are on standard error.
-use Rattle.std.specs.Prelude.{◌≡◌, ◌≢◌, ◌⊎◌, ℕ, zero, suc, ◌-◌, nat_lt, if◌then◌else◌, List, [], ◌∷◌, ◌++◌, length, take}
-use Rattle.std.specs.Prelude.{drop, flat_map, codes, decimal, Option, Some, None}
+use Rattle.std.specs.Prelude.{◌≡◌, ◌≢◌, ◌⊎◌, ℕ, zero, suc, ◌-◌, nat_lt, if◌then◌else◌, List, [], ◌∷◌, ◌++◌, length}
+use Rattle.std.specs.Prelude.{take, drop, flat_map, codes, decimal, Option, Some, None}
 use Rattle.std.specs.Char.Escape.{escape_ascii}
 use Rattle.std.specs.List.{concat}
 use Rattle.ipnet_lists.specs.declared.cause.Cause.{Cause}
@@ -12,7 +12,7 @@ use Rattle.ipnet_lists.specs.Lists.{RefusalFor}
 use Rattle.ipnet_lists.specs.Names.{Names, name_at}
 use Rattle.ipnet_lists.specs.RefusedLines.{shown_refusals}
 
--- The bytes as they are reported. A byte that is not printable ASCII, a quotation mark and a backslash become an escape.
+-- The bytes as they are reported. A byte that is not printable ASCII, a quotation mark or a backslash is escaped.
 -- Example: a tab (9) becomes `\t`, and the byte 200 becomes `\xc8`.
 abbrev pub escaped : List ℕ → List ℕ
 escaped bytes = flat_map escape_ascii bytes

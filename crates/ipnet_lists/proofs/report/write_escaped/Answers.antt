@@ -28,13 +28,15 @@ returns-in_err-write_escape-clause-front g c =
 
 pub returns-clause-whole : goal.returns-clause-whole
 returns-clause-whole g c =
-    subst (λ z. Appends (g.X.Write.contents c.args.out.now) (g.X.Write.contents c.loop-byte.out) (flat_map escape_ascii z))
+    subst (λ z. Appends (g.X.Write.contents c.args.out.now) (g.X.Write.contents c.loop-byte.out)
+    (flat_map escape_ascii z))
     (take_all c.loop-byte.byte-index c.args.bytes.now c.loop-byte-test.false) c.loop-byte.invariant
 
 pub returns-clause-front : goal.returns-clause-front
 returns-clause-front g c = (
   flat_map escape_ascii c.args.bytes.now,
   whole_front (flat_map escape_ascii c.args.bytes.now),
-  subst (λ z. Appends (g.X.Write.contents c.args.out.now) (g.X.Write.contents c.loop-byte.out) (flat_map escape_ascii z))
+  subst (λ z. Appends (g.X.Write.contents c.args.out.now) (g.X.Write.contents c.loop-byte.out)
+      (flat_map escape_ascii z))
       (take_all c.loop-byte.byte-index c.args.bytes.now c.loop-byte-test.false) c.loop-byte.invariant,
 )
