@@ -1,4 +1,4 @@
-use Rattle.std.proofs.Common.{◌++◌, ◌∷◌, [], sym, ap, ◌∙◌, subst, take, take_all, flat_map}
+use Rattle.std.proofs.Common.{get_or, subst, take_all, flat_map}
 use Rattle.std.specs.Io.KnownBytes.{Appends}
 use Rattle.std.proofs.KnownBytes.{Appends-nil}
 use Rattle.std.proofs.lemmas.List.{take_more}
@@ -13,22 +13,18 @@ loop-part-init g c = Appends-nil (g.X.Write.contents c.args.out.now)
 pub loop-part-preserved : goal.loop-part-preserved
 loop-part-preserved g c =
     let all = c.args.parts.now in
-    let one = c.part-item.result in
     let i = c.loop-part.part-index in
-    some_written part_text all i one (g.X.Write.contents c.args.out.now) (g.X.Write.contents c.loop-part.out)
-    (g.X.Write.contents c.write_part.new.out)
-    (take_more all i one c.loop-part-test.true ∙ ap (λ z. take i all ++ z ∷ []) (sym c.part-item.is))
-    c.loop-part.invariant c.in_ok-write_part.ensures.whole
+    some_written part_text all i (get_or all i _) (g.X.Write.contents c.args.out.now)
+    (g.X.Write.contents c.loop-part.out) (g.X.Write.contents c.write_part.new.out)
+    (take_more all i _ c.loop-part-test.true) c.loop-part.invariant c.in_ok-write_part.ensures.whole
 
 pub returns-in_err-write_part-clause-front : goal.returns-in_err-write_part-clause-front
 returns-in_err-write_part-clause-front g c =
     let all = c.args.parts.now in
-    let one = c.part-item.result in
     let i = c.loop-part.part-index in
-    some_front part_text all i one (g.X.Write.contents c.args.out.now) (g.X.Write.contents c.loop-part.out)
-    (g.X.Write.contents c.write_part.new.out)
-    (take_more all i one c.loop-part-test.true ∙ ap (λ z. take i all ++ z ∷ []) (sym c.part-item.is))
-    c.loop-part.invariant c.write_part.ensures.front
+    some_front part_text all i (get_or all i _) (g.X.Write.contents c.args.out.now)
+    (g.X.Write.contents c.loop-part.out) (g.X.Write.contents c.write_part.new.out)
+    (take_more all i _ c.loop-part-test.true) c.loop-part.invariant c.write_part.ensures.front
 
 pub returns-clause-whole : goal.returns-clause-whole
 returns-clause-whole g c =
