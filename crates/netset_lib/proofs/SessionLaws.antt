@@ -179,6 +179,16 @@ can_answer work lists s h good = record {
         family_some s.sets.items h.entries state (good.named (subst IsNamedComplement (sym same) is))
     named (Ask query grammar) same state is = absurd is
 
+-- two lists whose sets are at hand can be compared
+pub can_compare : (grammar : Grammar) (lists : List (List ℕ)) (one other : IpSet) → ArePairSets grammar lists one other
+    → CanAnswer (Ask Compare grammar) lists
+can_compare grammar lists one other pair = record {
+  count = sym (lists_count grammar 0 lists (pair.first ∷ pair.second ∷ []) [] pair.read);
+  entries = pair.first ∷ pair.second ∷ [];
+  read = pair.read;
+  named = λ is. absurd is;
+}
+
 -- the set that an operation makes of the sets is that of its result on the lists
 pub result_right : (q request : Request) (lists : List (List ℕ)) (s : Session) (set : IpSet)
     → WereRead (Combine request) lists s → IsGood s → s.work ≡ Combine q

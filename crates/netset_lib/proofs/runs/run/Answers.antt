@@ -6,7 +6,7 @@ pub returns-clause-other : goal.returns-clause-other
 returns-clause-other g c = λ one. elim (c.run_to_end.ensures.other one) [
   | inl answered ↦ inl answered
   | inr failed ↦
-      let (kept, failure, is, exits, begun, whole) = failed in
+      let (kept, (failure, is, exits, begun, whole)) = failed in
       inr (kept, failure, is, exits, begun)
 ]
 

@@ -15,6 +15,14 @@ returns-in_err-sets-clause-count c = λ grammar lists h none.
     let result = p.1 in
     let same = p.2 in cc
 
+pub returns-in_err-sets-clause-refused : goal.returns-in_err-sets-clause-refused
+returns-in_err-sets-clause-refused c = λ grammar lists h takes some.
+    let p = err_from_is_err_and c.from_residual.result c.from_residual.ensures.1 in
+    let refused = c.in_err-sets.ensures.refused (Ask Compare grammar) lists h takes some in
+    let is = c.in_err-sets.was in
+    let result = p.1 in
+    let same = p.2 in cc
+
 pub returns-in-Some-Some-clause-pair : goal.returns-in-Some-Some-clause-pair
 returns-in-Some-Some-clause-pair c = λ grammar lists h.
     let s = c.in_ok-sets.field-0 in
@@ -27,8 +35,8 @@ returns-in-Some-Some-clause-pair c = λ grammar lists h.
     pair_right grammar lists s front first second (subst (WereRead (Ask Compare grammar) lists) (sym good.0) h) good.1
     split
 
-pub returns-in_default-clause-failure : goal.returns-in_default-clause-failure
-returns-in_default-clause-failure c = λ grammar lists h.
+pub returns-clause-failure : goal.returns-clause-failure
+returns-clause-failure c = λ grammar lists h.
     let good = c.in_ok-sets.ensures.good in
     can_answer (Ask Compare grammar) lists c.in_ok-sets.field-0
     (subst (WereRead (Ask Compare grammar) lists) (sym good.0) h) good.1
