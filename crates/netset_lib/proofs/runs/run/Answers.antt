@@ -7,7 +7,7 @@ returns-clause-other g c = λ one. elim (c.run_to_end.ensures.other one) [
   | inl answered ↦ inl answered
   | inr failed ↦
       let (kept, (failure, is, exits, begun, whole)) = failed in
-      inr (kept, failure, is, exits, begun)
+      inr (kept, (failure, is, exits, begun))
 ]
 
 pub returns-clause-failed : goal.returns-clause-failed
