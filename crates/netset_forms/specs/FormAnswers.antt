@@ -23,6 +23,5 @@ IsFormAnswer request form lists text = HoldsOfResult request lists (λ InSet. Is
 pub record IsPermittedForm (default : Action) (form : FormRequest) (grammar : Grammar) (bytes text : List ℕ) : Type 0
   where
     pub contents : RuleContents
-    pub read : IsRuleList grammar bytes contents
-    pub none : contents.refused ≡ []
+    pub read : IsRuleList grammar bytes contents []
     pub right : IsAskedText form (IsPermittedBy contents.rules default) text

@@ -9,7 +9,7 @@ use crate::program::{name_of, report_failure};
 use crate::runs::{Report, TextCommand};
 use crate::text_route::{TextFailure, table_of_texts, text_route_answers};
 use ipnet::Grammar;
-use ipnet_lists::{Cause, MOST_LINES, RefusedText, report_more, report_text};
+use ipnet_lists::{Cause, Refusals, report_more, report_text};
 use ipnet_routes::RouteTable;
 use std::alloc::Global;
 use std::io;
@@ -80,7 +80,7 @@ impl Report for TextFailure {
 
     fn tell<X: Write>(self, names: &[&str], faults: &mut X) -> u8 {
         let _ = match self {
-            TextFailure::Table(lines) => report_lines(faults, name_of(names, 0), lines.as_slice()),
+            TextFailure::Table(lines) => report_lines(faults, name_of(names, 0), &lines),
             TextFailure::List(lines) => {
                 report_failure(faults, &[name_of(names, 1)], &Failure::Refused(lines))
             }
@@ -122,10 +122,9 @@ pub fn table_or_report<'a, X: Write>(
 fn report_lines<X: Write>(
     faults: &mut X,
     name: &str,
-    lines: &[RefusedText<Option<Cause>>],
+    lines: &Refusals<Option<Cause>>,
 ) -> io::Result<()> {
-    let shown = lines.len().min(MOST_LINES);
-    for line in &lines[..shown] {
+    for line in lines.shown.as_slice() {
         let text = line.text.as_slice();
         report_text(faults, name, line.number, NO_TEXT_LINE, text)?;
         match line.cause {
@@ -133,5 +132,5 @@ fn report_lines<X: Write>(
             None => writeln!(faults)?,
         }
     }
-    report_more(faults, lines.len() - shown)
+    report_more(faults, lines.count.saturating_sub(lines.shown.len()))
 }
