@@ -6,9 +6,9 @@ use Rattle.ipnet.specs.Lines.{lines_of}
 use Rattle.ipnet_sets.proofs.SetRangeLaws.{any_cases, any_there}
 use Rattle.ipnet_lists.specs.declared.refused.Refusals.{Refusals}
 use Rattle.ipnet_lists.specs.ContentLines.{ContentLine, IsSomeLine, IsNextRefused, AreItems, IsItemList, AreTaken}
-use Rattle.ipnet_lists.specs.ContentLines.{IsTakenList, AddsTaken}
+use Rattle.ipnet_lists.specs.ContentLines.{IsTakenList, AddsTaken, refused_line}
 use Rattle.ipnet_lists.specs.Lists.{IsContents, AreContents, RefusalFor}
-use Rattle.ipnet_lists.specs.RefusedLines.{AreRefused}
+use Rattle.ipnet_lists.specs.RefusedLines.{AreRefused, HasMore}
 use Rattle.ipnet_lists.proofs.OneReading.{one_contents}
 use Rattle.ipnet_lists.proofs.RefusalLaws.{HasMore-nil, more_refused}
 
@@ -52,8 +52,16 @@ module _ {M C : Type 0} (Takes : ContentLine → M → M → Type 0) (IsCause : 
   adds_taken line old new refused some takes =
       ([], some_taken line.number line.text old new some takes, HasMore-nil refused refused.few)
 
+  pub adds_refused : (line : ContentLine) (old new : M) (cause : C) (refused refused_after : Refusals C)
+      → 0 < length line.text → IsCause line.text cause → new ≡ old
+      → HasMore refused refused_after (refused_line line cause ∷ [])
+      → AddsTaken Takes IsCause line old new refused refused_after
+  adds_refused line old new cause refused refused_after some is same has =
+      (refused_line line cause ∷ [], some_refused line.number line.text old new cause some is same, has)
+
   -- the line and those after it
-  taken_cons : (number : ℕ) (text : List ℕ) (texts : List (List ℕ)) (old mid new : M) (refused more : List (RefusalFor C))
+  taken_cons : (number : ℕ) (text : List ℕ) (texts : List (List ℕ)) (old mid new : M)
+      (refused more : List (RefusalFor C))
       → AreTaken Takes IsCause number (text ∷ []) old mid refused
       → AreTaken Takes IsCause (number + 1) texts mid new more
       → AreTaken Takes IsCause number (text ∷ texts) old new (refused ++ more)
@@ -93,7 +101,8 @@ module _ {M C : Type 0} (Takes : ContentLine → M → M → Type 0) (IsCause : 
       → AreTakenBefore Takes IsCause bytes old 0 bytes old refused
   before_start refused none = record { refusals = []; kept = none; whole = λ new more h. h }
 
-  pub before_more : (number next : ℕ) (rest line text after : List ℕ) (made mid : M) (refused refused_after : Refusals C)
+  pub before_more : (number next : ℕ) (rest line text after : List ℕ) (made mid : M)
+      (refused refused_after : Refusals C)
       → AreTakenBefore Takes IsCause bytes old number rest made refused → lines_of rest ≡ line ∷ lines_of after
       → next ≡ number + 1 → IsContents line text
       → AddsTaken Takes IsCause (record { number = next; text = text }) made mid refused refused_after

@@ -40,8 +40,8 @@ pub trait LineHandler<'a, M, C> {
 
     /// Takes the line, or returns why it is refused. Fails if memory runs out.
     fn take(&self, made: &mut M, line: ContentLine<'a>) -> Result<Result<(), C>, AllocError>
-        ensures { IfOk result (IsTaken (takes self.now (line_of line) made.old made.new)
-            (is_cause self.now line.text.now) (made.new ≡ made.old)) };
+        ensures { IfOk result (IsTaken (takes self.now (line_of line.entry) made.old made.new)
+            (is_cause self.now line.entry.text.now) (made.new ≡ made.old)) };
 }
 
 /// Why a list has no answer.

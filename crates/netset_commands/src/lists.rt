@@ -143,7 +143,7 @@ pub fn read_rules(
         Err(failure) => return Err(input.unread(failure)),
     };
     reports.report_count(rt, name, input.count, input.count);
-    let is_empty = list.lines().is_empty() && list.refused_count() == 0;
+    let is_empty = list.lines().is_empty() && list.refused().is_empty();
     if is_empty && !reports.report_empty(rt, name, "rules") {
         return Ok(None);
     }

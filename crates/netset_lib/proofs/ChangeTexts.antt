@@ -217,8 +217,8 @@ module _ (grammar : Grammar) (Has : Network → Type 0) where
       let same = one_change grammar (change_text change) change (Removed n) here is in
       lacks (subst (Fits Has) same good.fits)
 
-  lines_read : (changes : List ListChange) (number : ℕ) (read : List ListChange) (refused : List (RefusalFor ChangeCause))
-      → All (IsGoodChange Has) changes
+  lines_read : (changes : List ListChange) (number : ℕ) (read : List ListChange)
+      (refused : List (RefusalFor ChangeCause)) → All (IsGoodChange Has) changes
       → AreItems (λ line. IsFittingChange grammar Has line.text) (IsChangeCause grammar Has) number
       (map change_text changes) read refused
       → (read ≡ changes) × (refused ≡ [])

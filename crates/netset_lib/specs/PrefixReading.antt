@@ -46,7 +46,8 @@ pub record AddsVerdict (rules : List PrefixRule) (n : ListNetwork) (old new : Ve
 -- When memory runs out is not specified.
 abbrev pub IsPrefixFailure : Grammar → (prefixes bytes : List ℕ) → PrefixFailure → Type 0
 IsPrefixFailure grammar prefixes bytes (Failures.Prefixes lines) =
-    (refusals : List (RefusalFor PrefixCause)) × HasRefusedPrefixes grammar prefixes refusals × AreRefused lines refusals
+    (refusals : List (RefusalFor PrefixCause)) × HasRefusedPrefixes grammar prefixes refusals
+    × AreRefused lines refusals
 IsPrefixFailure grammar prefixes bytes (Failures.Networks lines) =
     (refusals : List (RefusalFor NetworkCause)) × HasRefusedNetworks grammar bytes refusals × AreRefused lines refusals
 IsPrefixFailure grammar prefixes bytes Failures.Memory = Unit {0}

@@ -12,7 +12,8 @@ use Rattle.netset_lib.specs.TextTables.{HasRefusedTextLines, HasRefusedEntries}
 -- memory runs out is not specified.
 abbrev pub IsTextFailure : Grammar → (table list : List ℕ) → TextFailure → Type 0
 IsTextFailure grammar table list (Failures.Table lines) =
-    (refusals : List (RefusalFor (Option Cause))) × HasRefusedTextLines grammar table refusals × AreRefused lines refusals
+    (refusals : List (RefusalFor (Option Cause))) × HasRefusedTextLines grammar table refusals
+    × AreRefused lines refusals
 IsTextFailure grammar table list (Failures.List lines) =
     (refusals : List Refusal) × HasRefusedEntries grammar list refusals × AreRefused lines refusals
 IsTextFailure grammar table list Failures.Memory = Unit {0}

@@ -2,13 +2,14 @@
 ghost use Rattle.std.specs.Prelude.{◌≡◌, ◌↔◌, ◌++◌, IfOk, IfErr, OnOk, map, codes, decimal};
 ghost use Rattle.ipnet_base.specs.Address.{Address};
 ghost use Rattle.ipnet_sets.specs.Members.{IsMember};
+ghost use Rattle.ipnet_lists.specs.RefusedLines.{refusal_of, shown_refusals};
 ghost use Rattle.netset_lib.specs.RuleAnswers.{IsPermittedBy, line_text, line_at, covering_lines};
 ghost use Rattle.netset_lib.specs.RuleAnswers.{IsRuleFailure, unreached_lines, AreUnreachedLines, IsPermittedSet};
 ghost use Rattle.netset_lib.specs.RuleContentsOf.{contents_of, line_of_rule};
 
 use crate::rule_line::RuleCause;
 use crate::rule_list::{RuleLine, RuleList};
-use ipnet_lists::ListFailure;
+use ipnet_lists::{ListFailure, Refused};
 use ipnet_rules::{Action, Rule, Rules, Unreached};
 use ipnet_sets::IpSet;
 use std::alloc::{AllocError, Global};
@@ -128,15 +129,15 @@ impl RuleList {
         self.lines.as_slice()
     }
 
-    /// The number of lines that are not rules.
+    /// The first ten lines that are not rules, in order.
     ///
     /// ```text
-    /// of "permit 10.0.0.0/8\n\nallow ::1\n": 1
+    /// of "permit 10.0.0.0/8\n\nallow ::1\n": line 3, "allow ::1", with the cause UnknownWord
     /// ```
-    pub fn refused_count(&self) -> usize
-        ensures { result ≡ self.now.refused.count }
+    pub fn refused(&self) -> &[Refused<RuleCause>]
+        ensures { map refusal_of result.now ≡ shown_refusals self.now.refused }
     {
-        self.refused.count
+        self.refused.shown.as_slice()
     }
 
     /// Returns the rules, in order, with this action for the addresses that no rule matches. Refused lines are left
