@@ -1,5 +1,5 @@
 -- The answers of sessions and of lists of rules in any form.
-use Rattle.std.specs.Prelude.{◌≡◌, ℕ, List, []}
+use Rattle.std.specs.Prelude.{ℕ, List, []}
 use Rattle.ipnet_base.specs.Address.{Address}
 use Rattle.ipnet.specs.declared.parser.Grammar.{Grammar}
 use Rattle.ipnet_rules.specs.declared.rules.Action.{Action}

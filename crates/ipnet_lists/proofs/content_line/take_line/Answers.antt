@@ -15,7 +15,8 @@ pub returns-in-Ok : goal.returns-in-Ok
 returns-in-Ok g c =
     let takes = g.H.LineHandler.takes c.args.handler.now in
     let is_cause = g.H.LineHandler.is_cause c.args.handler.now in
-    let (old, new) = (c.args.made.now, c.take.new.made) in
+    let old = c.args.made.now in
+    let new = c.take.new.made in
     adds_taken takes is_cause (line_of c.args.line) old new c.args.refused.now
     (some_bytes (length c.args.line.text.now) c.if-is_empty.ensures)
     (subst (IsTaken (takes (line_of c.args.line) old new) (is_cause c.args.line.text.now) (new ≡ old)) c.in-Ok.is
