@@ -1,11 +1,11 @@
 -- The lines of a list that are not empty, as they are taken one after another, and what is read of each.
-use Rattle.std.proofs.Common.{◌≡◌, ◌≢◌, ◌↔◌, ℕ, ◌+◌, ◌<◌, List, [], ◌∷◌, ◌++◌, length, All, Any}
+use Rattle.std.proofs.Common.{◌≡◌, ◌↔◌, ℕ, ◌+◌, ◌<◌, List, [], ◌∷◌, ◌++◌, length, All, Any}
 use Rattle.std.proofs.Common.{refl, sym, ap, ◌∙◌, subst, arith, inl, inr, append_assoc, append-nil}
 use Rattle.std.proofs.lemmas.List.Elements.{All-nil, All-cons}
 use Rattle.ipnet.specs.Lines.{lines_of}
 use Rattle.ipnet_sets.proofs.SetRangeLaws.{any_cases, any_there}
 use Rattle.ipnet_lists.specs.declared.refused.Refusals.{Refusals}
-use Rattle.ipnet_lists.specs.ContentLines.{ContentLine, IsSomeLine, IsNextRefused, AreItems, IsItemList, AreTaken}
+use Rattle.ipnet_lists.specs.ContentLines.{ContentLine, IsSomeLine, AreItems, IsItemList, AreTaken}
 use Rattle.ipnet_lists.specs.ContentLines.{IsTakenList, AddsTaken, refused_line}
 use Rattle.ipnet_lists.specs.Lists.{IsContents, AreContents, RefusalFor}
 use Rattle.ipnet_lists.specs.RefusedLines.{AreRefused, HasMore}

@@ -1,6 +1,6 @@
 -- The lines of an answer over a list of rules, and what an empty answer means.
 use Rattle.std.proofs.Common.{◌≡◌, ◌≢◌, ◌<◌, ℕ, ◌+◌, zero, suc, List, [], ◌∷◌, ◌++◌, length, map, drop, refl}
-use Rattle.std.proofs.Common.{sym, ap, ◌∙◌, arith, inl, inr, subst, append_assoc, append-nil, codes, decimal, get_or}
+use Rattle.std.proofs.Common.{sym, ap, ◌∙◌, arith, inl, subst, append_assoc, append-nil, codes, decimal, get_or}
 use Rattle.std.proofs.Common.{◌≤◌, ◌==◌, Any, Result, OnOk, Bool, true, false, eq-eqb}
 use Rattle.std.proofs.lemmas.Bool.{eqb-true, false≢true}
 use Rattle.std.proofs.lemmas.List.{length-append, length-map, drop_more, drop_all, nil_from_length}

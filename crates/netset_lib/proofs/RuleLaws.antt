@@ -1,5 +1,5 @@
 -- Lists of rules that are read line by line, and the causes of refused lines.
-use Rattle.std.proofs.Common.{◌≡◌, ℕ, List, [], ◌∷◌, ◌++◌, map, refl, sym, ap, ap₂, ◌∙◌, subst}
+use Rattle.std.proofs.Common.{◌≡◌, ℕ, List, [], ◌∷◌, ◌++◌, refl, sym, ap, ap₂, ◌∙◌, subst}
 use Rattle.std.proofs.lemmas.List.{map_push}
 use Rattle.ipnet.specs.declared.parser.Grammar.{Grammar}
 use Rattle.ipnet_rules.specs.declared.rules.Rule.{Rule}
@@ -14,7 +14,7 @@ use Rattle.ipnet_lists.specs.Words.{after_word, leading_word}
 use Rattle.ipnet_lists.proofs.RefusalLaws.{none_refused}
 use Rattle.netset_lib.specs.RuleContentsOf.{WasRuleListRead, contents_of}
 use Rattle.netset_lib.specs.RuleLines.{RuleContents, contents_of_rules, IsRuleOfLine, IsRuleList}
-use Rattle.netset_lib.specs.RuleLines.{IsRuleText, IsNoRule, IsRuleCause, word_of}
+use Rattle.netset_lib.specs.RuleLines.{IsNoRule, IsRuleCause, word_of}
 use Rattle.netset_lib.specs.RuleSteps.{AddsRule, IsEntryCause}
 
 -- a line that is taken adds a rule

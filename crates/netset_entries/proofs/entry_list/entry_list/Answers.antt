@@ -1,4 +1,4 @@
-use Rattle.std.proofs.Common.{◌≡◌, ◌×◌, ◌∷◌, ◌++◌, [], map, sym, ap, ◌∙◌, subst}
+use Rattle.std.proofs.Common.{◌≡◌, ◌∷◌, ◌++◌, [], map, sym, ap, ◌∙◌, subst}
 use Rattle.std.proofs.lemmas.List.{map_push}
 use Rattle.ipnet_lists.proofs.ContentLaws.{list_taken}
 use Rattle.netset_entries.specs.declared.entry_list.EntryLine.{EntryLine}

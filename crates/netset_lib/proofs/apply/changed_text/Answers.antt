@@ -13,7 +13,7 @@ returns-clause-text c =
     let (changes, refusals, read, kept, are) = c.in_ok-parts.ensures in
     let none = none_refused c.in_ok-parts.field-0.refused refusals kept c.if-refused-ne0.false in
     let fit = items_all (λ line. IsFittingChange c.args.grammar Has line.text) (IsChangeCause c.args.grammar Has)
-    (Fits Has) (λ line change h. h.1) 1 read.0 changes refusals read.1.1 in
+    (Fits Has) (λ line change h. h.1) 1 read.0 changes refusals read.2 in
     record {
       changes = changes;
       read = subst (IsChangeList c.args.grammar Has c.args.bytes.now changes) none read;

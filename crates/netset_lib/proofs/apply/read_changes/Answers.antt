@@ -1,4 +1,4 @@
-use Rattle.std.proofs.Common.{◌×◌, map, ap}
+use Rattle.std.proofs.Common.{map, ap}
 use Rattle.ipnet.specs.NetworkOf.{ip_network}
 use Rattle.ipnet_sets.specs.Members.{IsMember}
 use Rattle.ipnet_lists.proofs.ContentLaws.{list_taken}

@@ -1,4 +1,4 @@
-use Rattle.std.proofs.Common.{◌×◌, List, sym, subst}
+use Rattle.std.proofs.Common.{[], sym, subst}
 use Rattle.ipnet_lists.proofs.ContentLaws.{list_taken}
 use Rattle.ipnet_routes.specs.Routes.{without_host_bits}
 use Rattle.netset_lib.specs.TextSteps.{AddsBlocks, AreRoutesOf, texts_in}
