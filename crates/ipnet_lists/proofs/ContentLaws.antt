@@ -6,9 +6,9 @@ use Rattle.ipnet.specs.Lines.{lines_of}
 use Rattle.ipnet_sets.proofs.SetRangeLaws.{any_cases, any_there}
 use Rattle.ipnet_lists.specs.declared.refused.Refusals.{Refusals}
 use Rattle.ipnet_lists.specs.ContentLines.{ContentLine, IsSomeLine, AreItems, IsItemList, AreTaken}
-use Rattle.ipnet_lists.specs.ContentLines.{IsTakenList, AddsTaken, refused_line}
+use Rattle.ipnet_lists.specs.ContentLines.{IsTakenList, AddsTaken}
 use Rattle.ipnet_lists.specs.Lists.{IsContents, AreContents, RefusalFor}
-use Rattle.ipnet_lists.specs.RefusedLines.{AreRefused, HasMore}
+use Rattle.ipnet_lists.specs.RefusedLines.{AreRefused}
 use Rattle.ipnet_lists.proofs.OneReading.{one_contents}
 use Rattle.ipnet_lists.proofs.RefusalLaws.{HasMore-nil, more_refused}
 
@@ -31,14 +31,6 @@ module _ {M C : Type 0} (Takes : ContentLine → M → M → Type 0) (IsCause : 
   some_taken number [] old new some takes = absurd (omega (arith, some))
   some_taken number (b ∷ text) old new some takes = inl (new, takes, (refl, refl))
 
-  some_refused : (number : ℕ) (text : List ℕ) (old new : M) (cause : C) → 0 < length text → IsCause text cause
-      → new ≡ old
-      → AreTaken Takes IsCause number (text ∷ []) old new
-      (record { list = 0; number = number; text = text; cause = cause } ∷ [])
-  some_refused number [] old new cause some is same = absurd (omega (arith, some))
-  some_refused number (b ∷ text) old new cause some is same =
-      inr ([], record { cause = cause; reported = is; next = refl }, (same, refl))
-
   pub adds_none : (line : ContentLine) (made : M) (refused : Refusals C) → line.text ≡ []
       → AddsTaken Takes IsCause line made made refused refused
   adds_none line made refused none = (
@@ -51,13 +43,6 @@ module _ {M C : Type 0} (Takes : ContentLine → M → M → Type 0) (IsCause : 
       → Takes line old new → AddsTaken Takes IsCause line old new refused refused
   adds_taken line old new refused some takes =
       ([], some_taken line.number line.text old new some takes, HasMore-nil refused refused.few)
-
-  pub adds_refused : (line : ContentLine) (old new : M) (cause : C) (refused refused_after : Refusals C)
-      → 0 < length line.text → IsCause line.text cause → new ≡ old
-      → HasMore refused refused_after (refused_line line cause ∷ [])
-      → AddsTaken Takes IsCause line old new refused refused_after
-  adds_refused line old new cause refused refused_after some is same has =
-      (refused_line line cause ∷ [], some_refused line.number line.text old new cause some is same, has)
 
   -- the line and those after it
   taken_cons : (number : ℕ) (text : List ℕ) (texts : List (List ℕ)) (old mid new : M)

@@ -6,9 +6,8 @@ use Rattle.ipnet.specs.declared.parser.Grammar.{Grammar}
 use Rattle.netset_entries.specs.declared.entry_list.EntryLine.{EntryLine}
 use Rattle.netset_entries.specs.declared.entry_list.EntryList.{EntryList}
 use Rattle.netset_entries.specs.declared.overlaps.Asked.{Asked}
-use Rattle.ipnet_lists.specs.declared.cause.Cause.{Cause}
 use Rattle.ipnet_lists.specs.EntryOf.{entry_range}
-use Rattle.ipnet_lists.specs.Lists.{RefusalFor}
+use Rattle.ipnet_lists.specs.Lists.{Refusal}
 use Rattle.ipnet_lists.specs.RefusedLines.{AreRefused}
 use Rattle.netset_entries.specs.NumberedEntries.{NumberedEntry, IsEntryList}
 
@@ -18,7 +17,7 @@ numbered l = record { line = l.number; text = l.text.now; range = entry_range l.
 
 -- The value has the entries and the refused lines of the bytes.
 abbrev pub IsReadOf : Grammar → List ℕ → EntryList → Type 0
-IsReadOf grammar bytes list = (refusals : List (RefusalFor (Option Cause)))
+IsReadOf grammar bytes list = (refusals : List Refusal)
     × IsEntryList grammar bytes (map numbered list.entries.items) refusals × AreRefused list.refused refusals
 
 -- The entries of the list and of the other list, if there is one, one list after the other, and the number of entries

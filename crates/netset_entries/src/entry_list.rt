@@ -4,9 +4,7 @@ ghost use Rattle.netset_entries.specs.EntryLineOf.{numbered, IsReadOf};
 ghost use Rattle.netset_entries.specs.NumberedEntries.{IsEntryOfLine, IsRefusedFor};
 
 use ipnet::Grammar;
-use ipnet_lists::{
-    Cause, ContentLine, Entry, LineHandler, Refusals, cause_of, read_lines, read_text,
-};
+use ipnet_lists::{ContentLine, Entry, LineHandler, NotEntry, RefusedLines, read_lines, read_text};
 use std::alloc::{AllocError, Global};
 
 /// An entry of a list, and its line.
@@ -24,7 +22,7 @@ pub(crate) struct EntryLine<'a> {
 #[derive(Drop)]
 pub(crate) struct EntryList<'a> {
     pub(crate) entries: Vec<EntryLine<'a>>,
-    pub(crate) refused: Refusals<Option<Cause>>,
+    pub(crate) refused: RefusedLines,
 }
 
 /// Takes the entries of lines.
@@ -33,7 +31,7 @@ struct EntryReader {
     grammar: Grammar,
 }
 
-impl<'a> LineHandler<'a, Vec<EntryLine<'a>>, Option<Cause>> for EntryReader {
+impl<'a> LineHandler<'a, Vec<EntryLine<'a>>, NotEntry> for EntryReader {
     ghost takes = { λ h line old new. (entry : _) × IsEntryOfLine h.grammar line (numbered entry)
         × (new.items ≡ old.items ++ entry ∷ []) };
 
@@ -43,7 +41,7 @@ impl<'a> LineHandler<'a, Vec<EntryLine<'a>>, Option<Cause>> for EntryReader {
         &self,
         made: &mut Vec<EntryLine<'a>>,
         line: ContentLine<'a>,
-    ) -> Result<Result<(), Option<Cause>>, AllocError> {
+    ) -> Result<Result<(), NotEntry>, AllocError> {
         let (number, text) = (line.number, line.text);
         match read_text(text, self.grammar) {
             Some(found) => {
@@ -55,7 +53,9 @@ impl<'a> LineHandler<'a, Vec<EntryLine<'a>>, Option<Cause>> for EntryReader {
                 })?;
                 Ok(Ok(()))
             }
-            None => Ok(Err(cause_of(text, self.grammar))),
+            None => Ok(Err(NotEntry {
+                grammar: self.grammar,
+            })),
         }
     }
 }

@@ -5,7 +5,7 @@ ghost use Rattle.netset_entries.specs.EntryTexts.{entry_line, entry_line_at, IsF
 ghost use Rattle.netset_entries.specs.EntryLineOf.{numbered};
 
 use crate::entry_list::EntryLine;
-use ipnet_lists::{Cause, Refusals, report_refused};
+use ipnet_lists::{RefusedLines, report_refused};
 use ipnet_text::pieces::PIECE;
 use ipnet_text::write_whole;
 use netset_lib::program::name_of;
@@ -19,7 +19,7 @@ use std::io::Write;
 #[derive(Debug, Drop)]
 pub enum WriteFailure {
     /// These lines of the list are refused, and these of the other list.
-    Refused(Refusals<Option<Cause>>, Refusals<Option<Cause>>),
+    Refused(RefusedLines, RefusedLines),
     /// Memory ran out.
     Memory,
     /// A write failed.

@@ -7,7 +7,7 @@ use crate::entry_list::{EntryLine, entry_list};
 use crate::lines::WriteFailure;
 use crate::overlaps::{Asked, write_overlaps};
 use ipnet::Grammar;
-use ipnet_lists::Refusals;
+use ipnet_lists::RefusedLines;
 use netset_lib::Command;
 use std::alloc::{AllocError, Global};
 use std::io::Write;
@@ -38,7 +38,7 @@ fn asked_of<'a>(
     let first = entry_list(alloc, list, grammar)?;
     let Some(other) = other else {
         if first.refused.count != 0 {
-            return Err(WriteFailure::Refused(first.refused, Refusals::new(alloc)));
+            return Err(WriteFailure::Refused(first.refused, RefusedLines::new(alloc)));
         }
         return Ok(Asked {
             entries: first.entries,

@@ -2,7 +2,7 @@ use Rattle.std.proofs.Common.{◌≡◌, length, subst}
 use Rattle.ipnet_text.proofs.LineCuts.{empty_text, no_bytes, some_bytes}
 use Rattle.ipnet_lists.specs.ContentLineOf.{line_of}
 use Rattle.ipnet_lists.specs.ContentLines.{IsTaken}
-use Rattle.ipnet_lists.proofs.ContentLaws.{adds_none, adds_taken, adds_refused}
+use Rattle.ipnet_lists.proofs.ContentLaws.{adds_none, adds_taken}
 use Rattle.ipnet_lists.proofs.content_line.take_line.Goals as goal
 
 pub returns-then-is_empty : goal.returns-then-is_empty
