@@ -16,7 +16,7 @@ use Rattle.ipnet_routes.specs.RoutesOf.{routes_of}
 use Rattle.ipnet_sets.specs.SetRanges.{IsInRange}
 use Rattle.ipnet_routes.specs.declared.routes.RouteTable.{RouteTable}
 use Rattle.netset_lib.specs.declared.answerer.Answers.{Answers}
-use Rattle.ipnet_lists.specs.declared.cause.Cause.{Cause}
+use Rattle.netset_lib.specs.declared.text_line.NotTextLine.{NotTextLine}
 use Rattle.netset_lib.specs.declared.text_line.TableLine.{TableLine}
 use Rattle.netset_lib.specs.declared.text_table.TextRoutes.{TextRoutes}
 use Rattle.ipnet_lists.specs.Causes.{Has, HasMaskWord}
@@ -64,7 +64,7 @@ pub record AreRoutesOf (lines : List TextLine) (routes : List (Route (List ℕ))
 
 -- The routes and the refused lines of the bytes.
 abbrev pub AreTextsRead : Grammar → List ℕ → TextRoutes → Type 0
-AreTextsRead grammar bytes made = (lines : List TextLine) × (refusals : List (RefusalFor (Option Cause)))
+AreTextsRead grammar bytes made = (lines : List TextLine) × (refusals : List (RefusalFor NotTextLine))
     × IsTextTable grammar bytes lines refusals × AreRefused made.refused refusals
     × AreRoutesOf lines (without_host_bits (texts_in made.routes.items))
 

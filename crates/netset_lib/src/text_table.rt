@@ -4,16 +4,16 @@ ghost use Rattle.ipnet_lists.specs.EntryOf.{entry_range};
 ghost use Rattle.netset_lib.specs.TextSteps.{AddsBlocks, AreTextsRead, texts_in};
 ghost use Rattle.netset_lib.specs.TextTables.{IsTextLine, IsNoTextLine};
 
-use crate::text_line::read_table_line;
+use crate::text_line::{NotTextLine, read_table_line};
 use ipnet::{Grammar, IpNet};
-use ipnet_lists::{Cause, ContentLine, Entry, LineHandler, Refusals, read_lines};
+use ipnet_lists::{ContentLine, Entry, LineHandler, Refusals, read_lines};
 use std::alloc::{AllocError, Global};
 
 /// The routes of a table in the order of its lines, and its refused lines.
 #[derive(Drop)]
 pub(crate) struct TextRoutes<'a> {
     pub(crate) routes: Vec<(IpNet, &'a str)>,
-    pub(crate) refused: Refusals<Option<Cause>>,
+    pub(crate) refused: Refusals<NotTextLine>,
 }
 
 /// Puts the networks of the entry at the end of the routes, each with this text.
@@ -37,7 +37,7 @@ struct TableLines {
     grammar: Grammar,
 }
 
-impl<'a> LineHandler<'a, Vec<(IpNet, &'a str)>, Option<Cause>> for TableLines {
+impl<'a> LineHandler<'a, Vec<(IpNet, &'a str)>, NotTextLine> for TableLines {
     ghost takes = { λ h line old new. (l : _) × IsTextLine h.grammar line.text l
         × AddsBlocks (texts_in old.items) l.range l.text (texts_in new.items) };
 
@@ -47,13 +47,15 @@ impl<'a> LineHandler<'a, Vec<(IpNet, &'a str)>, Option<Cause>> for TableLines {
         &self,
         made: &mut Vec<(IpNet, &'a str)>,
         line: ContentLine<'a>,
-    ) -> Result<Result<(), Option<Cause>>, AllocError> {
+    ) -> Result<Result<(), NotTextLine>, AllocError> {
         match read_table_line(line.text, self.grammar) {
-            Ok(found) => {
+            Some(found) => {
                 push_blocks(made, found.entry, found.text)?;
                 Ok(Ok(()))
             }
-            Err(cause) => Ok(Err(cause)),
+            None => Ok(Err(NotTextLine {
+                grammar: self.grammar,
+            })),
         }
     }
 }
