@@ -1,7 +1,7 @@
 -- The private steps of reading tables with texts, and of looking up entries in them.
 -- Only private contracts use these.
 use Rattle.std.specs.Prelude.{◌≡◌, ◌≢◌, ◌⊎◌, ◌↔◌, ℕ, true, List, [], ◌∷◌, ◌++◌, codes, length, map, slice_index}
-use Rattle.std.specs.Prelude.{string_bytes, Contains, Option}
+use Rattle.std.specs.Prelude.{string_bytes, Contains}
 use Rattle.std.specs.Borrow.{Bor}
 use Rattle.std.specs.Str.{IsUtf8}
 use Rattle.ipnet_base.specs.Network.{Network}
