@@ -1,5 +1,6 @@
 //! The zones of the domain name system that name the addresses of a network.
 ghost use Rattle.std.specs.Prelude.{◌≡◌, ◌*◌, ◌/◌, ◌%◌, ◌^◌, ◌-◌, ◌<◌, ◌≤◌, ◌++◌, OnOk, IfOk, string_bytes, decimal, codes};
+ghost use Rattle.ipnet_base.specs.Address.{width};
 ghost use Rattle.ipnet_base.specs.Network.{IsNetwork};
 ghost use Rattle.ipnet.specs.NetworkOf.{ip_network};
 ghost use Rattle.ipnet.specs.NetworkParts.{network_at, own_address, AreSubnetsOfLength};
@@ -30,7 +31,8 @@ fn push_ipv4_name(text: &mut String, number: u32, labels: u32) -> Result<(), All
     for index in (0..labels).rev() {
         push_octet(text, number, index)?;
     }
-    text.push_str("in-addr.arpa")
+    text.push_str("in-addr.arpa")?;
+    Ok(())
 }
 
 /// Appends the name of the first labels of an IPv6 address. Fails only if memory runs out.
@@ -42,7 +44,8 @@ fn push_ipv6_name(text: &mut String, number: u128, labels: u32) -> Result<(), Al
         push_digit(text, number, 31 - index)?;
         text.push_str(".")?;
     }
-    text.push_str("ip6.arpa")
+    text.push_str("ip6.arpa")?;
+    Ok(())
 }
 
 /// Returns the name of a zone: its labels, and `in-addr.arpa` or `ip6.arpa`. If the network's prefix does not end at a
@@ -94,7 +97,7 @@ fn next_zone_len(network: &IpNet) -> u8
 /// Returns all networks of this prefix length in the network.
 fn subnets_of(network: &IpNet, prefix_len: u8) -> IpSubnets
     requires longer { (ip_network network.now).prefix_len ≤ prefix_len }
-    requires zone { prefix_len ≤ longest_zone (ip_network network.now).family }
+    requires fits { prefix_len ≤ width (ip_network network.now).family }
     ensures { AreSubnetsOfLength (ip_network network.now) prefix_len (ip_subnets_left result) }
 {
     match network.subnets(prefix_len) {
