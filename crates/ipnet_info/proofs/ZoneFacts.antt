@@ -14,6 +14,10 @@ use Rattle.ipnet_info.specs.Zones.{IsNextLength, AreReverseZones}
 abbrev with_len : Network → ℕ → Network
 with_len n len = record n { prefix_len = len }
 
+-- The network of the same address with the length of the smallest zones.
+abbrev widest : Network → Network
+widest n = record n { prefix_len = longest_zone n.family }
+
 family_within : (z n : Network) → IsSubnetOf z n → z.family ≡ n.family
 family_within z n s = (s (own z) (own_in z)).same_family
 
@@ -128,7 +132,7 @@ inside_zones n len zones u next few short subs = record {
 }
 
 around_to : (n z : Network) → IsNetwork n → longest_zone n.family < n.prefix_len
-    → IsSubnetOfLength (with_len n (longest_zone n.family)) (longest_zone n.family) z → IsSmallestAround n z
+    → IsSubnetOfLength (widest n) (longest_zone n.family) z → IsSmallestAround n z
 around_to n z u long sub = record {
   zone = record {
     network = sub.network;
@@ -142,49 +146,49 @@ around_to n z u long sub = record {
   smallest = λ k zone n_in_k.
       let k_family : n.family ≡ k.family = family_within n k n_in_k in
       let shorter : k.prefix_len ≤ longest_zone n.family = omega (arith, zone.short, ap longest_zone k_family) in
-      let wide_in_k : IsSubnetOf (with_len n (longest_zone n.family)) k =
-      subnet_from_own (with_len n (longest_zone n.family)) k shorter (n_in_k (own n) (own_in n)) in
+      let wide_in_k : IsSubnetOf (widest n) k =
+      subnet_from_own (widest n) k shorter (n_in_k (own n) (own_in n)) in
       λ x a. wide_in_k x (sub.within x a);
 }
   where
     family : z.family ≡ n.family
-    family = family_within z (with_len n (longest_zone n.family)) sub.within
+    family = family_within z (widest n) sub.within
 
-    n_in_wide : IsSubnetOf n (with_len n (longest_zone n.family))
+    n_in_wide : IsSubnetOf n (widest n)
     n_in_wide =
-        subnet_from_own n (with_len n (longest_zone n.family)) (omega (arith, long))
-        (own_in (with_len n (longest_zone n.family)))
+        subnet_from_own n (widest n) (omega (arith, long))
+        (own_in (widest n))
 
-    wide_in_z : IsSubnetOf (with_len n (longest_zone n.family)) z
-    wide_in_z = same_len_around z (with_len n (longest_zone n.family)) sub.of_length sub.within
+    wide_in_z : IsSubnetOf (widest n) z
+    wide_in_z = same_len_around z (widest n) sub.of_length sub.within
 
 around_from : (n z : Network) → IsNetwork n → longest_zone n.family < n.prefix_len → IsSmallestAround n z
-    → IsSubnetOfLength (with_len n (longest_zone n.family)) (longest_zone n.family) z
+    → IsSubnetOfLength (widest n) (longest_zone n.family) z
 around_from n z u long h = record {
   network = h.zone.network;
   truncated = h.zone.truncated;
   of_length = omega (arith, low, h.zone.short, ap longest_zone family);
-  within = λ x a. truncation_in (with_len n (longest_zone n.family)) x (z_in_cut x a);
+  within = λ x a. truncation_in (widest n) x (z_in_cut x a);
 }
   where
     family : n.family ≡ z.family
     family = family_within n z h.around
 
-    n_in_wide : IsSubnetOf n (with_len n (longest_zone n.family))
-    n_in_wide = subnet_from_own n (with_len n (longest_zone n.family)) (omega (arith, long)) (own_in (with_len n (longest_zone n.family)))
+    n_in_wide : IsSubnetOf n (widest n)
+    n_in_wide = subnet_from_own n (widest n) (omega (arith, long)) (own_in (widest n))
 
-    cut : IsZone (truncation (with_len n (longest_zone n.family)))
+    cut : IsZone (truncation (widest n))
     cut =
         cut_zone n (longest_zone n.family) (longest_whole n.family).0 u (longest_whole n.family).1 (omega arith)
 
-    z_in_cut : IsSubnetOf z (truncation (with_len n (longest_zone n.family)))
-    z_in_cut = h.smallest (truncation (with_len n (longest_zone n.family))) cut (λ x a. in_truncation (with_len n (longest_zone n.family)) x (n_in_wide x a))
+    z_in_cut : IsSubnetOf z (truncation (widest n))
+    z_in_cut = h.smallest (truncation (widest n)) cut (λ x a. in_truncation (widest n) x (n_in_wide x a))
 
     low : longest_zone n.family ≤ z.prefix_len
-    low = longer_from_subnet z (truncation (with_len n (longest_zone n.family))) h.zone.network cut.network z_in_cut
+    low = longer_from_subnet z (truncation (widest n)) h.zone.network cut.network z_in_cut
 
 pub around_zones : (n : Network) (zones : List Network) → IsNetwork n → longest_zone n.family < n.prefix_len
-    → AreSubnetsOfLength (with_len n (longest_zone n.family)) (longest_zone n.family) zones
+    → AreSubnetsOfLength (widest n) (longest_zone n.family) zones
     → AreReverseZones n zones
 around_zones n zones u long subs = record {
   ascending = subs.ascending;

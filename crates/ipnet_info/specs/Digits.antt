@@ -22,7 +22,7 @@ digit_count IPv6 = 32
 abbrev pub hexadecimal_text : Address → List ℕ
 hexadecimal_text x = codes "0x" ++ hex_digits (digit_count x.family) x.number
 
--- What is before the last `rest` groups of an address: a ":" if there are any.
+-- The text before the last `rest` groups of an address: ":", or nothing before no group.
 abbrev pub separator : ℕ → List ℕ
 separator zero = []
 separator (suc rest) = codes ":"

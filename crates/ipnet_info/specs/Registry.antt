@@ -29,10 +29,11 @@ abbrev pub registration_of : SpecialBlock → Registration
 registration_of block =
     record { network = ip_network block.network; name = block.name.now; rfc = block.rfc.now }
 
--- The rows of the first registry, and then those of the second.
+-- All rows of the first registry, in its order.
 abbrev pub ipv4_registrations : List Registration
 ipv4_registrations = map ipv4_registration IPV4_ROWS
 
+-- All rows of the second registry, in its order.
 abbrev pub ipv6_registrations : List Registration
 ipv6_registrations = map ipv6_registration IPV6_ROWS
 

@@ -24,8 +24,8 @@ abbrev pub ipv6_labels : (labels number : ℕ) → List ℕ
 ipv6_labels zero number = codes "ip6.arpa"
 ipv6_labels (suc k) number = (hex_digit_at number (31 - k) ∷ []) ++ codes "." ++ ipv6_labels k number
 
--- The name of the labels that the prefix has in whole. Of a zone it is the name of the zone, and of a single address the
--- name of its PTR record. Example: `3.2.10.in-addr.arpa` for 10.2.3.0/24 and for 10.2.3.64/26.
+-- The name of the labels that the prefix has in whole. For a zone it is the name of the zone, and for a single address
+-- the name of its PTR record. Example: `3.2.10.in-addr.arpa` for 10.2.3.0/24 and for 10.2.3.64/26.
 abbrev pub name_of : Family → ℕ → ℕ → List ℕ
 name_of IPv4 number prefix_len = ipv4_labels (prefix_len / 8) number
 name_of IPv6 number prefix_len = ipv6_labels (prefix_len / 4) number
@@ -34,7 +34,7 @@ name_of IPv6 number prefix_len = ipv6_labels (prefix_len / 4) number
 abbrev pub longest_zone : Family → ℕ
 longest_zone family = width family - label_bits family
 
--- A zone: a network without host bits, whose prefix is whole labels, and not those of a single address.
+-- A zone: a network without host bits, larger than a single address, whose prefix is whole labels.
 -- Example: 10.0.0.0/8 and 2001:db8::/32 are zones; 10.0.0.0/9 and 10.0.0.1/32 are not.
 pub record IsZone (z : Network) : Type 0 where
   pub network : IsNetwork z

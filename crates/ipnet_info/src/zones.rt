@@ -1,5 +1,6 @@
 //! The zones of the domain name system that name the addresses of a network.
-ghost use Rattle.std.specs.Prelude.{◌≡◌, ◌*◌, ◌/◌, ◌%◌, ◌^◌, ◌-◌, ◌<◌, ◌≤◌, ◌++◌, OnOk, IfOk, string_bytes, decimal, codes};
+ghost use Rattle.std.specs.Prelude.{◌≡◌, ◌*◌, ◌/◌, ◌%◌, ◌^◌, ◌-◌, ◌<◌, ◌≤◌, ◌++◌, OnOk, IfOk, string_bytes};
+ghost use Rattle.std.specs.Prelude.{decimal, codes};
 ghost use Rattle.ipnet_base.specs.Address.{width};
 ghost use Rattle.ipnet_base.specs.Network.{IsNetwork};
 ghost use Rattle.ipnet.specs.NetworkOf.{ip_network};
@@ -49,7 +50,7 @@ fn push_ipv6_name(text: &mut String, number: u128, labels: u32) -> Result<(), Al
 }
 
 /// Returns the name of a zone: its labels, and `in-addr.arpa` or `ip6.arpa`. If the network's prefix does not end at a
-/// label, the name is that of the zone around it; of a single address it is the name of the PTR record. Fails only if
+/// label, it is the name of the zone around it. For a single address it is the name of the PTR record. Fails only if
 /// memory runs out.
 ///
 /// ```text
