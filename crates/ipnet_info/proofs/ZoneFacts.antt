@@ -139,7 +139,7 @@ around_to n z u long sub = record {
     truncated = sub.truncated;
     labels = (longest_whole n.family).0;
     whole = sub.of_length ∙ (longest_whole n.family).1
-    ∙ ap (λ f. (longest_whole n.family).0 * label_bits f) (sym family);
+        ∙ ap (λ f. (longest_whole n.family).0 * label_bits f) (sym family);
     short = omega (arith, sub.of_length, ap longest_zone family);
   };
   around = λ x a. wide_in_z x (n_in_wide x a);

@@ -20,6 +20,17 @@ pub(crate) fn number_of(address: &IpAddr) -> u128
     }
 }
 
+/// Returns how many hexadecimal digits the address has.
+fn digit_count(address: &IpAddr) -> u32
+    ensures digits { result ≡ digits.digit_count (ip_address address.now).family }
+    ensures few { result ≤ 32 }
+{
+    match address {
+        IpAddr::V4(_) => 8,
+        IpAddr::V6(_) => 32,
+    }
+}
+
 /// Returns the digit in hexadecimal, in lower case.
 fn digit(value: u8) -> &'static str
     requires { value < 16 }
@@ -87,10 +98,7 @@ pub fn hexadecimal_text(alloc: Global, address: &IpAddr) -> Result<String, Alloc
 {
     let mut text = String::new(alloc);
     text.push_str("0x")?;
-    match address {
-        IpAddr::V4(address) => push_digits(&mut text, u128::from(address.to_bits()), 8)?,
-        IpAddr::V6(address) => push_digits(&mut text, address.to_bits(), 32)?,
-    }
+    push_digits(&mut text, number_of(address), digit_count(address))?;
     Ok(text)
 }
 

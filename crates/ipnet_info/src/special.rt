@@ -13,7 +13,7 @@ use std::alloc::{AllocError, Global};
 /// ```text
 /// 10.0.0.0/8, "Private-Use", "RFC 1918"
 /// ```
-#[derive(Clone, Copy, PartialEq, Eq, Debug, Drop)]
+#[derive(Clone, Copy, PartialEq, Eq, Debug)]
 pub struct SpecialBlock {
     /// The addresses.
     pub network: IpNet,

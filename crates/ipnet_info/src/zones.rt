@@ -3,7 +3,7 @@ ghost use Rattle.std.specs.Prelude.{◌≡◌, ◌*◌, ◌/◌, ◌%◌, ◌^�
 ghost use Rattle.std.specs.Prelude.{decimal, codes};
 ghost use Rattle.ipnet_base.specs.Address.{width};
 ghost use Rattle.ipnet_base.specs.Network.{IsNetwork};
-ghost use Rattle.ipnet.specs.NetworkOf.{ip_network};
+ghost use Rattle.ipnet.specs.NetworkOf.{ip_network, ipv4_network, ipv6_network};
 ghost use Rattle.ipnet.specs.NetworkParts.{network_at, own_address, AreSubnetsOfLength};
 ghost use Rattle.ipnet.specs.SubnetsLeft.{ip_subnets_left};
 ghost use Rattle.ipnet_info.specs.Zones.{ipv4_labels, ipv6_labels, name_of, longest_zone};
@@ -11,7 +11,7 @@ ghost use Rattle.ipnet_info.specs.Zones.{IsNextLength, AreReverseZones};
 
 use crate::numbers::push_digit;
 use ipnet::net::laws::ip_nets_compare_by_network;
-use ipnet::{IpNet, IpSubnets};
+use ipnet::{IpNet, IpSubnets, Ipv4Net, Ipv6Net};
 use std::alloc::{AllocError, Global};
 
 /// Appends the octet of the number that the label with this index names, and ".". Fails only if memory runs out.
@@ -49,6 +49,34 @@ fn push_ipv6_name(text: &mut String, number: u128, labels: u32) -> Result<(), Al
     Ok(())
 }
 
+/// Returns the name of an IPv4 zone. Fails only if memory runs out.
+fn ipv4_zone_name(alloc: Global, zone: &Ipv4Net) -> Result<String, AllocError>
+    ensures { IfOk result (λ text. string_bytes text
+        ≡ ipv4_labels ((ipv4_network zone.now).prefix_len / 8) (ipv4_network zone.now).number) }
+{
+    let mut text = String::new(alloc);
+    push_ipv4_name(
+        &mut text,
+        zone.addr().to_bits(),
+        u32::from(zone.prefix_len() / 8),
+    )?;
+    Ok(text)
+}
+
+/// Returns the name of an IPv6 zone. Fails only if memory runs out.
+fn ipv6_zone_name(alloc: Global, zone: &Ipv6Net) -> Result<String, AllocError>
+    ensures { IfOk result (λ text. string_bytes text
+        ≡ ipv6_labels ((ipv6_network zone.now).prefix_len / 4) (ipv6_network zone.now).number) }
+{
+    let mut text = String::new(alloc);
+    push_ipv6_name(
+        &mut text,
+        zone.addr().to_bits(),
+        u32::from(zone.prefix_len() / 4),
+    )?;
+    Ok(text)
+}
+
 /// Returns the name of a zone: its labels, and `in-addr.arpa` or `ip6.arpa`. If the network's prefix does not end at a
 /// label, it is the name of the zone around it. For a single address it is the name of the PTR record. Fails only if
 /// memory runs out.
@@ -61,17 +89,10 @@ pub fn zone_name(alloc: Global, zone: &IpNet) -> Result<String, AllocError>
     ensures { IfOk result (λ text. string_bytes text
         ≡ name_of (ip_network zone.now).family (ip_network zone.now).number (ip_network zone.now).prefix_len) }
 {
-    ip_nets_compare_by_network();
-    let mut text = String::new(alloc);
     match zone {
-        IpNet::V4(net) => {
-            push_ipv4_name(&mut text, net.addr().to_bits(), u32::from(net.prefix_len() / 8))?
-        }
-        IpNet::V6(net) => {
-            push_ipv6_name(&mut text, net.addr().to_bits(), u32::from(net.prefix_len() / 4))?
-        }
+        IpNet::V4(zone) => ipv4_zone_name(alloc, zone),
+        IpNet::V6(zone) => ipv6_zone_name(alloc, zone),
     }
-    Ok(text)
 }
 
 /// Returns the prefix length of the smallest zones of the network's family.

@@ -50,7 +50,11 @@ fn show_zones(alloc: Global, network: &IpNet) -> Result<String, AllocError> {
 fn show_special(alloc: Global, network: &IpNet) -> Result<String, AllocError> {
     let mut text = String::new(alloc);
     for block in special_blocks(alloc, network)?.iter() {
-        let share = if block.network.contains(network) { "all" } else { "part" };
+        let share = if block.network.contains(network) {
+            "all"
+        } else {
+            "part"
+        };
         let row = block.network;
         let name = block.name;
         let rfc = block.rfc;
