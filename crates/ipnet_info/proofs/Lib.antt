@@ -1,5 +1,4 @@
 -- The lemmas of this crate.
 mod HostFacts
 mod DigitFacts
-mod RowFacts
 mod ZoneFacts

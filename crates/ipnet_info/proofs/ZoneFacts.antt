@@ -1,5 +1,6 @@
 -- The zones inside a network, and the zone around it, are its subnets of one length.
-use Rattle.std.proofs.Common.{◌≡◌, ℕ, ◌+◌, ◌-◌, ◌*◌, ◌<◌, ◌≤◌, ◌↔◌, List, Contains, refl, sym, ap, ◌∙◌, subst, arith}
+use Rattle.std.proofs.Common.{◌≡◌, ℕ, ◌+◌, ◌-◌, ◌*◌, ◌/◌, ◌<◌, ◌≤◌, ◌↔◌, List, Contains, refl, sym, ap, ◌∙◌, subst, arith}
+use Rattle.std.proofs.Math.Nat.{div-mul-le_self, lt-div-mul-add}
 use Rattle.ipnet_base.specs.Address.{Family, IPv4, IPv6, width}
 use Rattle.ipnet_base.specs.Network.{Network, IsNetwork, InBlock, IsSubnetOf, IsTruncated, host_bits, truncation}
 use Rattle.ipnet_base.proofs.BlockLaws.{own, own_in}
@@ -15,11 +16,24 @@ abbrev with_len : Network → ℕ → Network
 with_len n len = record n { prefix_len = len }
 
 -- The network of the same address with the length of the smallest zones.
-abbrev widest : Network → Network
+abbrev pub widest : Network → Network
 widest n = record n { prefix_len = longest_zone n.family }
 
 family_within : (z n : Network) → IsSubnetOf z n → z.family ≡ n.family
 family_within z n s = (s (own z) (own_in z)).same_family
+
+-- the next multiples of 8 and of 4
+pub up_to_8 : (p : ℕ) → (p ≤ (p + 7) / 8 * 8) × ((p + 7) / 8 * 8 < p + 8)
+up_to_8 p =
+    let below : (p + 7) / 8 * 8 ≤ p + 7 = div-mul-le_self (p + 7) 8 in
+    let above : p + 7 < (p + 7) / 8 * 8 + 8 = lt-div-mul-add {a = p + 7} {b = 8} (omega arith) in
+    (omega arith, omega arith)
+
+pub up_to_4 : (p : ℕ) → (p ≤ (p + 3) / 4 * 4) × ((p + 3) / 4 * 4 < p + 4)
+up_to_4 p =
+    let below : (p + 3) / 4 * 4 ≤ p + 3 = div-mul-le_self (p + 3) 4 in
+    let above : p + 3 < (p + 3) / 4 * 4 + 4 = lt-div-mul-add {a = p + 3} {b = 4} (omega arith) in
+    (omega arith, omega arith)
 
 -- of two multiples, the one that is less than a label above `p` is not the greater
 next_multiple : (f : Family) (p len q a b : ℕ) → len ≡ a * label_bits f → q ≡ b * label_bits f → p ≤ q

@@ -4,12 +4,9 @@
 pub mod counts;
 pub mod hosts;
 pub mod numbers;
-pub mod registry;
-pub mod special;
 pub mod zones;
 
 pub use counts::{address_count, host_count};
 pub use hosts::{first_host, last_host};
 pub use numbers::{decimal_text, hexadecimal_text, written_out};
-pub use special::{SpecialBlock, special_blocks};
 pub use zones::{reverse_zones, zone_name};

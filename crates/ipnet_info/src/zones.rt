@@ -97,7 +97,8 @@ pub fn zone_name(alloc: Global, zone: &IpNet) -> Result<String, AllocError>
 
 /// Returns the prefix length of the smallest zones of the network's family.
 fn longest_zone_len(network: &IpNet) -> u8
-    ensures { result ≡ longest_zone (ip_network network.now).family }
+    ensures length { result ≡ longest_zone (ip_network network.now).family }
+    ensures fits { result ≤ width (ip_network network.now).family }
 {
     match network {
         IpNet::V4(_) => 24,
@@ -106,13 +107,26 @@ fn longest_zone_len(network: &IpNet) -> u8
 }
 
 /// Returns the least prefix length of whole labels that is at least the network's.
+fn next_ipv4_len(network: &Ipv4Net) -> u8
+    ensures { IsNextLength (ipv4_network network.now) result }
+{
+    (network.prefix_len() + 7) / 8 * 8
+}
+
+/// Returns the least prefix length of whole labels that is at least the network's.
+fn next_ipv6_len(network: &Ipv6Net) -> u8
+    ensures { IsNextLength (ipv6_network network.now) result }
+{
+    (network.prefix_len() + 3) / 4 * 4
+}
+
+/// Returns the least prefix length of whole labels that is at least the network's.
 fn next_zone_len(network: &IpNet) -> u8
     ensures { IsNextLength (ip_network network.now) result }
 {
-    ip_nets_compare_by_network();
     match network {
-        IpNet::V4(net) => (net.prefix_len() + 7) / 8 * 8,
-        IpNet::V6(net) => (net.prefix_len() + 3) / 4 * 4,
+        IpNet::V4(network) => next_ipv4_len(network),
+        IpNet::V6(network) => next_ipv6_len(network),
     }
 }
 
@@ -128,6 +142,27 @@ fn subnets_of(network: &IpNet, prefix_len: u8) -> IpSubnets
     }
 }
 
+/// Returns the smallest zone that contains a network smaller than every zone.
+fn zone_around(network: &IpNet) -> IpSubnets
+    requires { longest_zone (ip_network network.now).family < (ip_network network.now).prefix_len }
+    ensures { AreReverseZones (ip_network network.now) (ip_subnets_left result) }
+{
+    ip_nets_compare_by_network();
+    let longest = longest_zone_len(network);
+    let around = IpNet::new_assert(network.addr(), longest);
+    subnets_of(&around, longest)
+}
+
+/// Returns the largest zones inside a network that is not smaller than every zone.
+fn zones_inside(network: &IpNet) -> IpSubnets
+    requires { (ip_network network.now).prefix_len ≤ longest_zone (ip_network network.now).family }
+    ensures { AreReverseZones (ip_network network.now) (ip_subnets_left result) }
+{
+    ip_nets_compare_by_network();
+    let length = next_zone_len(network);
+    subnets_of(network, length)
+}
+
 /// Returns the reverse zones of the network, in ascending order: the largest zones inside the network, at most 128. If
 /// the network is smaller than every zone, it is the one zone that contains it.
 ///
@@ -138,12 +173,8 @@ fn subnets_of(network: &IpNet, prefix_len: u8) -> IpSubnets
 pub fn reverse_zones(network: &IpNet) -> IpSubnets
     ensures { AreReverseZones (ip_network network.now) (ip_subnets_left result) }
 {
-    ip_nets_compare_by_network();
-    let longest = longest_zone_len(network);
-    if network.prefix_len() > longest {
-        let around = IpNet::new_assert(network.addr(), longest);
-        return subnets_of(&around, longest);
+    if network.prefix_len() > longest_zone_len(network) {
+        return zone_around(network);
     }
-    let length = next_zone_len(network);
-    subnets_of(network, length)
+    zones_inside(network)
 }

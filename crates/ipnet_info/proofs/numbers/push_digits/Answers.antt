@@ -14,6 +14,7 @@ loop-place-preserved c =
 
 pub returns : goal.returns
 returns c =
+    let none : 0 ≡ c.loop-place.place = omega arith in
     sym (append-nil (string_bytes c.loop-place.text))
-    ∙ ap (λ k. string_bytes c.loop-place.text ++ hex_digits k c.args.number) (omega arith)
+    ∙ ap (λ k. string_bytes c.loop-place.text ++ hex_digits k c.args.number) none
     ∙ c.loop-place.invariant

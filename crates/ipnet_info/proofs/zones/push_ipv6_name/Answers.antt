@@ -18,6 +18,7 @@ loop-index-preserved c =
 
 pub returns : goal.returns
 returns c =
+    let none : 0 ≡ c.loop-index.index = omega arith in
     c.in_ok-push_str-2.ensures.bytes
-    ∙ ap (λ k. string_bytes c.loop-index.text ++ ipv6_labels k c.args.number) (omega arith)
+    ∙ ap (λ k. string_bytes c.loop-index.text ++ ipv6_labels k c.args.number) none
     ∙ c.loop-index.invariant
