@@ -1,4 +1,4 @@
-//! Facts about one network: its hosts, its numbers, its reverse zones, and what IANA registers about its addresses.
+//! Facts about one network: its hosts, its numbers and its reverse zones.
 #![tactic(auto)]
 
 pub mod counts;

@@ -3,7 +3,7 @@ use crate::{Answer, Question, show};
 use ipnet::{IpAddr, IpNet};
 use ipnet_info::{
     address_count, decimal_text, first_host, hexadecimal_text, host_count, last_host,
-    reverse_zones, special_blocks, written_out, zone_name,
+    reverse_zones, written_out, zone_name,
 };
 use std::alloc::{AllocError, Global};
 
@@ -22,7 +22,6 @@ pub fn ask(alloc: Global, question: Question<'_>) -> Answer {
         "written_out" => show_written_out(alloc, &network.addr())?,
         "zone_name" => zone_name(alloc, &network)?,
         "zones" => show_zones(alloc, &network)?,
-        "special" => show_special(alloc, &network)?,
         _ => return Ok(None),
     };
     Ok(Some(text))
@@ -42,23 +41,6 @@ fn show_zones(alloc: Global, network: &IpNet) -> Result<String, AllocError> {
     for zone in reverse_zones(network) {
         let name = zone_name(alloc, &zone)?;
         write!(text, "{zone} {name},")?;
-    }
-    Ok(text)
-}
-
-/// The special-purpose blocks that share an address with the network: whether they contain it, and the row.
-fn show_special(alloc: Global, network: &IpNet) -> Result<String, AllocError> {
-    let mut text = String::new(alloc);
-    for block in special_blocks(alloc, network)?.iter() {
-        let share = if block.network.contains(network) {
-            "all"
-        } else {
-            "part"
-        };
-        let row = block.network;
-        let name = block.name;
-        let rfc = block.rfc;
-        write!(text, "{share}|{row}|{name}|{rfc};")?;
     }
     Ok(text)
 }

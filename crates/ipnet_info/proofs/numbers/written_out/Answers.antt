@@ -1,4 +1,5 @@
-use Rattle.std.proofs.Common.{◌≡◌, ◌-◌, ◌*◌, ◌/◌, ◌^◌, ◌++◌, sym, ap, ◌∙◌, arith, append_assoc, append-nil, string_bytes}
+use Rattle.std.proofs.Common.{◌≡◌, ◌-◌, ◌*◌, ◌/◌, ◌^◌, ◌++◌, sym, ap, ◌∙◌, arith, append_assoc, append-nil}
+use Rattle.std.proofs.Common.{string_bytes}
 use Rattle.ipnet_info.specs.Digits.{hex_digits, separator, full_groups}
 use Rattle.ipnet_info.proofs.DigitFacts.{piece_step, groups_step}
 use Rattle.ipnet_info.proofs.numbers.written_out.Goals as goal
