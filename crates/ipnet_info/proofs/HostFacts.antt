@@ -1,12 +1,12 @@
 -- Every network has hosts, and its first and last host are the ends of their range.
-use Rattle.std.proofs.Common.{◌≡◌, ◌+◌, ◌-◌, ◌^◌, ◌<◌, ◌≤◌, ◌⊎◌, inl, inr, Contains, refl, sym, ap, ◌∙◌, subst, arith}
-use Rattle.std.proofs.Common.{pow_pos, Option, Some, None, option_map}
+use Rattle.std.proofs.Common.{◌≡◌, ◌^◌, ◌<◌, ◌≤◌, ◌⊎◌, inl, inr, ap, subst, arith}
+use Rattle.std.proofs.Common.{pow_pos, Option, Some, None}
 use Rattle.std.specs.Option.{SomeIff}
 use Rattle.std.proofs.lemmas.Bool.{cases_lt}
 use Rattle.std.proofs.lemmas.Nat.{pow_below}
-use Rattle.ipnet_base.specs.Address.{Family, IPv4, IPv6, Address, width, address_at, IsBetween}
-use Rattle.ipnet_base.specs.Network.{Network, IsNetwork, host_bits}
-use Rattle.ipnet_base.specs.Ranges.{AddressRange, addresses_of, address_count}
+use Rattle.ipnet_base.specs.Address.{IPv4, Address, width, address_at, IsBetween}
+use Rattle.ipnet_base.specs.Network.{Network, host_bits}
+use Rattle.ipnet_base.specs.Ranges.{AddressRange}
 use Rattle.ipnet_base.proofs.FamilyLaws.{cases_family}
 use Rattle.ipnet_base.proofs.RangeLaws.{between_from_contains, contains_from_between}
 use Rattle.ipnet.specs.NetworkParts.{HasReservedEnds, IsHostRange}

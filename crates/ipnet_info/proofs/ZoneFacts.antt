@@ -1,9 +1,9 @@
 -- The zones inside a network, and the zone around it, are its subnets of one length.
-use Rattle.std.proofs.Common.{◌≡◌, ℕ, ◌+◌, ◌-◌, ◌*◌, ◌/◌, ◌<◌, ◌≤◌, ◌↔◌, List, Contains}
-use Rattle.std.proofs.Common.{refl, sym, ap, ◌∙◌, subst, arith}
+use Rattle.std.proofs.Common.{◌≡◌, ℕ, ◌+◌, ◌-◌, ◌*◌, ◌/◌, ◌<◌, ◌≤◌, List}
+use Rattle.std.proofs.Common.{refl, sym, ap, ◌∙◌, arith}
 use Rattle.std.proofs.Math.Nat.{div-mul-le_self, lt-div-mul-add}
 use Rattle.ipnet_base.specs.Address.{Family, IPv4, IPv6, width}
-use Rattle.ipnet_base.specs.Network.{Network, IsNetwork, InBlock, IsSubnetOf, IsTruncated, host_bits, truncation}
+use Rattle.ipnet_base.specs.Network.{Network, IsNetwork, IsSubnetOf, truncation}
 use Rattle.ipnet_base.proofs.BlockLaws.{own, own_in}
 use Rattle.ipnet_base.proofs.NestingLaws.{nested, longer_from_subnet, subnet_from_own}
 use Rattle.ipnet_base.proofs.NetworkLaws.{same_from_block, IsTruncated-truncation, IsNetwork-truncation}

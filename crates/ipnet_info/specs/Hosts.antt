@@ -1,5 +1,5 @@
 -- The first and the last host of a network. Which addresses are hosts, `IsHostRange` of `ipnet` says.
-use Rattle.std.specs.Prelude.{◌≡◌, ◌≤◌, Contains}
+use Rattle.std.specs.Prelude.{◌≤◌, Contains}
 use Rattle.ipnet_base.specs.Address.{Address}
 use Rattle.ipnet_base.specs.Network.{Network}
 use Rattle.ipnet_base.specs.Ranges.{AddressRange, addresses_of}

@@ -1,4 +1,4 @@
-use Rattle.std.proofs.Common.{◌≤◌, option_map, refl, ap, arith}
+use Rattle.std.proofs.Common.{◌≤◌, option_map, ap}
 use Rattle.ipnet_base.specs.Address.{ip_address, address_at}
 use Rattle.ipnet_base.specs.RangeOf.{ip_range}
 use Rattle.ipnet.specs.NetworkOf.{ip_network}
