@@ -17,10 +17,10 @@ AreInOrder vrps = (i j : ℕ) (d : Payload) → i ≤ j → j < length vrps
     → ¬ (IsBefore (network_of (get_or vrps j d)) (network_of (get_or vrps i d)))
 
 -- the index is the last of the payloads of the network
-pub record IsLastOf (vrps : List Payload) (n : Network) (last : ℕ) : Type 0 where
-  pub within : last < length vrps
-  pub is : (d : Payload) → network_of (get_or vrps last d) ≡ n
-  pub last : (j : ℕ) (d : Payload) → last < j → j < length vrps → network_of (get_or vrps j d) ≢ n
+pub record IsLastOf (vrps : List Payload) (n : Network) (place : ℕ) : Type 0 where
+  pub within : place < length vrps
+  pub is : (d : Payload) → network_of (get_or vrps place d) ≡ n
+  pub last : (j : ℕ) (d : Payload) → place < j → j < length vrps → network_of (get_or vrps j d) ≢ n
 
 -- the table has the network of each payload, and the index of its last payload
 pub record AreLasts (vrps : List Payload) (routes : List (Route ℕ)) : Type 0 where

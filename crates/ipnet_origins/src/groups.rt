@@ -2,7 +2,7 @@
 ghost use Rattle.std.specs.Prelude.{◌≡◌, ◌↔◌, IsTrue, Any, IfOk, OnOk, IsPermutation, get_or};
 ghost use Rattle.ipnet_base.specs.Network.{Network};
 ghost use Rattle.ipnet.specs.NetworkOf.{ip_network};
-ghost use Rattle.ipnet_origins.specs.Groups.{AreInOrder, IsLastOf, IsStartOf, IsGroup, ArePlaces};
+ghost use Rattle.ipnet_origins.specs.Groups.{network_of, AreInOrder, IsLastOf, IsStartOf, IsGroup, ArePlaces};
 ghost use Rattle.ipnet_origins.specs.Origins.{IsMatched};
 
 use crate::payload::Payload;
@@ -16,7 +16,7 @@ pub(crate) fn sort(payloads: &mut Vec<Payload>) -> Result<(), AllocError>
     ensures permutation { IsPermutation payloads.old.items payloads.new.items }
 {
     ip_nets_compare_by_network();
-    payloads.sort_by_key(|payload| payload.network())?;
+    payloads.sort_by_key(|payload| payload.network)?;
     Ok(())
 }
 
@@ -26,9 +26,17 @@ pub(crate) fn places(alloc: Global, payloads: &[Payload]) -> Result<Vec<(IpNet, 
 {
     let mut routes = Vec::with_capacity(alloc, payloads.len())?;
     for index in 0..payloads.len() {
-        routes.push((payloads[index].network(), index))?;
+        routes.push((payloads[index].network, index))?;
     }
     Ok(routes)
+}
+
+/// Whether the payload is of the network.
+fn is_of(payload: &Payload, network: &IpNet) -> bool
+    ensures { IsTrue result ↔ (network_of payload.now ≡ ip_network network.now) }
+{
+    ip_nets_compare_by_network();
+    payload.network == *network
 }
 
 /// Returns the index of the first payload of the network; `last` is the index of the last one.
@@ -37,10 +45,9 @@ fn start_of(payloads: &[Payload], last: usize, network: &IpNet) -> usize
     requires last { IsLastOf payloads.now (ip_network network.now) last }
     ensures { IsStartOf payloads.now (ip_network network.now) result last }
 {
-    ip_nets_compare_by_network();
     let mut start = last;
     while start > 0 {
-        if payloads[start - 1].network() != *network {
+        if !is_of(&payloads[start - 1], network) {
             return start;
         }
         start -= 1;

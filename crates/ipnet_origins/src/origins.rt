@@ -1,5 +1,5 @@
 //! Tables of validated ROA payloads, and the validity of the origin of a route.
-ghost use Rattle.std.specs.Prelude.{◌≡◌, ◌↔◌, ◌×◌, IsTrue, Any, Contains, IfOk, IsPermutation};
+ghost use Rattle.std.specs.Prelude.{◌≡◌, ◌↔◌, IsTrue, Any, Contains, IfOk, IsPermutation};
 ghost use Rattle.ipnet.specs.NetworkOf.{ip_network};
 ghost use Rattle.ipnet_routes.specs.RoutesOf.{routes_of};
 ghost use Rattle.ipnet_origins.specs.Groups.{AreInOrder, AreLasts};

@@ -27,7 +27,7 @@ pub enum PayloadError {
 /// ```
 #[derive(Clone, Copy, PartialEq, Eq, Debug)]
 pub struct Payload {
-    network: IpNet,
+    pub(crate) network: IpNet,
     max_len: u8,
     asn: u32,
     ghost truncated: { IsTruncated (ip_network network) },

@@ -1,0 +1,4 @@
+-- Lemmas of this crate.
+pub mod OrderLaws
+pub mod LastLaws
+pub mod ValidityLaws
