@@ -2,3 +2,4 @@
 pub mod OrderLaws
 pub mod LastLaws
 pub mod ValidityLaws
+pub mod WalkLaws

@@ -1,13 +1,16 @@
 -- What the payloads say of a route, by the routes of their table.
 use Rattle.std.proofs.Common.{◌≡◌, ℕ, ◌≤◌, ◌↔◌, List, Contains, Any, Option, Some, None, refl, sym, ap, ◌∙◌, subst}
-use Rattle.std.proofs.Common.{arith}
+use Rattle.std.proofs.Common.{arith, cc, IsTrue, IsNone, IfSome}
+use Rattle.std.specs.Option.{is_some}
+use Rattle.std.specs.Borrow.{Bor}
 use Rattle.std.proofs.lemmas.List.{length-map, get_or-map}
 use Rattle.ipnet_base.specs.Network.{Network, IsNetwork, InBlock, IsSubnetOf}
 use Rattle.ipnet_base.proofs.BlockLaws.{own, own_in}
 use Rattle.ipnet_base.proofs.NestingLaws.{longer_from_subnet, subnet_from_own}
 use Rattle.ipnet_base.proofs.ListLaws.{any_from_contains}
+use Rattle.ipnet.specs.declared.net.IpNet.{IpNet}
 use Rattle.ipnet.specs.NetLaws.{ip_valid}
-use Rattle.ipnet_routes.specs.Routes.{Route, networks_of, IsLongestHolder}
+use Rattle.ipnet_routes.specs.Routes.{Route, networks_of, ip_route, IsLongestHolder}
 use Rattle.ipnet_origins.specs.declared.payload.Payload.{Payload}
 use Rattle.ipnet_origins.specs.declared.origins.Validity.{Validity}
 use Rattle.ipnet_origins.specs.declared.origins.Validity.TheVariants.{Valid, Invalid, NotFound}
@@ -81,3 +84,18 @@ by_members vrps others route origin Invalid same h = (
 )
 by_members vrps others route origin NotFound same h =
     λ m. h (any_other (IsCovered route) others vrps (λ vrp. (same vrp).1) m)
+
+-- a search that finds the longest network that contains the route finds one if and only if a payload covers the route
+pub found_or_not : (vrps : List Payload) (routes : List (Route ℕ)) → AreLasts vrps routes → (n : Network) → IsNetwork n
+    → (o : Option (Bor (IpNet × ℕ)))
+    → (IsNone o ↔ ((k : Network) → Contains (networks_of routes) k → ¬ (IsSubnetOf n k)))
+    → IfSome o (λ r. IsLongestHolder routes n (ip_route r))
+    → (IsTrue (is_some o) → Any (IsCovered n) vrps) × (Any (IsCovered n) vrps → IsTrue (is_some o))
+found_or_not vrps routes lasts n valid None none some = (
+  λ e. absurd (cc),
+  λ h. absurd (none_covers vrps routes lasts n (none.0 refl) h),
+)
+found_or_not vrps routes lasts n valid (Some r) none some = (
+  λ e. some_covers vrps routes lasts n valid (ip_route r) some.member some.holds,
+  λ h. refl,
+)
