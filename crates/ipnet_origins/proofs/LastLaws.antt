@@ -53,15 +53,15 @@ none_of : (vrps : List Payload) (places : List (IpNet × ℕ)) → ArePlaces vrp
 none_of vrps places h routes table n none zero i d le l e = absurd (omega (arith, le, l))
 none_of vrps places h routes table n none (suc k) i d le l e =
     none (n, i) ((table.members (n, i)).1 (
-      record {
-        place = i;
-        within = omega (arith, l, count vrps places h);
-        is = route_at vrps places h i (n, i) d l ∙ ap (λ m. (m, i)) e;
-        last = λ j r lt lj same.
-            let inside : j < length vrps = omega (arith, lj, count vrps places h) in
-            none_of vrps places h routes table n none k j d (omega (arith, le, lt)) inside
-            (sym (ap (λ z. z.0) (route_at vrps places h j r d inside)) ∙ same);
-      }
+    record {
+      place = i;
+      within = omega (arith, l, count vrps places h);
+      is = route_at vrps places h i (n, i) d l ∙ ap (λ m. (m, i)) e;
+      last = λ j r lt lj same.
+          let inside : j < length vrps = omega (arith, lj, count vrps places h) in
+          none_of vrps places h routes table n none k j d (omega (arith, le, lt)) inside
+          (sym (ap (λ z. z.0) (route_at vrps places h j r d inside)) ∙ same);
+    }
     )) refl
 
 -- the table of the places of the payloads

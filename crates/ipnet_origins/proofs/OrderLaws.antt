@@ -54,8 +54,7 @@ group_of vrps n start last is h vrp = (to, from)
     to : Contains group vrp → Contains vrps vrp × (network_of vrp ≡ n)
     to (k, l, e) =
         let inside : k < last + 1 - start = omega (arith, l, size) in
-        let there : get_or vrps (start + k) vrp ≡ vrp = sym (at k vrp inside) ∙ e in
-        (
+        let there : get_or vrps (start + k) vrp ≡ vrp = sym (at k vrp inside) ∙ e in (
           (start + k, omega (arith, inside, is.within, h.within), there),
           ap network_of (sym there) ∙ h.group (start + k) vrp (omega arith) (omega (arith, inside, h.within)),
         )
@@ -68,8 +67,7 @@ group_of vrps n start last is h vrp = (to, from)
           | inr from_start ↦ elim (cases_lt last i) [
             | inl after ↦ absurd (is.last i vrp after l named)
             | inr within ↦
-                let k : i - start < last + 1 - start = omega (arith, from_start, within) in
-                (
+                let k : i - start < last + 1 - start = omega (arith, from_start, within) in (
                   i - start,
                   omega (arith, k, size),
                   at (i - start) vrp k ∙ ap (λ m. get_or vrps m vrp) (omega (arith, from_start)) ∙ e,

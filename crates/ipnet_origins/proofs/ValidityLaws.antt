@@ -1,4 +1,4 @@
--- What the payloads say of a route, by the routes of their table.
+-- The validity of a route, by the networks in the table of its payloads.
 use Rattle.std.proofs.Common.{◌≡◌, ℕ, ◌≤◌, ◌↔◌, List, Contains, Any, Option, Some, None, refl, sym, ap, ◌∙◌, subst}
 use Rattle.std.proofs.Common.{arith, cc, IsTrue, IsNone, IfSome}
 use Rattle.std.specs.Option.{is_some}
@@ -30,7 +30,7 @@ covered_from route vrp valid h = record {
 }
 
 -- the network of a route is one of the networks of the routes
-pub network_in : (routes : List (Route ℕ)) (r : Route ℕ) → Contains routes r → Contains (networks_of routes) r.0
+network_in : (routes : List (Route ℕ)) (r : Route ℕ) → Contains routes r → Contains (networks_of routes) r.0
 network_in routes r (i, l, e) = (
   i,
   omega (arith, l, length-map routes (λ z. z.0)),
@@ -38,7 +38,7 @@ network_in routes r (i, l, e) = (
 )
 
 -- a network of the table that contains the route is the network of a payload that covers it
-pub some_covers : (vrps : List Payload) (routes : List (Route ℕ)) → AreLasts vrps routes → (n : Network) → IsNetwork n
+some_covers : (vrps : List Payload) (routes : List (Route ℕ)) → AreLasts vrps routes → (n : Network) → IsNetwork n
     → (r : Route ℕ) → Contains routes r → IsSubnetOf n r.0 → Any (IsCovered n) vrps
 some_covers vrps routes lasts n valid r c sub =
     let last = lasts.lasts r c in
@@ -48,7 +48,7 @@ some_covers vrps routes lasts n valid r c sub =
     (covered_from n found.0 valid (subst (IsSubnetOf n) same sub))
 
 -- if no network of the table contains the route, no payload covers it
-pub none_covers : (vrps : List Payload) (routes : List (Route ℕ)) → AreLasts vrps routes → (n : Network)
+none_covers : (vrps : List Payload) (routes : List (Route ℕ)) → AreLasts vrps routes → (n : Network)
     → ((k : Network) → Contains (networks_of routes) k → IsSubnetOf n k → ⊥)
     → Any (IsCovered n) vrps → ⊥
 none_covers vrps routes lasts n none (i, vrp, l, e, covered) =

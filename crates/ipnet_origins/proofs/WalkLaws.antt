@@ -45,8 +45,7 @@ place_of : (places : List Place) (r : Route ℕ) → Contains (map ip_route plac
     → (b : Place) × Contains places b × (ip_route b ≡ r)
 place_of places r (k, l, e) =
     let inside : k < length places = omega (arith, l, length-map places ip_route) in
-    let found = element_at places k inside in
-    (
+    let found = element_at places k inside in (
       found.0,
       (k, inside, found.1 found.0),
       ap ip_route (sym (found.1 found.0)) ∙ sym (get_or-map ip_route places k found.0 r inside) ∙ e,
@@ -69,9 +68,9 @@ pub none_matches : (vrps : List Payload) (routes : List (Route ℕ)) → AreLast
     → NoneMatches vrps n origin places → Any (IsMatched n origin) vrps → ⊥
 none_matches vrps routes lasts n origin places matches none (i, vrp, l, e, m) =
     lasts.reached vrp (i, l, e) (λ r c same.
-      let found = place_of places r ((matches.members r).1
-      (c, subst (λ k. InBlock k (own n)) (sym same) m.covered.same_bits)) in
-      none found.0 found.1 vrp (i, l, e) (sym same ∙ ap (λ z. z.0) (sym found.2)) m)
+    let found = place_of places r ((matches.members r).1
+    (c, subst (λ k. InBlock k (own n)) (sym same) m.covered.same_bits)) in
+    none found.0 found.1 vrp (i, l, e) (sym same ∙ ap (λ z. z.0) (sym found.2)) m)
 
 -- a group on the way matches, so a payload does
 pub some_matches : (vrps group : List Payload) (k n : Network) (origin : Option ℕ) → IsGroup vrps k group
@@ -116,8 +115,7 @@ covering_more vrps group found n places next has is holds short = record {
   sound = λ vrp c. elim (Contains-append_cases found group vrp c) [
     | inl old ↦ has.sound vrp old
     | inr new ↦
-        let of = (is vrp).0 new in
-        (
+        let of = (is vrp).0 new in (
           of.0,
           record {
             no_longer = subst (λ k. k.prefix_len ≤ n.prefix_len) (sym of.1) short;

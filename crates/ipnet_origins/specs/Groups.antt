@@ -28,7 +28,7 @@ pub record AreLasts (vrps : List Payload) (routes : List (Route ℕ)) : Type 0 w
   pub reached : (vrp : Payload) → Contains vrps vrp
       → ¬ ((r : Route ℕ) → Contains routes r → r.0 ≢ network_of vrp)
 
--- the payloads from the start to the last one are those of the network
+-- the payloads from the start to the last one have the network, and no earlier one has it
 pub record IsStartOf (vrps : List Payload) (n : Network) (start last : ℕ) : Type 0 where
   pub within : start ≤ last
   pub group : (i : ℕ) (d : Payload) → start ≤ i → i ≤ last → network_of (get_or vrps i d) ≡ n

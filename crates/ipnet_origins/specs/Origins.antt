@@ -17,9 +17,9 @@ pub record IsCovered (route : Network) (vrp : Payload) : Type 0 where
   pub no_longer : (ip_network vrp.network).prefix_len ≤ route.prefix_len
   pub same_bits : InBlock (ip_network vrp.network) (own_address route)
 
--- "Matched: A Route Prefix is said to be Matched by a VRP when the Route Prefix is Covered by that VRP, the Route prefix
--- length is less than or equal to the VRP maximum length, and the Route Origin ASN is equal to the VRP ASN." And "no
--- Route can be Matched by a VRP whose ASN is zero." (RFC 6811, section 2; RFC 6483, section 4)
+-- "Matched: A Route Prefix is said to be Matched by a VRP when the Route Prefix is Covered by that VRP, the Route
+-- prefix length is less than or equal to the VRP maximum length, and the Route Origin ASN is equal to the VRP ASN."
+-- And "no Route can be Matched by a VRP whose ASN is zero." (RFC 6811, section 2; RFC 6483, section 4; RFC 7607)
 -- Example: 192.0.2.0/24 with greatest length 26 and AS 64496 matches 192.0.2.64/26 of AS 64496; it does not match
 -- 192.0.2.0/27 of AS 64496.
 pub record IsMatched (route : Network) (origin : Option ℕ) (vrp : Payload) : Type 0 where

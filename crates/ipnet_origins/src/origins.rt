@@ -12,7 +12,7 @@ use ipnet::IpNet;
 use ipnet_routes::RouteTable;
 use std::alloc::{AllocError, Global};
 
-/// What the payloads say of the origin of a route (RFC 6811, section 2).
+/// The validity of the origin of a route (RFC 6811, section 2).
 #[derive(Clone, Copy, PartialEq, Eq, Debug)]
 pub enum Validity {
     /// At least one payload matches the route.
@@ -89,10 +89,9 @@ impl OriginTable {
         false
     }
 
-    /// Returns the validity of a route with this network and this origin. A route that has no single origin, because its
-    /// path ends with a set of AS numbers, has the origin `None`. Host bits of the network do not matter. Allocates
-    /// nothing. The time is O(log n) for n payloads, and grows with the number of payloads that contain the network's
-    /// address.
+    /// Returns the validity of a route with this network and this origin. If the path ends with a set of AS numbers, the
+    /// route has no single origin, and `origin` is `None`. Host bits of the network do not matter. Allocates nothing.
+    /// The time is O(log n) for n payloads, and grows with the number of payloads that contain the network's address.
     ///
     /// ```text
     /// of 192.0.2.0/24 with greatest length 25 and AS 64496, and 198.51.100.0/24 with greatest length 24 and AS 0:
@@ -114,7 +113,7 @@ impl OriginTable {
         Validity::Invalid
     }
 
-    /// Returns the payloads that cover a route with this network, those of the longest network first. Fails only if
+    /// Returns the payloads that cover a route with this network, the longest networks first. Fails only if
     /// memory runs out; an empty list needs none.
     ///
     /// ```text

@@ -116,7 +116,8 @@ impl Payload {
     pub fn covers(&self, network: &IpNet) -> bool
         ensures { IsTrue result ↔ IsCovered (ip_network network.now) self.now }
     {
-        self.network.prefix_len() <= network.prefix_len() && self.network.contains(&network.addr())
+        let around = &self.network;
+        around.prefix_len() <= network.prefix_len() && around.contains(&network.addr())
     }
 
     /// Returns whether the payload matches a route with this network and this origin: the payload covers the route, the
@@ -130,8 +131,8 @@ impl Payload {
     pub fn matches(&self, network: &IpNet, origin: Option<u32>) -> bool
         ensures { IsTrue result ↔ IsMatched (ip_network network.now) origin self.now }
     {
-        self.asn != 0
-            && origin == Some(self.asn)
+        origin == Some(self.asn)
+            && self.asn != 0
             && network.prefix_len() <= self.max_len
             && self.covers(network)
     }
