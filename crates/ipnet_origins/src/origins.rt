@@ -89,8 +89,8 @@ impl OriginTable {
         false
     }
 
-    /// Returns the validity of a route with this network and this origin. If the path ends with a set of AS numbers, the
-    /// route has no single origin, and `origin` is `None`. Host bits of the network do not matter. Allocates nothing.
+    /// Returns the validity of a route with this network and this origin. If the path ends with a set of AS numbers,
+    /// the route has no single origin, and `origin` is `None`. Host bits of the network do not matter. Allocates nothing.
     /// The time is O(log n) for n payloads, and grows with the number of payloads that contain the network's address.
     ///
     /// ```text
