@@ -1,6 +1,6 @@
 -- The validity of a route, by the networks in the table of its payloads.
 use Rattle.std.proofs.Common.{◌≡◌, ℕ, ◌≤◌, ◌↔◌, List, Contains, Any, Option, Some, None, refl, sym, ap, ◌∙◌, subst}
-use Rattle.std.proofs.Common.{arith, cc, IsTrue, IsNone, IfSome}
+use Rattle.std.proofs.Common.{arith, IsTrue, IsNone, IfSome}
 use Rattle.std.specs.Option.{is_some}
 use Rattle.std.specs.Borrow.{Bor}
 use Rattle.std.proofs.lemmas.List.{length-map, get_or-map}

@@ -1,13 +1,9 @@
 -- The payload before the start has another network, so all earlier payloads have other networks.
-use Rattle.std.proofs.Common.{◌≡◌, ◌-◌, Bool, true, false, not, refl, arith, cc}
+use Rattle.std.proofs.Common.{◌-◌, arith}
 use Rattle.ipnet_base.proofs.ResultLaws.{false_gives}
 use Rattle.ipnet.specs.NetworkOf.{ip_network}
 use Rattle.ipnet_origins.proofs.OrderLaws.{others_before}
 use Rattle.ipnet_origins.proofs.groups.start_of.Goals as goal
-
-is_false : (b : Bool) → not b ≡ true → b ≡ false
-is_false true h = absurd (cc)
-is_false false h = refl
 
 pub returns-then-not-is_of : goal.returns-then-not-is_of
 returns-then-not-is_of c = record {
@@ -15,6 +11,6 @@ returns-then-not-is_of c = record {
   group = c.loop-start.invariant.group;
   before = λ i d l. others_before c.args.payloads.now c.requires.order (ip_network c.args.network.now) c.args.last
       (c.loop-start.start - 1) c.requires.last (omega (arith, c.loop-start.invariant.within))
-      c.index-payloads-start.result
-      (false_gives c.is_of.result c.is_of.ensures (is_false c.is_of.result c.if-not-is_of.true)) i d (omega (arith, l));
+      c.index-payloads-start.result (false_gives c.is_of.result c.is_of.ensures c.if-not-is_of.true) i d
+      (omega (arith, l));
 }

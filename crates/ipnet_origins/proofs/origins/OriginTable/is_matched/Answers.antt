@@ -19,9 +19,9 @@ pub group-requires-clause-last : goal.group-requires-clause-last
 group-requires-clause-last c =
     let table = c.args.self.now in
     let n = ip_network c.args.network.now in
-    let all : List (Route ℕ) = matches_left c.matches.result in
+    let all : List (Route ℕ) = matches_left c.matches-route-items.result in
     let walk : AreMatches (routes_of table.lasts) (own n) all
-    = subst (λ x. AreMatches (routes_of table.lasts) x all) c.addr.ensures c.matches.ensures in
+    = subst (λ x. AreMatches (routes_of table.lasts) x all) c.addr.ensures c.matches-route-items.ensures in
     let road = YieldsList-from_first ip_route matches_left {s = c.into_iter-route-iterator.result} all
     (search rules) in
     let turn = YieldsList-turn road c.loop-route.yielded c.loop-route.route-iterator c.loop-route.yielded_by
@@ -64,9 +64,9 @@ pub returns : goal.returns
 returns c =
     let table = c.args.self.now in
     let n = ip_network c.args.network.now in
-    let all : List (Route ℕ) = matches_left c.matches.result in
+    let all : List (Route ℕ) = matches_left c.matches-route-items.result in
     let walk : AreMatches (routes_of table.lasts) (own n) all
-    = subst (λ x. AreMatches (routes_of table.lasts) x all) c.addr.ensures c.matches.ensures in
+    = subst (λ x. AreMatches (routes_of table.lasts) x all) c.addr.ensures c.matches-route-items.ensures in
     let road = YieldsList-from_first ip_route matches_left {s = c.into_iter-route-iterator.result} all
     (search rules) in
     let end = YieldsList-end road c.loop-route.yielded c.loop-route.route-iterator c.loop-route.yielded_by
