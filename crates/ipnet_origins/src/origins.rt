@@ -90,8 +90,10 @@ impl OriginTable {
     }
 
     /// Returns the validity of a route with this network and this origin. If the path ends with a set of AS numbers,
-    /// the route has no single origin, and `origin` is `None`. Host bits of the network do not matter. Allocates nothing.
-    /// The time is O(log n) for n payloads, and grows with the number of payloads that contain the network's address.
+    /// the route has no single origin, and `origin` is `None`. Host bits of the network do not matter.
+    ///
+    /// Allocates nothing. The time is O(log n) for n payloads, and grows with the number of payloads that contain the
+    /// network's address.
     ///
     /// ```text
     /// of 192.0.2.0/24 with greatest length 25 and AS 64496, and 198.51.100.0/24 with greatest length 24 and AS 0:

@@ -77,6 +77,11 @@ loop-route-preserved c = record {
   is_finite = search rules;
   has = covering_same c.args.self.now.payloads.items c.loop-route.covering.items (ip_network c.args.network.now)
       c.loop-route.yielded c.in-Some.route c.loop-route.invariant.has
-      (λ short. omega (arith, short, c.prefix_len.ensures, c.prefix_len-in-loop-route.ensures,
-      c.if-prefix_len.false));
+      (λ short. omega (
+        arith,
+        short,
+        c.prefix_len.ensures,
+        c.prefix_len-in-loop-route.ensures,
+        c.if-prefix_len.false,
+      ));
 }
