@@ -1,15 +1,15 @@
 -- The table has the network of each payload, with the index of its last payload.
-use Rattle.std.proofs.Common.{◌≡◌, ◌≢◌, ℕ, zero, suc, ◌+◌, ◌<◌, ◌≤◌, ◌↔◌, List, length, map, get_or, Contains, Any}
-use Rattle.std.proofs.Common.{refl, sym, ap, ap₂, ◌∙◌, subst, arith}
+use Rattle.std.proofs.Common.{◌≡◌, ◌≢◌, ℕ, zero, suc, ◌+◌, ◌<◌, ◌≤◌, List, length, get_or, Contains}
+use Rattle.std.proofs.Common.{refl, sym, ap, ap₂, ◌∙◌, arith}
 use Rattle.std.proofs.lemmas.List.{length-map, get_or-map}
-use Rattle.ipnet_base.specs.Network.{Network, IsTruncated, IsSubnetOf, truncation}
+use Rattle.ipnet_base.specs.Network.{Network, truncation}
 use Rattle.ipnet_base.proofs.NetworkLaws.{truncation_of_truncated}
 use Rattle.ipnet.specs.declared.net.IpNet.{IpNet}
 use Rattle.ipnet.specs.NetworkOf.{ip_network}
-use Rattle.ipnet_routes.specs.Routes.{Route, networks_of, ip_routes, without_host_bits, IsLatest, IsTableOf}
+use Rattle.ipnet_routes.specs.Routes.{Route, ip_routes, without_host_bits, IsLatest, IsTableOf}
 use Rattle.ipnet_routes.proofs.LastPassing.{element_at}
 use Rattle.ipnet_origins.specs.declared.payload.Payload.{Payload}
-use Rattle.ipnet_origins.specs.Groups.{network_of, IsLastOf, AreLasts, ArePlaces}
+use Rattle.ipnet_origins.specs.Groups.{network_of, AreLasts, ArePlaces}
 
 -- a payload at its place
 pub payload_at : (vrps : List Payload) (i : ℕ) → i < length vrps → (vrp : Payload) × Contains vrps vrp

@@ -1,10 +1,10 @@
 -- The validity of a route, by the networks in the table of its payloads.
-use Rattle.std.proofs.Common.{◌≡◌, ℕ, ◌≤◌, ◌↔◌, List, Contains, Any, Option, Some, None, refl, sym, ap, ◌∙◌, subst}
+use Rattle.std.proofs.Common.{◌≡◌, ℕ, ◌↔◌, List, Contains, Any, Option, Some, None, refl, sym, ap, ◌∙◌, subst}
 use Rattle.std.proofs.Common.{arith, IsTrue, IsNone, IfSome}
 use Rattle.std.specs.Option.{is_some}
 use Rattle.std.specs.Borrow.{Bor}
 use Rattle.std.proofs.lemmas.List.{length-map, get_or-map}
-use Rattle.ipnet_base.specs.Network.{Network, IsNetwork, InBlock, IsSubnetOf}
+use Rattle.ipnet_base.specs.Network.{Network, IsNetwork, IsSubnetOf}
 use Rattle.ipnet_base.proofs.BlockLaws.{own, own_in}
 use Rattle.ipnet_base.proofs.NestingLaws.{longer_from_subnet, subnet_from_own}
 use Rattle.ipnet_base.proofs.ListLaws.{any_from_contains}

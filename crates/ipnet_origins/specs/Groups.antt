@@ -1,6 +1,6 @@
 -- Payloads in the order of their networks: the payloads of one network are neighbours, a group. Only private contracts
 -- use these.
-use Rattle.std.specs.Prelude.{◌≡◌, ◌≢◌, ℕ, ◌+◌, ◌<◌, ◌≤◌, ◌↔◌, List, map, length, get_or, Contains}
+use Rattle.std.specs.Prelude.{◌≡◌, ◌≢◌, ℕ, ◌<◌, ◌≤◌, ◌↔◌, List, length, get_or, Contains}
 use Rattle.ipnet_base.specs.Network.{Network, IsBefore}
 use Rattle.ipnet.specs.declared.net.IpNet.{IpNet}
 use Rattle.ipnet.specs.NetworkOf.{ip_network}

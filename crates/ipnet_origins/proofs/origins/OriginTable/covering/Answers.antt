@@ -1,5 +1,5 @@
 -- The walk goes over the networks of the table that contain the route's address, and each has its group of payloads.
-use Rattle.std.proofs.Common.{◌≡◌, ℕ, List, [], ◌∷◌, ◌++◌, length, rules, arith, sym, subst}
+use Rattle.std.proofs.Common.{ℕ, List, [], ◌∷◌, ◌++◌, length, rules, arith, sym, subst}
 use Rattle.std.proofs.lemmas.Iterator.Consumers.{YieldsList-from_first, YieldsList-turn, YieldsList-end}
 use Rattle.ipnet_base.proofs.BlockLaws.{own}
 use Rattle.ipnet.specs.NetworkOf.{ip_network}

@@ -1,7 +1,6 @@
 -- The walk goes over the networks of the table that contain the route's address, and each has its group of payloads.
-use Rattle.std.proofs.Common.{◌≡◌, ℕ, List, ◌<◌, length, get_or, rules, sym, subst, refl}
+use Rattle.std.proofs.Common.{ℕ, List, length, rules, sym, subst, refl}
 use Rattle.std.proofs.lemmas.Iterator.Consumers.{YieldsList-from_first, YieldsList-turn, YieldsList-end}
-use Rattle.ipnet_base.specs.Network.{InBlock}
 use Rattle.ipnet_base.proofs.BlockLaws.{own}
 use Rattle.ipnet_base.proofs.ResultLaws.{true_gives, false_gives, never}
 use Rattle.ipnet.specs.NetworkOf.{ip_network}

@@ -1,5 +1,5 @@
 -- The truncated network has the length and the family of the given one.
-use Rattle.std.proofs.Common.{◌≡◌, ◌≤◌, arith, sym, ap, subst}
+use Rattle.std.proofs.Common.{◌≡◌, ◌≤◌, arith, sym, subst}
 use Rattle.ipnet_base.specs.Address.{width}
 use Rattle.ipnet_base.specs.Network.{truncation}
 use Rattle.ipnet_base.proofs.NetworkLaws.{truncation_from_relation}
