@@ -28,9 +28,7 @@ pub use cause_bytes::has_byte;
 pub use cause_parts::{are_digits, is_entry};
 pub use cause_words::{has_mask_word, is_netmask};
 pub use comment::{comment_start, contents_of};
-pub use content_line::{
-    ContentLine, ListFailure, RefusedText, content_lines, has_lines, keep_read, report_refused,
-};
+pub use content_line::{ContentLine, LineHandler, ListFailure, has_lines, read_lines};
 pub use entry::{Entry, parse_address, read_entry};
 pub use list::read_set;
 pub use list_text::{ListText, read_list_text};
@@ -39,8 +37,8 @@ pub use number::next_number;
 pub use reader::{Collector, FoundEntry, LineReader, first_line_of_bytes, read_text};
 pub use reading::{ReadFailure, Reading, read_bytes};
 pub use refused::{
-    LineCause, MOST_LINES, Refusals, Refused, RefusedLine, RefusedLines, RefusedPart, report_more,
-    report_since,
+    LineCause, Refusals, Refused, RefusedLine, RefusedLines, RefusedPart, report_more,
+    report_refused, report_since,
 };
 pub use report::{NO_ENTRY, report_text};
 pub use set_lines::{network_lines, range_lines};

@@ -9,7 +9,7 @@ use std::io;
 use std::io::Write;
 
 /// At most this many refused lines are reported.
-pub const MOST_LINES: usize = 10;
+const MOST_LINES: usize = 10;
 
 /// Why a line is refused.
 pub trait LineCause: Drop {
@@ -142,6 +142,22 @@ pub fn report_since<X: Write, C: LineCause>(
         faults,
         new.saturating_sub(lines.shown.len().saturating_sub(shown)),
     )
+}
+
+/// Reports the refused lines of the list with this name: those that are kept, and the number of the others. Nothing is
+/// printed if there are none.
+///
+/// ```text
+/// twelve lines: ten lines, and "netset: and 2 more"
+/// ```
+pub fn report_refused<X: Write, C: LineCause>(
+    faults: &mut X,
+    name: &str,
+    lines: &Refusals<C>,
+) -> io::Result<()>
+    ensures { lines.now.count ≡ 0 → Keeps (X.contents faults.old) (X.contents faults.new) }
+{
+    report_since(faults, &[name], lines, (0, 0))
 }
 
 /// Reports the number of the refused lines that are not shown. Nothing is printed if all are.

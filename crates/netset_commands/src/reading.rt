@@ -60,8 +60,7 @@ pub fn whole_of(rt: &HostRuntime, name: &str, reports: Reports) -> Result<Vec<u8
 /// refused; `what` says what its lines are.
 pub fn bytes_of(rt: &HostRuntime, name: &str, what: &str, reports: Reports) -> Result<Vec<u8>, u8> {
     let bytes = whole_of(rt, name, reports)?;
-    let has = has_lines(rt.alloc(), bytes.as_slice());
-    if matches!(has, Ok(false)) && !reports.report_empty(rt, name, what) {
+    if !has_lines(bytes.as_slice()) && !reports.report_empty(rt, name, what) {
         return Err(2);
     }
     Ok(bytes)

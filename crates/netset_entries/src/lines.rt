@@ -5,7 +5,7 @@ ghost use Rattle.netset_entries.specs.EntryTexts.{entry_line, entry_line_at, IsF
 ghost use Rattle.netset_entries.specs.EntryLineOf.{numbered};
 
 use crate::entry_list::EntryLine;
-use ipnet_lists::{Cause, RefusedText, report_refused};
+use ipnet_lists::{RefusedLines, report_refused};
 use ipnet_text::pieces::PIECE;
 use ipnet_text::write_whole;
 use netset_lib::program::name_of;
@@ -19,7 +19,7 @@ use std::io::Write;
 #[derive(Debug, Drop)]
 pub enum WriteFailure {
     /// These lines of the list are refused, and these of the other list.
-    Refused(Vec<RefusedText<Option<Cause>>>, Vec<RefusedText<Option<Cause>>>),
+    Refused(RefusedLines, RefusedLines),
     /// Memory ran out.
     Memory,
     /// A write failed.
@@ -82,8 +82,8 @@ impl Report for WriteFailure {
     fn tell<X: Write>(self, names: &[&str], faults: &mut X) -> u8 {
         let _ = match self {
             WriteFailure::Refused(first, second) => {
-                let _ = report_refused(faults, name_of(names, 0), first.as_slice());
-                report_refused(faults, name_of(names, 1), second.as_slice())
+                let _ = report_refused(faults, name_of(names, 0), &first);
+                report_refused(faults, name_of(names, 1), &second)
             }
             WriteFailure::Memory => writeln!(faults, "netset: out of memory"),
             WriteFailure::Unwritable => writeln!(faults, "netset: output cannot be written"),

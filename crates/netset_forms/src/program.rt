@@ -2,8 +2,7 @@
 ghost use Rattle.std.specs.Prelude.{◌≡◌, IsTrue, List, ℕ, None, ⊤};
 ghost use Rattle.ipnet.specs.declared.parser.Grammar.{Grammar};
 ghost use Rattle.netset_lib.specs.RuleAnswers.{IsRuleFailure};
-ghost use Rattle.netset_lib.specs.RuleContentsOf.{contents_of};
-ghost use Rattle.netset_lib.specs.RuleLines.{IsRuleList};
+ghost use Rattle.netset_lib.specs.RuleContentsOf.{WasRuleListRead};
 ghost use Rattle.netset_lib.specs.Runs.{OfCombined, IsFault, HasNoResult};
 ghost use Rattle.netset_forms.specs.FormAnswers.{IsFormAnswer, IsPermittedForm};
 
@@ -88,11 +87,11 @@ impl<'a> Command for PermittedCommand<'a> {
     type Failure = Fault<ListFailure<RuleCause>, FormFailure>;
 
     ghost is_answer = { λ c text. (grammar : Grammar) → (bytes : List ℕ)
-        → IsRuleList grammar bytes (contents_of c.list) → IsPermittedForm c.default c.form grammar bytes text };
+        → WasRuleListRead grammar bytes c.list → IsPermittedForm c.default c.form grammar bytes text };
 
     ghost is_outcome = { λ _ succeeded. IsTrue succeeded };
 
-    ghost is_failure = { λ c. IsFault (IsRuleFailure (contents_of c.list)) (λ _. ⊤) };
+    ghost is_failure = { λ c. IsFault (IsRuleFailure c.list) (λ _. ⊤) };
 
     fn write<W: Write>(
         self,

@@ -70,12 +70,8 @@ impl Report for PrefixFailure {
     fn tell<X: Write>(self, names: &[&str], faults: &mut X) -> u8 {
         let _ = match self {
             PrefixFailure::Memory => writeln!(faults, "netset: out of memory"),
-            PrefixFailure::Prefixes(lines) => {
-                report_refused(faults, name_of(names, 0), lines.as_slice())
-            }
-            PrefixFailure::Networks(lines) => {
-                report_refused(faults, name_of(names, 1), lines.as_slice())
-            }
+            PrefixFailure::Prefixes(lines) => report_refused(faults, name_of(names, 0), &lines),
+            PrefixFailure::Networks(lines) => report_refused(faults, name_of(names, 1), &lines),
         };
         2
     }

@@ -2,8 +2,7 @@
 ghost use Rattle.std.specs.Prelude.{◌≡◌, List, ℕ};
 ghost use Rattle.ipnet.specs.declared.parser.Grammar.{Grammar};
 ghost use Rattle.netset_lib.specs.RuleAnswers.{IsUnreachedAnswer, IsRuleFailure, IsReachedOutcome};
-ghost use Rattle.netset_lib.specs.RuleContentsOf.{contents_of};
-ghost use Rattle.netset_lib.specs.RuleLines.{IsRuleList};
+ghost use Rattle.netset_lib.specs.RuleContentsOf.{WasRuleListRead};
 
 use crate::rule_line::RuleCause;
 use crate::rule_list::RuleList;
@@ -39,12 +38,12 @@ impl TextCommand for UnreachedCommand {
     type Failure = ListFailure<RuleCause>;
 
     ghost is_answer = { λ command text. (grammar : Grammar) → (bytes : List ℕ)
-        → IsRuleList grammar bytes (contents_of command.list) → IsUnreachedAnswer grammar bytes text };
+        → WasRuleListRead grammar bytes command.list → IsUnreachedAnswer grammar bytes text };
 
     ghost is_outcome = { λ command reached. (grammar : Grammar) → (bytes : List ℕ)
-        → IsRuleList grammar bytes (contents_of command.list) → IsReachedOutcome grammar bytes reached };
+        → WasRuleListRead grammar bytes command.list → IsReachedOutcome grammar bytes reached };
 
-    ghost is_failure = { λ command. IsRuleFailure (contents_of command.list) };
+    ghost is_failure = { λ command. IsRuleFailure command.list };
 
     fn answer(self) -> Result<(Vec<u8>, bool), ListFailure<RuleCause>> {
         let text = self.list.unreached()?;

@@ -7,9 +7,10 @@ ghost use Rattle.netset_lib.specs.TextTables.{IsTextRouteAnswer, IsTableOfTexts}
 use crate::failure::Failure;
 use crate::program::{name_of, report_failure};
 use crate::runs::{Report, TextCommand};
+use crate::text_line::{NotTextLine, text_cause};
 use crate::text_route::{TextFailure, table_of_texts, text_route_answers};
 use ipnet::Grammar;
-use ipnet_lists::{Cause, MOST_LINES, RefusedText, report_more, report_text};
+use ipnet_lists::{LineCause, report_refused, report_text};
 use ipnet_routes::RouteTable;
 use std::alloc::Global;
 use std::io;
@@ -80,7 +81,7 @@ impl Report for TextFailure {
 
     fn tell<X: Write>(self, names: &[&str], faults: &mut X) -> u8 {
         let _ = match self {
-            TextFailure::Table(lines) => report_lines(faults, name_of(names, 0), lines.as_slice()),
+            TextFailure::Table(lines) => report_refused(faults, name_of(names, 0), &lines),
             TextFailure::List(lines) => {
                 report_failure(faults, &[name_of(names, 1)], &Failure::Refused(lines))
             }
@@ -118,20 +119,18 @@ pub fn table_or_report<'a, X: Write>(
     }
 }
 
-/// Reports the first refused lines of a table, and the number of the others.
-fn report_lines<X: Write>(
-    faults: &mut X,
-    name: &str,
-    lines: &[RefusedText<Option<Cause>>],
-) -> io::Result<()> {
-    let shown = lines.len().min(MOST_LINES);
-    for line in &lines[..shown] {
-        let text = line.text.as_slice();
-        report_text(faults, name, line.number, NO_TEXT_LINE, text)?;
-        match line.cause {
-            Some(cause) => writeln!(faults, " ({cause})")?,
-            None => writeln!(faults)?,
+impl LineCause for NotTextLine {
+    fn report<X: Write>(
+        &self,
+        faults: &mut X,
+        name: &str,
+        number: usize,
+        text: &[u8],
+    ) -> io::Result<()> {
+        report_text(faults, name, number, NO_TEXT_LINE, text)?;
+        match text_cause(text, self.grammar) {
+            Some(cause) => writeln!(faults, " ({cause})"),
+            None => writeln!(faults),
         }
     }
-    report_more(faults, lines.len() - shown)
 }
