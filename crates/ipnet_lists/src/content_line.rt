@@ -12,9 +12,8 @@ use crate::comment::contents_of;
 use crate::mark::skip_mark;
 use crate::number::next_number;
 use crate::reader::first_line_of_bytes;
-use crate::refused::{LineCause, Refusals, RefusedPart, report_refused};
+use crate::refused::{LineCause, Refusals, RefusedPart};
 use std::alloc::{AllocError, Global};
-use std::io::Write;
 
 /// A line that is not empty.
 ///
@@ -58,23 +57,6 @@ impl<C: Drop> From<AllocError> for ListFailure<C> {
 
     fn from(_: AllocError) -> ListFailure<C> {
         ListFailure::Memory
-    }
-}
-
-impl<C: LineCause> ListFailure<C> {
-    /// Reports the failure on `faults`, and returns the exit status. `name` is the name of the list.
-    ///
-    /// ```text
-    /// Memory: 2, and faults gets "netset: out of memory\n"
-    /// ```
-    pub fn report<X: Write>(self, faults: &mut X, name: &str) -> u8
-        ensures { result ≡ 2 }
-    {
-        let _ = match self {
-            ListFailure::Refused(lines) => report_refused(faults, name, &lines),
-            ListFailure::Memory => writeln!(faults, "netset: out of memory"),
-        };
-        2
     }
 }
 

@@ -6,6 +6,7 @@ pub mod cause;
 mod cause_bytes;
 mod cause_follows;
 mod cause_parts;
+mod cause_text;
 mod cause_words;
 mod comment;
 pub mod content_line;
@@ -18,7 +19,7 @@ mod number;
 mod reader;
 pub mod reading;
 pub mod refused;
-mod report;
+pub mod report;
 mod set_lines;
 mod word;
 
@@ -37,9 +38,11 @@ pub use number::next_number;
 pub use reader::{Collector, FoundEntry, LineReader, first_line_of_bytes, read_text};
 pub use reading::{ReadFailure, Reading, read_bytes};
 pub use refused::{
-    LineCause, Refusals, Refused, RefusedLine, RefusedLines, RefusedPart, report_more,
-    report_refused, report_since,
+    Explanation, LineCause, Refusals, Refused, RefusedLine, RefusedLines, RefusedPart,
 };
-pub use report::{NO_ENTRY, report_text};
+pub use report::{
+    NO_ENTRY, Part, explain_cause, name_of, report_line, report_more, report_refused, report_since,
+    write_parts,
+};
 pub use set_lines::{network_lines, range_lines};
 pub use word::{cut_word, first_blank};

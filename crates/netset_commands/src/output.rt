@@ -120,11 +120,14 @@ impl Output for Answer<'_> {
     ghost is_published = { λ s. IsTrue s.is_published };
 
     fn publish(&mut self) -> io::Result<()> {
-        let result = match &self.place {
-            Place::Standard(_) => Ok(()),
+        let result = match &mut self.place {
+            Place::Standard(out) => out.flush(),
             Place::File(file) => replace_file(file, self.ends),
         };
         self.is_published = result.is_ok();
+        if let Err(error) = &result {
+            self.note(error);
+        }
         result
     }
 }

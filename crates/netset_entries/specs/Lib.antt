@@ -11,3 +11,4 @@ pub mod Overlaps
 pub mod Sweeps
 pub mod NotedEntries
 pub mod NoteSteps
+pub mod WriteReports

@@ -3,3 +3,4 @@ pub mod FormSteps
 pub mod Forms
 pub mod Layouts
 pub mod SetWords
+pub mod FormWords

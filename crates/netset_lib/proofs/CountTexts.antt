@@ -11,7 +11,8 @@ use Rattle.ipnet_sets.specs.BoundaryRanges.{ranges_of, count_of}
 use Rattle.ipnet_sets.proofs.CountLaws.{count_of_family, all_of_family}
 use Rattle.ipnet_sets.specs.ManySets.{IsInSome}
 use Rattle.netset_lib.specs.Counts.{IsCountsLine, AreDifferences, IsComparison, IsCountLine}
-use Rattle.netset_lib.specs.Counts.{Names, name_at, AreCountLines, IsTotalText, IsCountText}
+use Rattle.ipnet_lists.specs.Names.{Names, name_at}
+use Rattle.netset_lib.specs.Counts.{AreCountLines, IsTotalText, IsCountText}
 use Rattle.ipnet_lists.specs.Lists.{ListEntry, IsInEntries}
 use Rattle.netset_lib.specs.ListSets.{HaveMembers}
 use Rattle.netset_lib.proofs.SameResults.{some_same}

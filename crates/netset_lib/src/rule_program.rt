@@ -7,9 +7,7 @@ ghost use Rattle.netset_lib.specs.RuleContentsOf.{WasRuleListRead};
 use crate::rule_line::RuleCause;
 use crate::rule_list::RuleList;
 use crate::runs::TextCommand;
-use ipnet_lists::{LineCause, ListFailure, NO_ENTRY, report_text};
-use std::io;
-use std::io::Write;
+use ipnet_lists::ListFailure;
 
 /// The lines of the rules that decide on no address.
 ///
@@ -49,24 +47,5 @@ impl TextCommand for UnreachedCommand {
         let text = self.list.unreached()?;
         let all_reached = text.is_empty();
         Ok((text, all_reached))
-    }
-}
-
-impl LineCause for RuleCause {
-    fn report<X: Write>(
-        &self,
-        faults: &mut X,
-        name: &str,
-        number: usize,
-        text: &[u8],
-    ) -> io::Result<()> {
-        report_text(faults, name, number, "not a rule", text)?;
-        match *self {
-            RuleCause::UnknownWord => writeln!(faults, " (a rule begins with permit or deny)"),
-            RuleCause::NoEntry => writeln!(faults, " (no network, address or range follows)"),
-            RuleCause::TwoEntries => writeln!(faults, " (more than one word follows)"),
-            RuleCause::BadEntry(None) => writeln!(faults, " ({NO_ENTRY})"),
-            RuleCause::BadEntry(Some(cause)) => writeln!(faults, " ({cause})"),
-        }
     }
 }

@@ -1,16 +1,16 @@
 //! The command `route --with-text` of the program.
-ghost use Rattle.std.specs.Prelude.{◌≡◌, not, List, ℕ, None, IfSome};
+ghost use Rattle.std.specs.Prelude.{◌≡◌, ⊤, not, List, ℕ, IfSome};
 ghost use Rattle.std.specs.Io.KnownBytes.{Keeps};
+ghost use Rattle.netset_lib.specs.TextReasons.{ExplainsTextLine};
 ghost use Rattle.netset_lib.specs.TextReplies.{IsTextFailure};
 ghost use Rattle.netset_lib.specs.TextTables.{IsTextRouteAnswer, IsTableOfTexts};
 
-use crate::failure::Failure;
-use crate::program::{name_of, report_failure};
+use crate::reports::{OUT_OF_MEMORY, report_words};
 use crate::runs::{Report, TextCommand};
 use crate::text_line::{NotTextLine, text_cause};
 use crate::text_route::{TextFailure, table_of_texts, text_route_answers};
 use ipnet::Grammar;
-use ipnet_lists::{LineCause, report_refused, report_text};
+use ipnet_lists::{Explanation, LineCause, explain_cause, name_of, report_refused, report_since};
 use ipnet_routes::RouteTable;
 use std::alloc::Global;
 use std::io;
@@ -77,17 +77,22 @@ impl<'a> TextCommand for TextRoutesCommand<'a> {
 impl Report for TextFailure {
     ghost exit = { λ _. 2 };
 
-    ghost told = { λ _ _. None };
+    ghost is_reported = { λ _ _ _ _. ⊤ };
 
-    fn tell<X: Write>(self, names: &[&str], faults: &mut X) -> u8 {
-        let _ = match self {
-            TextFailure::Table(lines) => report_refused(faults, name_of(names, 0), &lines),
-            TextFailure::List(lines) => {
-                report_failure(faults, &[name_of(names, 1)], &Failure::Refused(lines))
-            }
-            TextFailure::Memory => writeln!(faults, "netset: out of memory"),
-        };
+    ghost is_begun = { λ _ _ _ _. ⊤ };
+
+    fn status(&self) -> u8 {
         2
+    }
+
+    fn report<X: Write>(&self, names: &[&str], faults: &mut X) -> io::Result<()> {
+        match self {
+            TextFailure::Table(lines) => report_refused(faults, name_of(names, 0), lines),
+            TextFailure::List(lines) => {
+                report_since(faults, &[name_of(names, 1)], lines, (0, 0))
+            }
+            TextFailure::Memory => report_words(faults, OUT_OF_MEMORY),
+        }
     }
 }
 
@@ -113,24 +118,19 @@ pub fn table_or_report<'a, X: Write>(
     match table_of_texts(alloc, bytes, grammar) {
         Ok(table) => Some(table),
         Err(failure) => {
-            let _ = failure.tell(&[name], faults);
+            let _ = failure.report(&[name], faults);
             None
         }
     }
 }
 
 impl LineCause for NotTextLine {
-    fn report<X: Write>(
-        &self,
-        faults: &mut X,
-        name: &str,
-        number: usize,
-        text: &[u8],
-    ) -> io::Result<()> {
-        report_text(faults, name, number, NO_TEXT_LINE, text)?;
-        match text_cause(text, self.grammar) {
-            Some(cause) => writeln!(faults, " ({cause})"),
-            None => writeln!(faults),
+    ghost explains = { ExplainsTextLine };
+
+    fn explain(&self, text: &[u8]) -> Explanation {
+        Explanation {
+            what: NO_TEXT_LINE,
+            ..explain_cause(text_cause(text, self.grammar))
         }
     }
 }

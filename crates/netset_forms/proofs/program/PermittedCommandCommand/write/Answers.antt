@@ -26,3 +26,7 @@ returns-in-Err-write_form-clause-front g c =
             (g.W.Write.contents c.args.out.now) (g.W.Write.contents c.write_form.new.out) cut,
       )
     ]
+
+pub returns-in-Err-write_form-clause-failure : goal.returns-in-Err-write_form-clause-failure
+returns-in-Err-write_form-clause-failure g c =
+    (c.in-Ok.set, c.in-Ok.ensures.set, c.in-Err-write_form.ensures.failure)

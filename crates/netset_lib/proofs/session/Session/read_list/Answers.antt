@@ -1,6 +1,6 @@
 use Rattle.std.proofs.lemmas.Result.{on_ok_weaker}
 use Rattle.netset_lib.proofs.ListsReading.{list_read}
-use Rattle.netset_lib.proofs.session.Session.read.Goals as goal
+use Rattle.netset_lib.proofs.session.Session.read_list.Goals as goal
 
 pub returns : goal.returns
 returns g c =
