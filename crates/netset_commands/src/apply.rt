@@ -1,9 +1,7 @@
 //! The command `apply`: its arguments, and its run.
-use crate::arguments::{
-    ArgumentFailure, FIRST, OTHERS, command_of, first, flag, other, reads_input_twice,
-    report_argument_failure,
-};
-use crate::input::STANDARD_INPUT;
+ghost use Rattle.std.specs.Prelude.{◌≡◌, ◌≤◌, IfErr};
+
+use crate::arguments::{command_of, first, flag, other, two_or_report};
 use crate::lists::{Empties, Reports};
 use crate::output::Writers;
 use crate::reading::{bytes_of, reading_work, session_of, whole_of};
@@ -29,7 +27,9 @@ pub fn apply_command<'a>(alloc: Global) -> Result<Command<'a>, AllocError> {
 }
 
 /// Reads the bytes of the changes of this name. Without --no-empty, a file without a change is like any other.
-fn changes_of(rt: &HostRuntime, name: &str, reports: Reports) -> Result<Vec<u8>, u8> {
+fn changes_of(rt: &HostRuntime, name: &str, reports: Reports) -> Result<Vec<u8>, u8>
+    ensures { IfErr result (λ status. status ≡ 2) }
+{
     if reports.empties == Empties::Refuse {
         bytes_of(rt, name, "changes", reports)
     } else {
@@ -39,21 +39,19 @@ fn changes_of(rt: &HostRuntime, name: &str, reports: Reports) -> Result<Vec<u8>,
 
 /// Reads the arguments, the list and the changes, prints the answer, and returns the exit status.
 #[inline(never)]
-pub fn applied(rt: &HostRuntime, matches: &ArgMatches, writers: &mut Writers<'_>) -> u8 {
-    let Some(old) = matches.get_str(FIRST) else {
-        return report_argument_failure(rt, ArgumentFailure::NoCommand);
+pub fn apply_changes(rt: &HostRuntime, matches: &ArgMatches, writers: &mut Writers<'_>) -> u8
+    ensures { result ≤ 2 }
+{
+    let names = match two_or_report(rt, matches) {
+        Ok(names) => names.in_order(),
+        Err(status) => return status,
     };
-    let changes = matches.get_str(OTHERS).unwrap_or(STANDARD_INPUT);
-    if reads_input_twice(&[old, changes]) {
-        return report_argument_failure(rt, ArgumentFailure::InputTwice);
-    }
-    let session = match session_of(rt, reading_work(matches), &[old], writers.reports) {
+    let session = match session_of(rt, reading_work(matches), &names[..1], writers.reports) {
         Ok(session) => session,
         Err(status) => return status,
     };
-    match changes_of(rt, changes, writers.reports) {
+    match changes_of(rt, names[1], writers.reports) {
         Ok(bytes) => {
-            let names = [old, changes];
             let changes = bytes.as_slice();
             let (out, faults) = (&mut writers.answer, &mut writers.faults);
             run_text(ApplyCommand { session, changes }, &names, out, faults)

@@ -1,13 +1,21 @@
 //! The command `bar` and the options of bars: their arguments, and their runs.
+ghost use Rattle.std.specs.Prelude.{◌≡◌, ◌≤◌, ◌↔◌, Bool, Some, None, codes, length, IsTrue, IfOk, IfErr};
+ghost use Rattle.clap.specs.Matches.{found_of, first_value};
+ghost use Rattle.ipnet_bars.specs.declared.marks.RowWidth.{RowWidth};
+ghost use Rattle.ipnet_bars.specs.declared.marks.RowWidth.TheVariants.{ThirtyTwo};
+ghost use Rattle.netset_commands.specs.Arguments.{IsFlag};
+ghost use Rattle.netset_commands.specs.Words.{IsFrameOf, IsPicturedWork, mark_choice};
+ghost use Rattle.netset_pictures.specs.BarAnswers.{width_text};
+
 use crate::arguments::{
-    ArgumentFailure, FIRST, any_files, command_of, flag, flags_of, reads_input_twice,
+    ArgumentFailure, FIRST, any_files, command_of, flag, flags_of, is_set, reads_input_twice,
     report_argument_failure,
 };
 use crate::input::STANDARD_INPUT;
 use crate::listing::network_or_report;
 use crate::lists::Reports;
 use crate::output::Writers;
-use crate::reading::{reading_work, session_of};
+use crate::reading::{comparing_work, reading_work, session_of};
 use clap::{Arg, ArgMatches, Command};
 use ipnet_bars::{BarForm, Frame, Marks, RowWidth};
 use netset_lib::{Session, Work, run_text};
@@ -111,7 +119,9 @@ fn with_lists<'a>(alloc: Global, command: Command<'a>) -> Result<Command<'a>, Al
 
 /// The value of the variable, which is empty if it is not set. A value that is not UTF-8 is "?", since it is not empty,
 /// and no name of a locale. If memory runs out, it is reported, and the error is the exit status.
-fn variable(rt: &HostRuntime, name: &str) -> Result<String, u8> {
+fn variable(rt: &HostRuntime, name: &str) -> Result<String, u8>
+    ensures { IfErr result (λ status. status ≡ 2) }
+{
     match env::var(rt, name) {
         Ok(value) => Ok(value),
         Err(VarError::NotPresent) => Ok(String::new(rt.alloc())),
@@ -123,22 +133,33 @@ fn variable(rt: &HostRuntime, name: &str) -> Result<String, u8> {
     }
 }
 
-/// The flag or the output that decides on the marks.
-fn choice_of(matches: &ArgMatches, writers: &Writers<'_>) -> MarkChoice {
-    if matches.get_flag(ASCII) {
-        MarkChoice::Ascii
-    } else if matches.get_flag(UTF8) {
-        MarkChoice::Utf8
-    } else if writers.answer.is_terminal() {
-        MarkChoice::Terminal
-    } else {
-        MarkChoice::File
+/// The choice of the marks, by the flags and the output.
+fn mark_choice(ascii: bool, utf8: bool, is_terminal: bool) -> MarkChoice
+    ensures { result ≡ mark_choice ascii utf8 is_terminal }
+{
+    match (ascii, utf8, is_terminal) {
+        (true, _, _) => MarkChoice::Ascii,
+        (false, true, _) => MarkChoice::Utf8,
+        (false, false, true) => MarkChoice::Terminal,
+        (false, false, false) => MarkChoice::File,
     }
+}
+
+/// The flag or the output that decides on the marks, under these arguments.
+fn choice_of(matches: &ArgMatches, is_terminal: bool) -> MarkChoice
+    ensures { (ascii : Bool) × (utf8 : Bool) × IsFlag matches.now (codes "ascii") ascii
+        × IsFlag matches.now (codes "utf8") utf8 × (result ≡ mark_choice ascii utf8 is_terminal) }
+{
+    let ascii = is_set(matches, ASCII);
+    let utf8 = is_set(matches, UTF8);
+    mark_choice(ascii, utf8, is_terminal)
 }
 
 /// The characters of the marks: as the flags say, or as the terminal and the locale do. If memory runs out, it is
 /// reported, and the error is the exit status.
-fn marks_of(rt: &HostRuntime, matches: &ArgMatches, writers: &Writers<'_>) -> Result<Marks, u8> {
+fn marks_of(rt: &HostRuntime, matches: &ArgMatches, writers: &Writers<'_>) -> Result<Marks, u8>
+    ensures { IfErr result (λ status. status ≡ 2) }
+{
     let lc_all = variable(rt, "LC_ALL")?;
     let lc_ctype = variable(rt, "LC_CTYPE")?;
     let lang = variable(rt, "LANG")?;
@@ -147,7 +168,21 @@ fn marks_of(rt: &HostRuntime, matches: &ArgMatches, writers: &Writers<'_>) -> Re
         lc_ctype: lc_ctype.as_str(),
         lang: lang.as_str(),
     };
-    Ok(chosen_marks(choice_of(matches, writers), values))
+    let choice = choice_of(matches, writers.answer.is_terminal());
+    Ok(chosen_marks(choice, values))
+}
+
+/// The number of marks in a row: what `--width` says, or 32.
+fn row_width_of(matches: &ArgMatches) -> RowWidth
+    ensures given { (width : RowWidth)
+        → first_value (found_of matches.now) (codes "width") ≡ Some (width_text width) → result ≡ width }
+    ensures absent { first_value (found_of matches.now) (codes "width") ≡ None → result ≡ ThirtyTwo }
+{
+    match matches.get_str(WIDTH) {
+        // the value is one of WIDTHS
+        Some(word) => read_row_width(word).unwrap_or(RowWidth::ThirtyTwo),
+        None => RowWidth::ThirtyTwo,
+    }
 }
 
 /// Reads the form of a bar. If memory runs out, it is reported, and the error is the exit status.
@@ -155,22 +190,27 @@ pub fn bar_form_of(
     rt: &HostRuntime,
     matches: &ArgMatches,
     writers: &Writers<'_>,
-) -> Result<BarForm, u8> {
-    // the value is one of WIDTHS, if there is one
-    let width = matches.get_str(WIDTH).and_then(read_row_width);
-    let row_width = width.unwrap_or(RowWidth::ThirtyTwo);
+) -> Result<BarForm, u8>
+    ensures { IfErr result (λ status. status ≡ 2) }
+{
     let marks = marks_of(rt, matches, writers)?;
-    Ok(BarForm { row_width, marks })
+    Ok(BarForm {
+        row_width: row_width_of(matches),
+        marks,
+    })
 }
 
 /// Reads the network to draw. If the word is not a network, it is reported, and the error is the exit status.
-pub fn frame_of(rt: &HostRuntime, matches: &ArgMatches) -> Result<Frame, u8> {
+pub fn frame_of(rt: &HostRuntime, matches: &ArgMatches) -> Result<Frame, u8>
+    ensures frame { IfOk result (IsFrameOf matches.now) }
+    ensures failed { IfErr result (λ status. status ≡ 2) }
+{
     match matches.get_str(IN) {
         Some(word) => match network_or_report(rt, word, flags_of(matches).grammar()) {
             Some(network) => Ok(Frame::Named(network)),
             None => Err(2),
         },
-        None if matches.get_flag(IPV6) => Ok(Frame::Ipv6),
+        None if is_set(matches, IPV6) => Ok(Frame::Ipv6),
         None => Ok(Frame::FirstFamily),
     }
 }
@@ -180,14 +220,18 @@ fn request_of(
     rt: &HostRuntime,
     matches: &ArgMatches,
     writers: &Writers<'_>,
-) -> Result<BarRequest, u8> {
+) -> Result<BarRequest, u8>
+    ensures { IfErr result (λ status. status ≡ 2) }
+{
     let frame = frame_of(rt, matches)?;
     let form = bar_form_of(rt, matches, writers)?;
     Ok(BarRequest { frame, form })
 }
 
 /// Whether the lists are two. If not, it is reported.
-fn are_two(rt: &HostRuntime, names: &[&str]) -> bool {
+fn are_two(rt: &HostRuntime, names: &[&str]) -> bool
+    ensures { IsTrue result ↔ (length names.now ≡ 2) }
+{
     let count = names.len();
     if count != 2 {
         let _ = writeln!(
@@ -200,17 +244,20 @@ fn are_two(rt: &HostRuntime, names: &[&str]) -> bool {
 
 /// What a picture of the lists asks for: all their addresses, or what changed between two of them. If standard input is
 /// named twice, or if the lists to compare are not two, it is reported, and the error is the exit status.
-pub fn pictured_work(rt: &HostRuntime, matches: &ArgMatches, names: &[&str]) -> Result<Work, u8> {
+pub fn pictured_work(rt: &HostRuntime, matches: &ArgMatches, names: &[&str]) -> Result<Work, u8>
+    ensures work { IfOk result (IsPicturedWork matches.now names.now) }
+    ensures failed { IfErr result (λ status. status ≡ 2) }
+{
     if reads_input_twice(names) {
         return Err(report_argument_failure(rt, ArgumentFailure::InputTwice));
     }
-    if !matches.get_flag(COMPARE) {
+    if !is_set(matches, COMPARE) {
         return Ok(reading_work(matches));
     }
     if !are_two(rt, names) {
         return Err(2);
     }
-    Ok(netset_lib::ListCommand::Compare.work(flags_of(matches)))
+    Ok(comparing_work(matches))
 }
 
 /// Reads the lists of these names for a bar. If that fails, it is reported, and the error is the exit status.
@@ -219,14 +266,18 @@ fn read_pictured(
     matches: &ArgMatches,
     names: &[&str],
     reports: Reports,
-) -> Result<Session, u8> {
+) -> Result<Session, u8>
+    ensures { IfErr result (λ status. status ≡ 2) }
+{
     let work = pictured_work(rt, matches, names)?;
     session_of(rt, work, names, reports)
 }
 
 /// Reads the arguments and the lists, prints the bar, and returns the exit status.
 #[inline(never)]
-pub fn drawn(rt: &HostRuntime, matches: &ArgMatches, writers: &mut Writers<'_>) -> u8 {
+pub fn draw_bar(rt: &HostRuntime, matches: &ArgMatches, writers: &mut Writers<'_>) -> u8
+    ensures { result ≤ 2 }
+{
     let request = match request_of(rt, matches, writers) {
         Ok(request) => request,
         Err(status) => return status,

@@ -1,10 +1,9 @@
 //! The command `changes`: its arguments, and its run.
-use crate::arguments::{
-    ArgumentFailure, FIRST, OTHERS, command_of, first, flags_of, other, reads_input_twice,
-    report_argument_failure,
-};
+ghost use Rattle.std.specs.Prelude.{◌≤◌};
+
+use crate::arguments::{command_of, first, other, two_or_report};
 use crate::output::Writers;
-use crate::reading::session_of;
+use crate::reading::{comparing_work, session_of};
 use clap::{ArgMatches, Command};
 use netset_lib::{ChangesCommand, run_text};
 use std::alloc::{AllocError, Global};
@@ -24,16 +23,14 @@ pub fn changes_command<'a>(alloc: Global) -> Result<Command<'a>, AllocError> {
 
 /// Reads the arguments and the lists, prints the changes, and returns the exit status.
 #[inline(never)]
-pub fn changed(rt: &HostRuntime, matches: &ArgMatches, writers: &mut Writers<'_>) -> u8 {
-    let (Some(old), Some(new)) = (matches.get_str(FIRST), matches.get_str(OTHERS)) else {
-        return report_argument_failure(rt, ArgumentFailure::NoCommand);
+pub fn print_changes(rt: &HostRuntime, matches: &ArgMatches, writers: &mut Writers<'_>) -> u8
+    ensures { result ≤ 2 }
+{
+    let names = match two_or_report(rt, matches) {
+        Ok(names) => names.in_order(),
+        Err(status) => return status,
     };
-    let names = [old, new];
-    if reads_input_twice(&names) {
-        return report_argument_failure(rt, ArgumentFailure::InputTwice);
-    }
-    let work = netset_lib::ListCommand::Compare.work(flags_of(matches));
-    match session_of(rt, work, &names, writers.reports) {
+    match session_of(rt, comparing_work(matches), &names, writers.reports) {
         Ok(session) => {
             let (out, faults) = (&mut writers.answer, &mut writers.faults);
             run_text(ChangesCommand { session }, &names, out, faults)

@@ -7,13 +7,13 @@ use crate::changes::changes_command;
 use crate::entries::{overlaps_command, redundant_command, supernet_command};
 use crate::extract::extract_command;
 use crate::forms::operation_command;
-use crate::lines::with_lines;
 use crate::listing::{hosts_command, split_command};
 use crate::map::map_command;
 use crate::plan::plan_command;
 use crate::prefixes::prefix_command;
 use crate::rules::{permitted_command, unreached_command};
 use crate::texts::text_flag;
+use crate::whole_lines::with_lines;
 use clap::{Arg, ArgAction, ArgMatches, Command, Error};
 use std::alloc::{AllocError, Global};
 

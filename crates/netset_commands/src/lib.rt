@@ -11,7 +11,6 @@ mod extract;
 mod forms;
 mod input;
 mod leftovers;
-mod lines;
 mod listing;
 mod lists;
 mod map;
@@ -25,5 +24,6 @@ mod replacement;
 mod rules;
 mod stream;
 mod texts;
+mod whole_lines;
 
 pub use program::run;

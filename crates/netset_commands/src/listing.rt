@@ -1,4 +1,9 @@
 //! The commands `split` and `hosts`: their arguments, and their runs.
+ghost use Rattle.std.specs.Prelude.{◌≡◌, ◌≤◌, codes, IfSome};
+ghost use Rattle.ipnet.specs.NetworkOf.{ip_network};
+ghost use Rattle.ipnet_lists.specs.Entries.{IsNetworkOrMasked};
+ghost use Rattle.netset_commands.specs.Words.{word_of, IsNetworkGiven};
+
 use crate::arguments::{FIRST, OTHERS, first, flag, flags_of, output_option};
 use crate::output::Writers;
 use clap::{Arg, ArgMatches, Command};
@@ -55,6 +60,16 @@ pub fn hosts_command<'a>(alloc: Global) -> Result<Command<'a>, AllocError> {
     listing_command(alloc, HOSTS, about)
 }
 
+/// The word with this id, which is empty if there is none.
+fn word_of<'a>(matches: &ArgMatches<'a>, id: &str) -> &'a str
+    ensures { result.now ≡ word_of matches.now id.now }
+{
+    match matches.get_str(id) {
+        Some(word) => word,
+        None => "",
+    }
+}
+
 /// Prints that the word is not a network, with the cause that a line of a list has.
 fn report_network(rt: &HostRuntime, word: &str, cause: ArgumentCause) {
     let word = word.as_bytes().escape_ascii();
@@ -76,7 +91,9 @@ fn report_network(rt: &HostRuntime, word: &str, cause: ArgumentCause) {
 }
 
 /// Reads a network. If the word is not one, it is reported with the cause, and the result is `None`.
-pub fn network_or_report(rt: &HostRuntime, word: &str, grammar: Grammar) -> Option<IpNet> {
+pub fn network_or_report(rt: &HostRuntime, word: &str, grammar: Grammar) -> Option<IpNet>
+    ensures { IfSome result (λ n. IsNetworkOrMasked grammar word.now (ip_network n)) }
+{
     match read_network_argument(word, grammar) {
         Ok(network) => Some(network),
         Err(cause) => {
@@ -87,17 +104,21 @@ pub fn network_or_report(rt: &HostRuntime, word: &str, grammar: Grammar) -> Opti
 }
 
 /// Reads the network that is listed. If the word is not one, it is reported, and the result is `None`.
-fn network_of(rt: &HostRuntime, matches: &ArgMatches) -> Option<IpNet> {
-    let word = matches.get_str(FIRST).unwrap_or("");
+fn network_of(rt: &HostRuntime, matches: &ArgMatches) -> Option<IpNet>
+    ensures { IfSome result (IsNetworkGiven matches.now (codes "first")) }
+{
+    let word = word_of(matches, FIRST);
     network_or_report(rt, word, flags_of(matches).grammar())
 }
 
 /// Reads the arguments of `split`, and prints the subnets.
-pub fn split(rt: &HostRuntime, matches: &ArgMatches, writers: &mut Writers<'_>) -> u8 {
+pub fn list_subnets(rt: &HostRuntime, matches: &ArgMatches, writers: &mut Writers<'_>) -> u8
+    ensures { result ≤ 2 }
+{
     let Some(network) = network_of(rt, matches) else {
         return 2;
     };
-    let word = matches.get_str(OTHERS).unwrap_or("");
+    let word = word_of(matches, OTHERS);
     let Some(length) = read_length(word) else {
         let word = word.as_bytes().escape_ascii();
         let _ = writeln!(rt.stderr(), "netset: not a prefix length: {word}");
@@ -107,7 +128,9 @@ pub fn split(rt: &HostRuntime, matches: &ArgMatches, writers: &mut Writers<'_>) 
 }
 
 /// Reads the argument of `hosts`, and prints the hosts.
-pub fn hosts(rt: &HostRuntime, matches: &ArgMatches, writers: &mut Writers<'_>) -> u8 {
+pub fn list_hosts(rt: &HostRuntime, matches: &ArgMatches, writers: &mut Writers<'_>) -> u8
+    ensures { result ≤ 2 }
+{
     match network_of(rt, matches) {
         Some(network) => run_hosts(&network, &mut writers.answer, &mut writers.faults),
         None => 2,

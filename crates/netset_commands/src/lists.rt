@@ -1,4 +1,8 @@
 //! The lists, read from files and from standard input.
+ghost use Rattle.std.specs.Prelude.{◌≡◌, ◌≢◌, ◌⊎◌, ◌↔◌, IsTrue, IfOk};
+ghost use Rattle.netset_commands.specs.Arguments.{standard_input};
+ghost use Rattle.netset_commands.specs.declared.lists.Empties.TheVariants.{Refuse};
+
 use crate::input::{STANDARD_INPUT, Unread, open_list};
 use ipnet::Grammar;
 use ipnet_lists::{ReadFailure, read_bytes};
@@ -91,7 +95,9 @@ impl Reports {
 
     /// Reports that the list of this name has none of `what`, unless that is allowed. Returns `false` if that is to be
     /// refused. Standard input may always be empty.
-    pub fn report_empty(self, rt: &HostRuntime, name: &str, what: &str) -> bool {
+    pub fn report_empty(self, rt: &HostRuntime, name: &str, what: &str) -> bool
+        ensures { IsTrue result ↔ ((name.now ≡ standard_input) ⊎ (self.empties ≢ Refuse)) }
+    {
         if name == STANDARD_INPUT || self.empties == Empties::Allow {
             return true;
         }
@@ -112,7 +118,9 @@ pub fn read_lists<'a, L: ListReader>(
     lists: &mut L,
     names: &[&'a str],
     reports: Reports,
-) -> Result<bool, (&'a str, Unread)> {
+) -> Result<bool, (&'a str, Unread)>
+    ensures { IfOk result (λ allowed. reports.empties ≢ Refuse → IsTrue allowed) }
+{
     let mut total: usize = 0;
     let mut allowed = true;
     for name in names {

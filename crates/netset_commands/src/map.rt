@@ -1,6 +1,13 @@
 //! The command `map`: its arguments, and its runs.
+ghost use Rattle.std.specs.Prelude.{◌≡◌, ◌≤◌, ◌<◌, ◌↔◌, Bool, false, Some, None, codes, length, IsTrue, IfErr};
+ghost use Rattle.clap.specs.Matches.{found_of, first_value};
+ghost use Rattle.netset_commands.specs.Arguments.{standard_input, input_count, IsFlag};
+ghost use Rattle.netset_pictures.specs.MapAnswers.{theme_text};
+ghost use Rattle.svg_maps.specs.declared.style.Theme.{Theme};
+ghost use Rattle.svg_maps.specs.declared.style.Theme.TheVariants.{Auto};
+
 use crate::arguments::{
-    ArgumentFailure, FIRST, any_files, command_of, flag, flags_of, reads_input_twice,
+    ArgumentFailure, FIRST, any_files, command_of, flag, flags_of, is_set, reads_input,
     report_argument_failure,
 };
 use crate::bar::{COMPARE, frame_of, pictured_work, with_frame};
@@ -62,8 +69,11 @@ pub fn map_command<'a>(alloc: Global) -> Result<Command<'a>, AllocError> {
 }
 
 /// Whether the lists are too many for one map. If so, it is reported.
-fn are_too_many(rt: &HostRuntime, matches: &ArgMatches, names: &[&str]) -> bool {
-    let are_many = !matches.get_flag(COMPARE) && names.len() > MOST_LISTS;
+fn are_too_many(rt: &HostRuntime, matches: &ArgMatches, names: &[&str]) -> bool
+    ensures { (compares : Bool) × IsFlag matches.now (codes "compare") compares
+        × (IsTrue result ↔ ((compares ≡ false) × (6 < length names.now))) }
+{
+    let are_many = !is_set(matches, COMPARE) && names.len() > MOST_LISTS;
     if are_many {
         let _ = writeln!(
             rt.stderr(),
@@ -74,13 +84,10 @@ fn are_too_many(rt: &HostRuntime, matches: &ArgMatches, names: &[&str]) -> bool 
 }
 
 /// Whether the file and one of the lists are standard input.
-fn reads_input_again(file: &str, names: &[&str]) -> bool {
-    for name in names {
-        if reads_input_twice(&[file, *name]) {
-            return true;
-        }
-    }
-    false
+fn reads_input_again(file: &str, names: &[&str]) -> bool
+    ensures { IsTrue result ↔ ((file.now ≡ standard_input) × (0 < input_count names.now)) }
+{
+    file == STANDARD_INPUT && reads_input(names)
 }
 
 /// Reads the bytes of the list of names; there are none if no such list is named. If that fails, or if a list of these
@@ -90,7 +97,9 @@ fn name_bytes(
     matches: &ArgMatches,
     names: &[&str],
     reports: Reports,
-) -> Result<Vec<u8>, u8> {
+) -> Result<Vec<u8>, u8>
+    ensures { IfErr result (λ status. status ≡ 2) }
+{
     let Some(file) = matches.get_str(NAMES) else {
         return Ok(Vec::new(rt.alloc()));
     };
@@ -101,10 +110,16 @@ fn name_bytes(
 }
 
 /// The colours that the arguments name.
-fn theme_of(matches: &ArgMatches) -> Theme {
-    // the value is one of THEMES, if there is one
-    let theme = matches.get_str(THEME).and_then(read_theme);
-    theme.unwrap_or(Theme::Auto)
+fn theme_of(matches: &ArgMatches) -> Theme
+    ensures given { (theme : Theme)
+        → first_value (found_of matches.now) (codes "theme") ≡ Some (theme_text theme) → result ≡ theme }
+    ensures absent { first_value (found_of matches.now) (codes "theme") ≡ None → result ≡ Auto }
+{
+    match matches.get_str(THEME) {
+        // the value is one of THEMES
+        Some(word) => read_theme(word).unwrap_or(Theme::Auto),
+        None => Theme::Auto,
+    }
 }
 
 /// Reads the lists of these names, and notes the largest entries of each. If that fails, it is reported, and the error
@@ -115,7 +130,9 @@ fn read_noted(
     names: &[&str],
     frame: Frame,
     reports: Reports,
-) -> Result<(Session, Vec<EntryNotes>), u8> {
+) -> Result<(Session, Vec<EntryNotes>), u8>
+    ensures { IfErr result (λ status. status ≡ 2) }
+{
     let work = pictured_work(rt, matches, names)?;
     let frame = match frame {
         Frame::Named(network) => Some(network),
@@ -143,7 +160,9 @@ fn draw(
     names: &[&str],
     compares: bool,
     writers: &mut Writers<'_>,
-) -> u8 {
+) -> u8
+    ensures { result ≤ 2 }
+{
     let out = &mut writers.answer;
     let faults = &mut writers.faults;
     if compares {
@@ -167,7 +186,9 @@ fn draw_lists(
     names: &[&str],
     request: MapRequest<'_>,
     writers: &mut Writers<'_>,
-) -> u8 {
+) -> u8
+    ensures { result ≤ 2 }
+{
     let (session, notes) = match read_noted(rt, matches, names, request.frame, writers.reports) {
         Ok(noted) => noted,
         Err(status) => return status,
@@ -195,7 +216,9 @@ fn draw_table(
     frame: Frame,
     table: &RouteTable<&str>,
     writers: &mut Writers<'_>,
-) -> u8 {
+) -> u8
+    ensures { result ≤ 2 }
+{
     let look = Look {
         theme: theme_of(matches),
         shows_free: matches.get_flag(FREE),
@@ -218,7 +241,9 @@ fn draw_named(
     frame: Frame,
     bytes: &[u8],
     writers: &mut Writers<'_>,
-) -> u8 {
+) -> u8
+    ensures { result ≤ 2 }
+{
     let file = matches.get_str(NAMES).unwrap_or(STANDARD_INPUT);
     let grammar = flags_of(matches).grammar();
     match table_or_report(rt.alloc(), bytes, grammar, file, &mut writers.faults) {
@@ -229,7 +254,9 @@ fn draw_named(
 
 /// Reads the arguments and the lists, prints the map, and returns the exit status.
 #[inline(never)]
-pub fn mapped(rt: &HostRuntime, matches: &ArgMatches, writers: &mut Writers<'_>) -> u8 {
+pub fn draw_map(rt: &HostRuntime, matches: &ArgMatches, writers: &mut Writers<'_>) -> u8
+    ensures { result ≤ 2 }
+{
     let frame = match frame_of(rt, matches) {
         Ok(frame) => frame,
         Err(status) => return status,

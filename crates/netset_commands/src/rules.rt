@@ -1,9 +1,10 @@
 //! The commands that read a list of rules.
+ghost use Rattle.std.specs.Prelude.{◌≡◌, ◌≤◌, IfErr};
 ghost use Rattle.netset_commands.specs.Arguments.{IsDefault};
 
-use crate::arguments::{FIRST, command_of, first, flags_of};
+use crate::arguments::{FIRST, command_of, first, flags_of, name_of_list};
 use crate::forms::{form_of, operation_command};
-use crate::input::{STANDARD_INPUT, report_unread};
+use crate::input::report_unread;
 use crate::lists::{Reports, read_rules};
 use crate::output::Writers;
 use clap::{Arg, ArgMatches, Command};
@@ -65,14 +66,11 @@ fn default_of(matches: &ArgMatches) -> Action
     }
 }
 
-/// The name of the list of rules.
-fn file_of<'a>(matches: &ArgMatches<'a>) -> &'a str {
-    matches.get_str(FIRST).unwrap_or(STANDARD_INPUT)
-}
-
 /// Reads the list of rules. If that fails, it is reported, and the error is the exit status.
-fn rules_of(rt: &HostRuntime, matches: &ArgMatches, reports: Reports) -> Result<RuleList, u8> {
-    let file = file_of(matches);
+fn rules_of(rt: &HostRuntime, matches: &ArgMatches, reports: Reports) -> Result<RuleList, u8>
+    ensures { IfErr result (λ status. status ≡ 2) }
+{
+    let file = name_of_list(matches, FIRST);
     match read_rules(rt, file, flags_of(matches).grammar(), reports) {
         Ok(Some(list)) => Ok(list),
         Ok(None) => Err(2),
@@ -85,7 +83,9 @@ fn rules_of(rt: &HostRuntime, matches: &ArgMatches, reports: Reports) -> Result<
 
 /// Reads the arguments and the rules, prints what they permit, and returns the status.
 #[inline(never)]
-pub fn permitted(rt: &HostRuntime, matches: &ArgMatches, writers: &mut Writers<'_>) -> u8 {
+pub fn print_permitted(rt: &HostRuntime, matches: &ArgMatches, writers: &mut Writers<'_>) -> u8
+    ensures { result ≤ 2 }
+{
     let form = match form_of(rt, matches) {
         Ok(form) => form,
         Err(status) => return status,
@@ -101,16 +101,19 @@ pub fn permitted(rt: &HostRuntime, matches: &ArgMatches, writers: &mut Writers<'
         form,
     };
     let (out, faults) = (&mut writers.answer, &mut writers.faults);
-    run(command, &[file_of(matches)], out, faults)
+    run(command, &[name_of_list(matches, FIRST)], out, faults)
 }
 
 /// Reads the rules, prints those that decide on no address, and returns the status.
 #[inline(never)]
-pub fn unreached(rt: &HostRuntime, matches: &ArgMatches, writers: &mut Writers<'_>) -> u8 {
+pub fn print_unreached(rt: &HostRuntime, matches: &ArgMatches, writers: &mut Writers<'_>) -> u8
+    ensures { result ≤ 2 }
+{
     match rules_of(rt, matches, writers.reports) {
         Ok(list) => {
             let (out, faults) = (&mut writers.answer, &mut writers.faults);
-            run_text(UnreachedCommand { list }, &[file_of(matches)], out, faults)
+            let names = [name_of_list(matches, FIRST)];
+            run_text(UnreachedCommand { list }, &names, out, faults)
         }
         Err(status) => status,
     }

@@ -1,4 +1,5 @@
 pub mod FormAnswers
+pub mod FormOptions
 pub mod FormSteps
 pub mod Forms
 pub mod Layouts

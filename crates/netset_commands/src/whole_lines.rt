@@ -1,8 +1,12 @@
 //! The command `filter --lines`: its flags, and its run.
-use crate::arguments::{
-    ArgumentFailure, FIRST, OTHERS, flag, flags_of, reads_input_twice, report_argument_failure,
-};
-use crate::input::{STANDARD_INPUT, open_log, report_unread};
+ghost use Rattle.std.specs.Prelude.{◌≡◌, ◌≤◌, codes};
+ghost use Rattle.netset_commands.specs.Arguments.{IsFlag};
+ghost use Rattle.netset_commands.specs.Calls.{AreFlags};
+ghost use Rattle.netset_lib.specs.Commands.{grammar_of, side_of};
+ghost use Rattle.netset_lib.specs.declared.command.Flags.{Flags};
+
+use crate::arguments::{flag, flags_of, is_set, two_or_report};
+use crate::input::{open_log, report_unread};
 use crate::output::Writers;
 use crate::reading::{reading_work, session_of};
 use clap::{Arg, ArgAction, ArgMatches, Command};
@@ -39,30 +43,38 @@ pub fn with_lines<'a>(alloc: Global, command: Command<'a>) -> Result<Command<'a>
         .arg(others)
 }
 
-/// Reads the set and the arguments, and prints the lines of the log while it is read. Returns the exit status.
-#[inline(never)]
-pub fn filtered(rt: &HostRuntime, matches: &ArgMatches, writers: &mut Writers<'_>) -> u8 {
-    let Some(set) = matches.get_str(FIRST) else {
-        return report_argument_failure(rt, ArgumentFailure::NoCommand);
-    };
-    let log = matches.get_str(OTHERS).unwrap_or(STANDARD_INPUT);
-    let names = [set, log];
-    if reads_input_twice(&names) {
-        return report_argument_failure(rt, ArgumentFailure::InputTwice);
-    }
+/// Which lines the flags choose.
+fn lines_request(matches: &ArgMatches) -> LinesRequest
+    ensures flags { (flags : Flags) × AreFlags matches.now flags
+        × (result.grammar ≡ grammar_of flags.legacy) × (result.side ≡ side_of flags.outside) }
+    ensures any { IsFlag matches.now (codes "any") result.any }
+    ensures others { IsFlag matches.now (codes "other-lines") result.others }
+{
     let flags = flags_of(matches);
-    let how = LinesRequest {
+    LinesRequest {
         grammar: flags.grammar(),
         side: flags.side(),
-        any: matches.get_flag(ANY),
-        others: matches.get_flag(OTHER_LINES),
+        any: is_set(matches, ANY),
+        others: is_set(matches, OTHER_LINES),
+    }
+}
+
+/// Reads the set and the arguments, and prints the lines of the log while it is read. Returns the exit status.
+#[inline(never)]
+pub fn filter_lines(rt: &HostRuntime, matches: &ArgMatches, writers: &mut Writers<'_>) -> u8
+    ensures { result ≤ 2 }
+{
+    let names = match two_or_report(rt, matches) {
+        Ok(names) => names.in_order(),
+        Err(status) => return status,
     };
+    let how = lines_request(matches);
     let session = match session_of(rt, reading_work(matches), &names[..1], writers.reports) {
         Ok(session) => session,
         Err(status) => return status,
     };
     match LineFilter::from_session(rt.alloc(), session, how) {
-        Ok(filter) => filter_named(rt, filter, &names, log, writers),
+        Ok(filter) => filter_named(rt, filter, &names, names[1], writers),
         Err(failure) => {
             let _ = report_failure(&mut writers.faults, &names, &failure);
             2
@@ -78,7 +90,9 @@ fn filter_named(
     names: &[&str],
     log: &str,
     writers: &mut Writers<'_>,
-) -> u8 {
+) -> u8
+    ensures { result ≤ 2 }
+{
     let (out, faults) = (&mut writers.answer, &mut writers.faults);
     match open_log(rt, log) {
         Ok(mut input) => {

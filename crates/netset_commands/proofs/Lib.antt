@@ -1,0 +1,4 @@
+-- Lemmas of this crate.
+pub mod MapLaws
+pub mod WordLaws
+pub mod OnceLaws
