@@ -73,12 +73,8 @@ impl Report for PrefixFailure {
     fn report<X: Write>(&self, names: &[&str], faults: &mut X) -> io::Result<()> {
         match self {
             PrefixFailure::Memory => report_words(faults, OUT_OF_MEMORY),
-            PrefixFailure::Prefixes(lines) => {
-                report_refused(faults, name_of(names, 0), lines)
-            }
-            PrefixFailure::Networks(lines) => {
-                report_refused(faults, name_of(names, 1), lines)
-            }
+            PrefixFailure::Prefixes(lines) => { report_refused(faults, name_of(names, 0), lines) }
+            PrefixFailure::Networks(lines) => { report_refused(faults, name_of(names, 1), lines) }
         }
     }
 }
