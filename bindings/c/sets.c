@@ -175,7 +175,7 @@ static void try_many(void)
     free(set.at);
 }
 
-/* Many networks: the answers are those of ipnet_set_covers, one by one. */
+/* Many networks: the same answers as ipnet_set_covers, one by one. */
 static void try_many_networks(void)
 {
     struct bytes set = image_of("10.0.0.0/30\nfd00::/32");
