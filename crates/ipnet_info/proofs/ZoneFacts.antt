@@ -1,7 +1,7 @@
 -- The zones inside a network, and the zone around it, are its subnets of one length.
-use Rattle.std.proofs.Common.{◌≡◌, ℕ, ◌+◌, ◌-◌, ◌*◌, ◌/◌, ◌<◌, ◌≤◌, List}
+use Rattle.std.proofs.Common.{◌≡◌, ℕ, ◌+◌, ◌-◌, ◌*◌, ◌/◌, ◌^◌, ◌<◌, ◌≤◌, List, length}
 use Rattle.std.proofs.Common.{refl, sym, ap, ◌∙◌, arith}
-use Rattle.std.proofs.Math.Nat.{div-mul-le_self, lt-div-mul-add}
+use Rattle.std.proofs.Math.Nat.{div-mul-le_self, lt-div-mul-add, pow-le-pow_right}
 use Rattle.ipnet_base.specs.Address.{Family, IPv4, IPv6, width}
 use Rattle.ipnet_base.specs.Network.{Network, IsNetwork, IsSubnetOf, truncation}
 use Rattle.ipnet_base.proofs.BlockLaws.{own, own_in}
@@ -56,6 +56,23 @@ pub next_fits : (n : Network) (len : ℕ) → IsNextLength n len → n.prefix_le
 next_fits n len next few =
     next_multiple n.family n.prefix_len len (longest_zone n.family) next.labels (longest_whole n.family).0 next.whole
     (longest_whole n.family).1 few next.least
+
+label_few : (f : Family) → label_bits f ≤ 8
+label_few IPv4 = omega arith
+label_few IPv6 = omega arith
+
+-- at most seven bits of the prefix are added, so there are few subnets
+pub few_subnets : (n : Network) (len : ℕ) (zones : List Network) → AreSubnetsOfLength n len zones
+    → len < n.prefix_len + 8 → length zones ≤ 128
+few_subnets n len zones subs short =
+    let few : len - n.prefix_len ≤ 7 = omega (arith, short) in
+    let most : 2 ^ (len - n.prefix_len) ≤ 2 ^ 7 = pow-le-pow_right {n = 2} (omega arith) few in
+    omega (arith, subs.count, most)
+
+-- the zones inside a network are few
+pub few_inside : (n : Network) (len : ℕ) (zones : List Network) → IsNextLength n len → AreSubnetsOfLength n len zones
+    → length zones ≤ 128
+few_inside n len zones next subs = few_subnets n len zones subs (omega (arith, next.least, label_few n.family))
 
 -- a network of equal length in another has all of its block
 same_len_around : (z w : Network) → z.prefix_len ≡ w.prefix_len → IsSubnetOf z w → IsSubnetOf w z

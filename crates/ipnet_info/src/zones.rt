@@ -1,6 +1,6 @@
 //! The zones of the domain name system that name the addresses of a network.
 ghost use Rattle.std.specs.Prelude.{◌≡◌, ◌*◌, ◌/◌, ◌%◌, ◌^◌, ◌-◌, ◌<◌, ◌≤◌, ◌++◌, OnOk, IfOk, string_bytes};
-ghost use Rattle.std.specs.Prelude.{decimal, codes};
+ghost use Rattle.std.specs.Prelude.{decimal, codes, length};
 ghost use Rattle.ipnet_base.specs.Address.{width};
 ghost use Rattle.ipnet_base.specs.Network.{IsNetwork};
 ghost use Rattle.ipnet.specs.NetworkOf.{ip_network, ipv4_network, ipv6_network};
@@ -145,7 +145,8 @@ fn subnets_of(network: &IpNet, prefix_len: u8) -> IpSubnets
 /// Returns the smallest zone that contains a network smaller than every zone.
 fn zone_around(network: &IpNet) -> IpSubnets
     requires { longest_zone (ip_network network.now).family < (ip_network network.now).prefix_len }
-    ensures { AreReverseZones (ip_network network.now) (ip_subnets_left result) }
+    ensures zones { AreReverseZones (ip_network network.now) (ip_subnets_left result) }
+    ensures few { length (ip_subnets_left result) ≤ 128 }
 {
     ip_nets_compare_by_network();
     let longest = longest_zone_len(network);
@@ -156,7 +157,8 @@ fn zone_around(network: &IpNet) -> IpSubnets
 /// Returns the largest zones inside a network that is not smaller than every zone.
 fn zones_inside(network: &IpNet) -> IpSubnets
     requires { (ip_network network.now).prefix_len ≤ longest_zone (ip_network network.now).family }
-    ensures { AreReverseZones (ip_network network.now) (ip_subnets_left result) }
+    ensures zones { AreReverseZones (ip_network network.now) (ip_subnets_left result) }
+    ensures few { length (ip_subnets_left result) ≤ 128 }
 {
     ip_nets_compare_by_network();
     let length = next_zone_len(network);
@@ -171,7 +173,8 @@ fn zones_inside(network: &IpNet) -> IpSubnets
 /// 2001:db8::/31: 2001:db8::/32, 2001:db9::/32
 /// ```
 pub fn reverse_zones(network: &IpNet) -> IpSubnets
-    ensures { AreReverseZones (ip_network network.now) (ip_subnets_left result) }
+    ensures zones { AreReverseZones (ip_network network.now) (ip_subnets_left result) }
+    ensures few { length (ip_subnets_left result) ≤ 128 }
 {
     if network.prefix_len() > longest_zone_len(network) {
         return zone_around(network);

@@ -17,11 +17,11 @@ pub fn ask(alloc: Global, question: Question<'_>) -> Answer {
         "last_host" => show(alloc, last_host(&network))?,
         "address_count" => show(alloc, address_count(&network))?,
         "host_count" => show(alloc, host_count(&network))?,
-        "decimal" => decimal_text(alloc, &network.addr())?,
-        "hexadecimal" => hexadecimal_text(alloc, &network.addr())?,
+        "decimal_text" => decimal_text(alloc, &network.addr())?,
+        "hexadecimal_text" => hexadecimal_text(alloc, &network.addr())?,
         "written_out" => show_written_out(alloc, &network.addr())?,
         "zone_name" => zone_name(alloc, &network)?,
-        "zones" => show_zones(alloc, &network)?,
+        "reverse_zones" => show_zones(alloc, &network)?,
         _ => return Ok(None),
     };
     Ok(Some(text))
@@ -39,8 +39,11 @@ fn show_written_out(alloc: Global, address: &IpAddr) -> Result<String, AllocErro
 fn show_zones(alloc: Global, network: &IpNet) -> Result<String, AllocError> {
     let mut text = String::new(alloc);
     for zone in reverse_zones(network) {
+        if !text.is_empty() {
+            text.push_str(", ")?;
+        }
         let name = zone_name(alloc, &zone)?;
-        write!(text, "{zone} {name},")?;
+        write!(text, "{zone} {name}")?;
     }
     Ok(text)
 }

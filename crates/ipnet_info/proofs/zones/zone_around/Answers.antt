@@ -4,7 +4,7 @@ use Rattle.ipnet.specs.NetworkOf.{ip_network}
 use Rattle.ipnet.specs.NetworkParts.{AreSubnetsOfLength, network_at, own_address}
 use Rattle.ipnet.specs.SubnetsLeft.{ip_subnets_left}
 use Rattle.ipnet_info.specs.Zones.{longest_zone}
-use Rattle.ipnet_info.proofs.ZoneFacts.{around_zones, widest}
+use Rattle.ipnet_info.proofs.ZoneFacts.{around_zones, few_subnets, widest}
 use Rattle.ipnet_info.proofs.zones.zone_around.Goals as goal
 
 pub new_assert-around-requires : goal.new_assert-around-requires
@@ -23,8 +23,8 @@ subnets_of-requires-clause-fits c =
       ap (λ a. width a.family) c.addr.ensures,
     )
 
-pub returns : goal.returns
-returns c =
+pub returns-clause-zones : goal.returns-clause-zones
+returns-clause-zones c =
     let n = ip_network c.args.network.now in
     let zones = ip_subnets_left c.subnets_of.result in
     let same : ip_network c.new_assert-around.result ≡ widest n =
@@ -34,3 +34,9 @@ returns c =
     (subst (λ k. AreSubnetsOfLength k (longest_zone n.family) zones) same
     (subst (λ l. AreSubnetsOfLength (ip_network c.new_assert-around.result) l zones)
     c.longest_zone_len-longest.ensures.length c.subnets_of.ensures))
+
+pub returns-clause-few : goal.returns-clause-few
+returns-clause-few c =
+    few_subnets (ip_network c.new_assert-around.result) c.longest_zone_len-longest.result
+    (ip_subnets_left c.subnets_of.result) c.subnets_of.ensures
+    (omega (arith, ap (λ k. k.prefix_len) c.new_assert-around.ensures))
