@@ -38,7 +38,7 @@ network_in routes r (i, l, e) = (
 )
 
 -- a network of the table that contains the route is the network of a payload that covers it
-some_covers : (vrps : List Payload) (routes : List (Route ℕ)) → AreLasts vrps routes → (n : Network) → IsNetwork n
+pub some_covers : (vrps : List Payload) (routes : List (Route ℕ)) → AreLasts vrps routes → (n : Network) → IsNetwork n
     → (r : Route ℕ) → Contains routes r → IsSubnetOf n r.0 → Any (IsCovered n) vrps
 some_covers vrps routes lasts n valid r c sub =
     let last = lasts.lasts r c in

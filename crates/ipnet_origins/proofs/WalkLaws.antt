@@ -1,10 +1,10 @@
 -- The payloads on the walk over the networks of the table that contain the address of a route.
 use Rattle.std.proofs.Common.{◌≡◌, ◌≢◌, ℕ, ◌<◌, ◌≤◌, ◌⊎◌, ◌↔◌, List, [], ◌∷◌, ◌++◌, length, map, get_or, Contains, Any}
-use Rattle.std.proofs.Common.{Option, sym, ap, ◌∙◌, subst, arith, inl, inr}
+use Rattle.std.proofs.Common.{Option, sym, ap, ◌∙◌, subst, subst₂, arith, take, inl, inr}
 use Rattle.std.proofs.lemmas.Bool.{cases_eq}
-use Rattle.std.proofs.lemmas.List.{length-map, get_or-map}
+use Rattle.std.proofs.lemmas.List.{length-map, get_or-map, get_or-take}
 use Rattle.std.proofs.lemmas.List.Elements.{Contains-push_cases, Contains-append_cases, Contains-append_left}
-use Rattle.std.proofs.lemmas.List.Elements.{Contains-append_right}
+use Rattle.std.proofs.lemmas.List.Elements.{Contains-append_right, Contains-push}
 use Rattle.std.specs.Borrow.{Bor}
 use Rattle.ipnet_base.specs.Address.{Address}
 use Rattle.ipnet_base.specs.Network.{Network, InBlock}
@@ -12,13 +12,14 @@ use Rattle.ipnet_base.proofs.BlockLaws.{own}
 use Rattle.ipnet_base.proofs.FamilyLaws.{cases_family}
 use Rattle.ipnet_base.proofs.NetworkLaws.{same_network}
 use Rattle.ipnet_base.proofs.ListLaws.{contains_nil, contains_here, contains_there, contains_cases, any_from_contains}
+use Rattle.ipnet_base.proofs.ListLaws.{at_place, pairs_append}
 use Rattle.ipnet.specs.declared.net.IpNet.{IpNet}
 use Rattle.ipnet.specs.NetworkOf.{ip_network}
 use Rattle.ipnet_routes.specs.Routes.{Route, ip_route, AreMatches}
 use Rattle.ipnet_routes.proofs.LastPassing.{element_at}
 use Rattle.ipnet_origins.specs.declared.payload.Payload.{Payload}
 use Rattle.ipnet_origins.specs.Groups.{network_of, AreLasts, IsGroup}
-use Rattle.ipnet_origins.specs.Origins.{IsCovered, IsMatched}
+use Rattle.ipnet_origins.specs.Origins.{IsCovered, IsMatched, AreLongestFirst}
 
 -- a route of the table, by reference
 abbrev pub Place : Type 0
@@ -29,11 +30,14 @@ abbrev pub NoneMatches : List Payload → Network → Option ℕ → List Place 
 NoneMatches vrps n origin places = (b : Place) → Contains places b → (vrp : Payload) → Contains vrps vrp
     → network_of vrp ≡ ip_network b.now.0 → ¬ (IsMatched n origin vrp)
 
--- the list has only payloads that cover the route, and all of them of the networks of the places
+-- the list has only payloads that cover the route, and all of them of the networks of the places, the longest first
 pub record HasCovering (vrps : List Payload) (n : Network) (places : List Place) (found : List Payload) : Type 0 where
   pub sound : (vrp : Payload) → Contains found vrp → Contains vrps vrp × IsCovered n vrp
   pub complete : (b : Place) → Contains places b → (vrp : Payload) → Contains vrps vrp
       → network_of vrp ≡ ip_network b.now.0 → IsCovered n vrp → Contains found vrp
+  pub of_places : (vrp : Payload) → Contains found vrp
+      → (b : Place) × Contains places b × (network_of vrp ≡ ip_network b.now.0)
+  pub longest_first : AreLongestFirst found
 
 -- the place that the walk comes to is a route of the table, and its network has the address
 pub turn_in : (routes all : List (Route ℕ)) (x : Address) → AreMatches routes x all → (k : ℕ) (q : Route ℕ)
@@ -106,12 +110,42 @@ find (p ∷ places) n = elim (find places n) [
       ]
     ]
 
+-- the next place of the walk has no longer network than the places so far
+pub no_longer : (routes all : List (Route ℕ)) (x : Address) → AreMatches routes x all → (places : List Place)
+    (next : Place) → map ip_route places ≡ take (length places) all → length places < length all
+    → ip_route next ≡ get_or all (length places) (ip_route next) → (b : Place) → Contains places b
+    → (ip_network next.now.0).prefix_len ≤ (ip_network b.now.0).prefix_len
+no_longer routes all x matches places next so_far inside is b (k, l, e) =
+    let d : Route ℕ = ip_route next in
+    let there : get_or all k d ≡ ip_route b
+    = sym (get_or-take (length places) all k d l) ∙ ap (λ z. get_or z k d) (sym so_far)
+    ∙ get_or-map ip_route places k b d l ∙ ap ip_route e in
+    omega (
+      arith,
+      matches.longest_first k (length places) d l inside,
+      ap (λ (r : Route ℕ). r.0.prefix_len) there,
+      ap (λ (r : Route ℕ). r.0.prefix_len) is,
+    )
+
+-- the payloads of a group have networks of one length
+group_pairs : (vrps group : List Payload) (n : Network) → IsGroup vrps n group → AreLongestFirst group
+group_pairs vrps group n is i j d l m =
+    omega (
+      arith,
+      ap (λ k. k.prefix_len) (same i d (omega (arith, l, m))),
+      ap (λ k. k.prefix_len) (same j d m),
+    )
+  where
+    same : (k : ℕ) (d : Payload) → k < length group → network_of (get_or group k d) ≡ n
+    same k d l = ((is (get_or group k d)).0 (k, l, at_place group k (get_or group k d) d l)).1
+
 -- the payloads of the network of the next place are added if it is not longer than the route
 pub covering_more : (vrps group found : List Payload) (n : Network) (places : List Place) (next : Place)
     → HasCovering vrps n places found → IsGroup vrps (ip_network next.now.0) group
     → InBlock (ip_network next.now.0) (own n) → (ip_network next.now.0).prefix_len ≤ n.prefix_len
+    → ((b : Place) → Contains places b → (ip_network next.now.0).prefix_len ≤ (ip_network b.now.0).prefix_len)
     → HasCovering vrps n (places ++ next ∷ []) (found ++ group)
-covering_more vrps group found n places next has is holds short = record {
+covering_more vrps group found n places next has is holds short longer = record {
   sound = λ vrp c. elim (Contains-append_cases found group vrp c) [
     | inl old ↦ has.sound vrp old
     | inr new ↦
@@ -128,6 +162,17 @@ covering_more vrps group found n places next has is holds short = record {
     | inr e ↦ Contains-append_right found group vrp
         ((is vrp).1 (there, same ∙ ap (λ z. ip_network z.now.0) (sym e)))
   ];
+  of_places = λ vrp c. elim (Contains-append_cases found group vrp c) [
+    | inl old ↦
+        let (b, at, e) = has.of_places vrp old in (b, Contains-append_left places (next ∷ []) b at, e)
+    | inr new ↦ (next, Contains-push places next, ((is vrp).0 new).1)
+  ];
+  longest_first = pairs_append
+      (λ vrp later. (ip_network later.network).prefix_len ≤ (ip_network vrp.network).prefix_len) found group
+      has.longest_first (group_pairs vrps group (ip_network next.now.0) is)
+      (λ vrp later old new.
+      let (b, at, e) = has.of_places vrp old in
+      subst₂ (λ k m. k.prefix_len ≤ m.prefix_len) (sym ((is later).0 new).1) (sym e) (longer b at));
 }
 
 -- no payload of a longer network covers the route
@@ -141,6 +186,9 @@ covering_same vrps found n places next has long = record {
     | inr e ↦ absurd (long (subst (λ k. k.prefix_len ≤ n.prefix_len)
         (same ∙ ap (λ z. ip_network z.now.0) (sym e)) covered.no_longer))
   ];
+  of_places = λ vrp c.
+      let (b, at, e) = has.of_places vrp c in (b, Contains-append_left places (next ∷ []) b at, e);
+  longest_first = has.longest_first;
 }
 
 -- after the whole walk the list has exactly the payloads that cover the route

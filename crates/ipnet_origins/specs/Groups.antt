@@ -1,5 +1,5 @@
--- Payloads in the order of their networks: the payloads of one network are neighbours, a group. Only private contracts
--- use these.
+-- Payloads in the order of their networks: the payloads of one network are neighbours, a group. A table promises
+-- `AreInOrder` of its payloads; only private contracts use the others.
 use Rattle.std.specs.Prelude.{◌≡◌, ◌≢◌, ℕ, ◌<◌, ◌≤◌, ◌↔◌, List, length, get_or, Contains}
 use Rattle.ipnet_base.specs.Network.{Network, IsBefore}
 use Rattle.ipnet.specs.declared.net.IpNet.{IpNet}
@@ -11,7 +11,8 @@ use Rattle.ipnet_origins.specs.declared.payload.Payload.{Payload}
 abbrev pub network_of : Payload → Network
 network_of vrp = ip_network vrp.network
 
--- no payload has a network before the network of an earlier one
+-- No payload has a network before the network of an earlier one.
+-- Example: 192.0.2.0/24, 192.0.2.0/24, 198.51.100.0/24, 2001:db8::/32.
 abbrev pub AreInOrder : List Payload → Type 0
 AreInOrder vrps = (i j : ℕ) (d : Payload) → i ≤ j → j < length vrps
     → ¬ (IsBefore (network_of (get_or vrps j d)) (network_of (get_or vrps i d)))

@@ -1,7 +1,7 @@
 -- Validation of the origin of a route by validated ROA payloads (VRPs): RFC 6811, section 2; RFC 6483, section 4;
 -- RFC 7607. A route has a network and an origin, the AS number that announced it. The origin `None` is the value "NONE"
 -- of RFC 6811: the path ends with a set of AS numbers, so no single AS is the origin.
-use Rattle.std.specs.Prelude.{◌≡◌, ◌≢◌, ℕ, ◌≤◌, Option, Some, List, Any}
+use Rattle.std.specs.Prelude.{◌≡◌, ◌≢◌, ℕ, ◌≤◌, Option, Some, List, Any, AllPairs}
 use Rattle.ipnet_base.specs.Network.{Network, InBlock}
 use Rattle.ipnet.specs.NetworkOf.{ip_network}
 use Rattle.ipnet.specs.NetworkParts.{own_address}
@@ -36,3 +36,9 @@ abbrev pub IsValidity : List Payload → Network → Option ℕ → Validity →
 IsValidity vrps route origin Valid = Any (IsMatched route origin) vrps
 IsValidity vrps route origin Invalid = Any (IsCovered route) vrps × ¬ (Any (IsMatched route origin) vrps)
 IsValidity vrps route origin NotFound = ¬ (Any (IsCovered route) vrps)
+
+-- No payload comes after a payload with a shorter network.
+-- Example: the payloads of 192.0.2.0/25, 192.0.2.0/24, 192.0.2.0/24 and 192.0.0.0/16, in this order.
+abbrev pub AreLongestFirst : List Payload → Type 0
+AreLongestFirst vrps =
+    AllPairs (λ vrp later. (ip_network later.network).prefix_len ≤ (ip_network vrp.network).prefix_len) vrps

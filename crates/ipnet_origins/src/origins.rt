@@ -1,5 +1,5 @@
 //! Tables of validated ROA payloads, and the validity of the origin of a route.
-ghost use Rattle.std.specs.Prelude.{◌≡◌, ◌↔◌, IsTrue, Any, Contains, IfOk, IsPermutation};
+ghost use Rattle.std.specs.Prelude.{◌≡◌, ◌↔◌, IsTrue, Any, Contains, IfOk, IsOk, IsPermutation};
 ghost use Rattle.ipnet.specs.NetworkOf.{ip_network};
 ghost use Rattle.ipnet_routes.specs.RoutesOf.{routes_of};
 ghost use Rattle.ipnet_origins.specs.Groups.{AreInOrder, AreLasts};
@@ -40,7 +40,7 @@ pub struct OriginTable {
 
 impl OriginTable {
     ghost use Rattle.ipnet_origins.specs.OriginsOf.{payloads_of};
-    ghost use Rattle.ipnet_origins.specs.Origins.{IsValidity};
+    ghost use Rattle.ipnet_origins.specs.Origins.{IsValidity, AreLongestFirst};
 
     /// Returns the table of the payloads, in any order. They may overlap and repeat. Fails only if memory runs out.
     ///
@@ -64,7 +64,8 @@ impl OriginTable {
     /// the table of 198.51.100.0/24 with 24 and AS 64497, 192.0.2.0/24 with 25 and AS 64496: the second, then the first
     /// ```
     pub fn payloads(&self) -> &[Payload]
-        ensures { result.now ≡ payloads_of self.now }
+        ensures payloads { result.now ≡ payloads_of self.now }
+        ensures order { AreInOrder (payloads_of self.now) }
     {
         self.payloads.as_slice()
     }
@@ -123,8 +124,10 @@ impl OriginTable {
     /// for 192.0.2.0/24 the first, then the second
     /// ```
     pub fn covering(&self, alloc: Global, network: &IpNet) -> Result<Vec<Payload>, AllocError>
-        ensures { IfOk result (λ covering. (vrp : Payload) → Contains covering.items vrp
+        ensures empty { ¬ (Any (IsCovered (ip_network network.now)) (payloads_of self.now)) → IsOk result }
+        ensures members { IfOk result (λ covering. (vrp : Payload) → Contains covering.items vrp
             ↔ (Contains (payloads_of self.now) vrp × IsCovered (ip_network network.now) vrp)) }
+        ensures longest_first { IfOk result (λ covering. AreLongestFirst covering.items) }
     {
         let payloads = self.payloads.as_slice();
         let mut covering = Vec::new(alloc);
