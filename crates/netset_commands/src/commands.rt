@@ -6,6 +6,7 @@ use crate::bar::bar_command;
 use crate::changes::changes_command;
 use crate::entries::{overlaps_command, redundant_command, supernet_command};
 use crate::extract::extract_command;
+use crate::fit::fit_command;
 use crate::forms::operation_command;
 use crate::listing::{hosts_command, split_command};
 use crate::map::map_command;
@@ -180,7 +181,7 @@ fn early_command<'a>(alloc: Global, place: usize) -> Result<Command<'a>, AllocEr
 /// The number of the places of `early_command`, and of all places.
 const EARLY_PLACES: usize = 12;
 
-const PLACES: usize = 23;
+const PLACES: usize = 24;
 
 /// The command at this place of help, if it is one of the last.
 #[inline(never)]
@@ -190,12 +191,13 @@ fn late_command<'a>(alloc: Global, place: usize) -> Result<Command<'a>, AllocErr
         13 => bar_command(alloc),
         14 => map_command(alloc),
         15 => supernet_command(alloc),
-        16 => redundant_command(alloc),
-        17 => overlaps_command(alloc),
-        18 => split_command(alloc),
-        19 => hosts_command(alloc),
-        20 => permitted_command(alloc),
-        21 => unreached_command(alloc),
+        16 => fit_command(alloc),
+        17 => redundant_command(alloc),
+        18 => overlaps_command(alloc),
+        19 => split_command(alloc),
+        20 => hosts_command(alloc),
+        21 => permitted_command(alloc),
+        22 => unreached_command(alloc),
         _ => prefix_command(alloc),
     }
 }

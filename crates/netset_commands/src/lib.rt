@@ -8,6 +8,7 @@ mod changes;
 mod commands;
 mod entries;
 mod extract;
+mod fit;
 mod forms;
 mod input;
 mod leftovers;

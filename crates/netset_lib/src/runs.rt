@@ -164,11 +164,7 @@ impl<C: LineCause> Report for ListFailure<C> {
     fn report<X: Write>(&self, names: &[&str], faults: &mut X) -> io::Result<()> {
         match self {
             ListFailure::Refused(lines) => {
-                report_refused(
-                    faults,
-                    names.last().copied().unwrap_or("list"),
-                    lines.as_slice(),
-                )
+                report_refused(faults, names.last().copied().unwrap_or("list"), lines)
             }
             ListFailure::Memory => report_words(faults, OUT_OF_MEMORY),
         }
@@ -234,8 +230,12 @@ impl Ended {
     }
 }
 
-/// Reports the failure, and ends with its status.
-fn end_with<F: Report, X: Write>(failure: &F, names: &[&str], faults: &mut X) -> Ended
+/// Reports the failure, and ends with its status. If a write fails, a front of the report has been written.
+///
+/// ```text
+/// out of memory: status 2, and faults gets "netset: out of memory\n"
+/// ```
+pub fn end_with<F: Report, X: Write>(failure: &F, names: &[&str], faults: &mut X) -> Ended
     ensures status { result.status ≡ F.exit failure.now }
     ensures least { 1 ≤ result.status }
     ensures most { result.status ≤ 2 }
@@ -256,8 +256,13 @@ fn end_with<F: Report, X: Write>(failure: &F, names: &[&str], faults: &mut X) ->
     }
 }
 
-/// Reports that the output cannot be written, and ends with status 2.
-fn end_unwritable<X: Write>(faults: &mut X) -> Ended
+/// Reports that the output cannot be written, and ends with status 2. If a write fails, a front of the report has been
+/// written.
+///
+/// ```text
+/// status 2, and faults gets "netset: output cannot be written\n"
+/// ```
+pub fn end_unwritable<X: Write>(faults: &mut X) -> Ended
     ensures status { result.status ≡ 2 }
     ensures whole { IsTrue result.is_reported → IsWritten (λ t. t ≡ words_line unwritable)
         (X.contents faults.old) (X.contents faults.new) }
