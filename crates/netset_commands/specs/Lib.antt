@@ -1,6 +1,7 @@
 -- The definitions that the contracts of this crate use.
 pub mod Arguments
 pub mod Calls
+pub mod CommandLines
 pub mod Files
 pub mod Logs
 pub mod MapTitles

@@ -1,11 +1,12 @@
 //! The command `fit`: its arguments, and its run.
 use crate::arguments::{
-    ArgumentFailure, FIRST, any_files, command_of, reads_input_twice, report_argument_failure,
+    ANY_LISTS, ArgumentFailure, FIRST, SHARED, reads_input_twice, report_argument_failure,
 };
 use crate::input::STANDARD_INPUT;
 use crate::output::Writers;
 use crate::reading::{reading_work, session_of};
-use clap::{Arg, ArgMatches, Command};
+use crate::table::{ARGUMENT, Argument, Form, Subcommand};
+use clap::ArgMatches;
 use netset_entries::{FitCommand, FitLimit, FitRequest, run_fit};
 use netset_lib::read_number;
 use std::alloc::{AllocError, Global};
@@ -23,44 +24,42 @@ const SPARE: &str = "spare";
 
 const NEVER: &str = "never";
 
-/// An option with a number.
-fn number_option<'a>(alloc: Global, id: &'a str, name: &'a str, help: &'a str) -> Arg<'a> {
-    Arg::new(alloc, id)
-        .long(name)
-        .value_name("NUMBER")
-        .help(help)
-}
-
-/// Adds the options for the limits.
-#[inline(never)]
-fn with_limits<'a>(alloc: Global, command: Command<'a>) -> Result<Command<'a>, AllocError> {
-    let ipv4 = "At most this number of IPv4 networks, which add as few addresses as possible";
-    let ipv6 = "At most this number of IPv6 networks, which add as few addresses as possible";
-    let spare =
-        "As few networks as possible, which add at most this percentage of each family's addresses";
-    let spare = number_option(alloc, SPARE, "spare", spare)
-        .value_name("PERCENT")
-        .conflicts_with(IPV4_LIMIT)?
-        .conflicts_with(IPV6_LIMIT)?;
-    command
-        .arg(number_option(alloc, IPV4_LIMIT, "ipv4", ipv4))?
-        .arg(number_option(alloc, IPV6_LIMIT, "ipv6", ipv6))?
-        .arg(spare)
-}
-
 /// The command `fit`.
-#[inline(never)]
-pub fn fit_command<'a>(alloc: Global) -> Result<Command<'a>, AllocError> {
-    let about =
-        "The best networks within a limit that contain all addresses of the lists; status 1 if none exist";
-    let never = Arg::new(alloc, NEVER)
-        .long(NEVER)
-        .value_name("FILE")
-        .help("A list of addresses that the networks may not contain");
-    with_limits(alloc, command_of(alloc, FIT, about)?)?
-        .arg(never)?
-        .arg(any_files(alloc))
-}
+pub const FIT_COMMAND: Subcommand = Subcommand {
+    name: FIT,
+    about: "The best networks within a limit that contain all addresses of the lists; status 1 if none exist",
+    arguments: &[
+        SHARED,
+        &[
+            Argument {
+                id: IPV4_LIMIT,
+                form: Form::Value("ipv4", "NUMBER"),
+                help: "At most this number of IPv4 networks, which add as few addresses as possible",
+                ..ARGUMENT
+            },
+            Argument {
+                id: IPV6_LIMIT,
+                form: Form::Value("ipv6", "NUMBER"),
+                help: "At most this number of IPv6 networks, which add as few addresses as possible",
+                ..ARGUMENT
+            },
+            Argument {
+                id: SPARE,
+                form: Form::Value(SPARE, "PERCENT"),
+                help: "As few networks as possible, which add at most this percentage of each family's addresses",
+                conflicts: &[IPV4_LIMIT, IPV6_LIMIT],
+                ..ARGUMENT
+            },
+            Argument {
+                id: NEVER,
+                form: Form::Value(NEVER, "FILE"),
+                help: "A list of addresses that the networks may not contain",
+                ..ARGUMENT
+            },
+            ANY_LISTS,
+        ],
+    ],
+};
 
 /// Reads the number of the option, or `None` if it is omitted. If the word is not a number, it is reported, and the
 /// error is the exit status.

@@ -24,6 +24,7 @@ mod reading;
 mod replacement;
 mod rules;
 mod stream;
+mod table;
 mod texts;
 mod whole_lines;
 
