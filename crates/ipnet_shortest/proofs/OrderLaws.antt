@@ -25,7 +25,7 @@ use Rattle.ipnet_shortest.proofs.PartLaws.{are_halves, bits_r, family_l, family_
 div_more : (x y size : ℕ) → 0 < size → x ≤ y → x / size ≤ y / size
 div_more x y size some le = le-div (x / size) y size some (omega (arith, div-mul-le_self x size, le))
 
--- all addresses of the half with the first block are before those of the other half
+-- each address of the half with the first block is before each address of the other half
 module _ (around l r n k : Network) (u : IsNetwork around) (v : IsNetwork l) (w : IsNetwork r) (t : IsTruncated around)
     (of_n : IsHalfWith around n l) (of_k : IsHalfWith around k r) (out : ¬ (IsSubnetOf k l))
     (ascending : n.number ≤ k.number) where
