@@ -128,6 +128,7 @@ module _ (around : IpNet) (blocks : List IpNet) (h : AreBlocksIn (map ip_network
         (subst (λ m. IsSubnetOf m (ip_network l)) (sym (place_of count k next less)) sub)
 
     pub are_ordered : AreHalvesOf (ip_network l) (ip_network r) (ip_network around)
+    unfolding block_in
     are_ordered = halves_of (ip_network around) (ip_network l) (ip_network r) (ip_network a) (ip_network k)
         (ip_valid around) (ip_valid l) (ip_valid r) h.truncated of_a of_k out
         (pair_at (λ n m. n.number ≤ m.number) (map ip_network blocks) h.ascending (ip_network a) (ip_network k)

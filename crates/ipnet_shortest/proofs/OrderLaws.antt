@@ -25,17 +25,14 @@ use Rattle.ipnet_shortest.proofs.PartLaws.{are_halves, bits_r, family_l, family_
 div_more : (x y size : ℕ) → 0 < size → x ≤ y → x / size ≤ y / size
 div_more x y size some le = le-div (x / size) y size some (omega (arith, div-mul-le_self x size, le))
 
--- all addresses of the half with the first block are before those of the other half
+-- each address of the half with the first block is before each address of the other half
 module _ (around l r n k : Network) (u : IsNetwork around) (v : IsNetwork l) (w : IsNetwork r) (t : IsTruncated around)
     (of_n : IsHalfWith around n l) (of_k : IsHalfWith around k r) (out : ¬ (IsSubnetOf k l))
     (ascending : n.number ≤ k.number) where
-  size : ℕ
-  size = 2 ^ host_bits l
-
-  some : 0 < size
+  some : 0 < 2 ^ host_bits l
   some = pow_pos (host_bits l)
 
-  at_r : (x : Address) → InBlock r x → x.number / size ≡ r.number / size
+  at_r : (x : Address) → InBlock r x → x.number / 2 ^ host_bits l ≡ r.number / 2 ^ host_bits l
   at_r x a = subst (λ b. x.number / 2 ^ b ≡ r.number / 2 ^ b)
       (bits_r around l r n k u v w t of_n of_k out) a.same_prefix
 
@@ -49,8 +46,8 @@ module _ (around l r n k : Network) (u : IsNetwork around) (v : IsNetwork l) (w 
         arith,
         a.same_prefix,
         at_r y b,
-        div_more y.number x.number size some le,
-        div_more n.number k.number size some ascending,
+        div_more y.number x.number (2 ^ host_bits l) some le,
+        div_more n.number k.number (2 ^ host_bits l) some ascending,
         (of_n.holds (own n) (own_in n)).same_prefix,
         at_r (own k) (of_k.holds (own k) (own_in k)),
       )))

@@ -11,6 +11,7 @@ use Rattle.ipnet_base.specs.Address.{Family, IPv4, IPv6, Address}
 use Rattle.ipnet_base.specs.Network.{Network}
 use Rattle.ipnet_base.specs.Blocks.{IsCoveredBy}
 use Rattle.ipnet_lists.specs.Lists.{ListEntry, IsInEntries}
+use Rattle.ipnet_lists.specs.Names.{Names}
 use Rattle.ipnet_sets.specs.declared.set.IpSet.{IpSet}
 use Rattle.ipnet_sets.specs.Members.{IsMember, IsCountOf}
 use Rattle.ipnet_shortest.specs.Covers.{IsAdded, IsCoverWithin, IsBestCover, HasCoverWithin}
@@ -19,14 +20,24 @@ use Rattle.ipnet_shortest.proofs.CountLaws.{same_count, one_count}
 use Rattle.ipnet_sets.specs.ManySets.{IsInSome}
 use Rattle.netset_lib.specs.ListSets.{HaveMembers}
 use Rattle.netset_lib.specs.SetsOf.{AreSetsOf}
+use Rattle.netset_lib.specs.Reports.{words_line}
+use Rattle.netset_lib.specs.Runs.{OfCombined, IsFault, HasNoResult, exit_of_fault}
 use Rattle.netset_lib.specs.declared.answer.Request.{Request}
+use Rattle.netset_lib.specs.declared.failure.Failure.{Failure}
+use Rattle.netset_lib.specs.declared.runs.Fault.{Fault}
+use Rattle.netset_lib.specs.declared.runs.Fault.TheVariants.{Lists, Other}
+use Rattle.netset_lib.specs.declared.session.Session.{Session}
 use Rattle.netset_lib.proofs.CountTexts.{counts_same}
 use Rattle.netset_lib.proofs.SameResults.{some_same}
+use Rattle.netset_entries.specs.declared.fit.FitFailure.{FitFailure}
+use Rattle.netset_entries.specs.declared.fit.FitFailure.TheVariants.{NoList, Memory}
 use Rattle.netset_entries.specs.declared.fit.FitLimit.{FitLimit}
 use Rattle.netset_entries.specs.declared.fit.FitLimit.TheVariants.{Networks, Spare}
 use Rattle.netset_entries.specs.declared.fit.FitRequest.{FitRequest}
 use Rattle.netset_entries.specs.FittedLists.{percent_of, IsFitted, HasFit, HaveFits, AreFitted, IsAddedReport}
 use Rattle.netset_entries.specs.FittedLists.{IsFittedText, IsWanted, IsUnwanted, IsFitAnswer, HasNoFitAnswer}
+use Rattle.netset_entries.specs.FittedLists.{IsFitReason, IsFitReported, IsFitReportBegun, IsReportedAs}
+use Rattle.netset_entries.specs.FittedLists.{fit_words, exit_of_fit}
 use Rattle.netset_entries.specs.Supernets.{IsOfFamily}
 
 -- ---- the fewest networks, for a percentage
@@ -229,3 +240,16 @@ module _ (request : FitRequest) (r : Request) (lists : List (List ℕ)) (sets le
     read = read.read;
     none = λ h. out (fits_same Wanted (IsMember set) Unwanted (IsMember never) (back set_is) (back never_is) request h);
   }
+
+-- ---- the report of a failure
+
+-- at status 1 a family has no networks within its limit, and this is reported
+pub none_reported : (request : FitRequest) (session : Session) (why : Fault Failure FitFailure) (names : Names)
+    → (held held_after : Option (List ℕ)) (sure : Type 0)
+    → IsFault (HasNoResult session) (IsFitReason request session) why → exit_of_fault (λ _. 2) exit_of_fit why ≡ 1
+    → IsFitReportBegun why names held held_after → (sure → IsFitReported why names held held_after)
+    → OfCombined (HasNoFitAnswer request) session
+    × IsReportedAs (words_line (fit_words NoList)) held held_after sure
+none_reported request session (Lists failure) names held held_after sure is one begun whole = absurd (cc)
+none_reported request session (Other NoList) names held held_after sure is one begun whole = (is refl, begun, whole)
+none_reported request session (Other Memory) names held held_after sure is one begun whole = absurd (cc)

@@ -1,4 +1,4 @@
--- What the networks cover and the set lacks is added.
+-- The added addresses are those that the networks cover and the set lacks.
 use Rattle.std.proofs.Common.{◌++◌, ap, ◌∙◌, codes, map}
 use Rattle.ipnet.specs.NetworkOf.{ip_network}
 use Rattle.ipnet_sets.specs.Members.{IsMember}

@@ -347,6 +347,11 @@ returns-then-blocks-eq1-clause-order t c = λ trunc.
     (c.single.ensures.order (block_at IsTruncated c.args.blocks.now trunc 0 a c.index-blocks-0.is
     (omega (arith, c.if-blocks-eq1.true))))
 
+pub returns-then-count-blocks-clause-within : goal.returns-then-count-blocks-clause-within
+returns-then-count-blocks-clause-within t c =
+    around_within c.part.result (ip_network c.half_with-first_half.result) (ip_network c.args.around.now)
+    c.half_with-first_half.ensures.within c.part.ensures.within
+
 pub returns-then-count-blocks-clause-order : goal.returns-then-count-blocks-clause-order
 returns-then-count-blocks-clause-order t c = λ trunc.
     order_within c.part.result (ip_network c.half_with-first_half.result) (ip_network c.args.around.now)
