@@ -3,6 +3,7 @@ pub mod Arguments
 pub mod Calls
 pub mod CommandLines
 pub mod Files
+pub mod FitOptions
 pub mod Logs
 pub mod MapTitles
 pub mod Statuses

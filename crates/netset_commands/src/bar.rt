@@ -8,10 +8,9 @@ ghost use Rattle.netset_commands.specs.Words.{IsFrameOf, IsPicturedWork, mark_ch
 ghost use Rattle.netset_pictures.specs.BarAnswers.{width_text};
 
 use crate::arguments::{
-    ANY_LISTS, ArgumentFailure, FIRST, SHARED, flags_of, is_set, reads_input_twice,
+    ANY_LISTS, ArgumentFailure, SHARED, any_names, flags_of, is_set, reads_input_twice,
     report_argument_failure,
 };
-use crate::input::STANDARD_INPUT;
 use crate::listing::network_or_report;
 use crate::lists::Reports;
 use crate::output::Writers;
@@ -111,6 +110,14 @@ pub const FRAME: &[Argument] = &[
     },
 ];
 
+/// The flag that compares two lists.
+const COMPARE_FLAG: Argument = Argument {
+    id: COMPARE,
+    form: Form::Flag(COMPARE),
+    help: "Compare two lists: - only in the first, + only in the second, = in both; status 1 if they differ",
+    ..ARGUMENT
+};
+
 /// The command `bar`.
 pub const BAR_COMMAND: Subcommand = Subcommand {
     name: BAR,
@@ -118,18 +125,7 @@ pub const BAR_COMMAND: Subcommand = Subcommand {
     arguments: &[
         SHARED,
         FRAME,
-        &[
-            ASCII_FLAG,
-            UTF8_FLAG,
-            WIDTH_OPTION,
-            Argument {
-                id: COMPARE,
-                form: Form::Flag(COMPARE),
-                help: "Compare two lists: - only in the first, + only in the second, = in both; status 1 if they differ",
-                ..ARGUMENT
-            },
-            ANY_LISTS,
-        ],
+        &[ASCII_FLAG, UTF8_FLAG, WIDTH_OPTION, COMPARE_FLAG, ANY_LISTS],
     ],
 };
 
@@ -298,7 +294,7 @@ pub fn draw_bar(rt: &HostRuntime, matches: &ArgMatches, writers: &mut Writers<'_
         Ok(request) => request,
         Err(status) => return status,
     };
-    let names = matches.get_strs(FIRST).unwrap_or(&[STANDARD_INPUT]);
+    let names = any_names(matches);
     let session = match read_pictured(rt, matches, names, writers.reports) {
         Ok(session) => session,
         Err(status) => return status,

@@ -1,8 +1,10 @@
 //! The command `fit`: its arguments, and its run.
+ghost use Rattle.std.specs.Prelude.{◌≡◌, ◌≤◌, map, codes, IfOk, IfErr};
+ghost use Rattle.netset_commands.specs.FitOptions.{fit_names, limit_of, IsFitRequest, IsNumberGiven};
+
 use crate::arguments::{
-    ANY_LISTS, ArgumentFailure, FIRST, SHARED, reads_input_twice, report_argument_failure,
+    ANY_LISTS, ArgumentFailure, SHARED, any_names, reads_input_twice, report_argument_failure,
 };
-use crate::input::STANDARD_INPUT;
 use crate::output::Writers;
 use crate::reading::{reading_work, session_of};
 use crate::table::{ARGUMENT, Argument, Form, Subcommand};
@@ -61,24 +63,34 @@ pub const FIT_COMMAND: Subcommand = Subcommand {
     ],
 };
 
+/// Prints that the word is not a number, and returns the status.
+fn report_number(rt: &HostRuntime, word: &str) -> u8
+    ensures { result ≡ 2 }
+{
+    let word = word.as_bytes().escape_ascii();
+    let _ = writeln!(rt.stderr(), "netset: not a number up to 4294967295: {word}");
+    2
+}
+
 /// Reads the number of the option, or `None` if it is omitted. If the word is not a number, it is reported, and the
 /// error is the exit status.
-fn number_of(rt: &HostRuntime, matches: &ArgMatches, id: &str) -> Result<Option<u32>, u8> {
-    let Some(word) = matches.get_str(id) else {
-        return Ok(None);
-    };
-    match read_number(word) {
-        Some(number) => Ok(Some(number)),
-        None => {
-            let word = word.as_bytes().escape_ascii();
-            let _ = writeln!(rt.stderr(), "netset: not a number up to 4294967295: {word}");
-            Err(2)
-        }
+fn number_of(rt: &HostRuntime, matches: &ArgMatches, id: &str) -> Result<Option<u32>, u8>
+    ensures number { IfOk result (IsNumberGiven matches.now id.now) }
+    ensures failed { IfErr result (λ status. status ≡ 2) }
+{
+    match matches.get_str(id) {
+        Some(word) => match read_number(word) {
+            Some(number) => Ok(Some(number)),
+            None => Err(report_number(rt, word)),
+        },
+        None => Ok(None),
     }
 }
 
 /// The limit of a family: the number of networks, or else the percentage.
-fn limit_of(number: Option<u32>, percent: u32) -> FitLimit {
+fn limit_of(number: Option<u32>, percent: u32) -> FitLimit
+    ensures { result ≡ limit_of number percent }
+{
     match number {
         Some(number) => FitLimit::Networks(number as usize),
         None => FitLimit::Spare(percent),
@@ -87,7 +99,10 @@ fn limit_of(number: Option<u32>, percent: u32) -> FitLimit {
 
 /// Reads the limits. If a word is not a number, or if there is no limit, it is reported, and the error is the exit
 /// status. A family without a limit keeps its addresses as they are.
-fn request_of(rt: &HostRuntime, matches: &ArgMatches) -> Result<FitRequest, u8> {
+fn request_of(rt: &HostRuntime, matches: &ArgMatches) -> Result<FitRequest, u8>
+    ensures request { IfOk result (IsFitRequest matches.now) }
+    ensures failed { IfErr result (λ status. status ≡ 2) }
+{
     let ipv4 = number_of(rt, matches, IPV4_LIMIT)?;
     let ipv6 = number_of(rt, matches, IPV6_LIMIT)?;
     let percent = number_of(rt, matches, SPARE)?;
@@ -104,18 +119,22 @@ fn request_of(rt: &HostRuntime, matches: &ArgMatches) -> Result<FitRequest, u8> 
 }
 
 /// The names of the lists: first the list to avoid, if there is one, and then the others.
-fn names_of<'a>(alloc: Global, matches: &ArgMatches<'a>) -> Result<Vec<&'a str>, AllocError> {
+fn names_of<'a>(alloc: Global, matches: &ArgMatches<'a>) -> Result<Vec<&'a str>, AllocError>
+    ensures { IfOk result (λ names. map (λ name. name.now) names.items ≡ fit_names matches.now) }
+{
     let mut names = Vec::new(alloc);
     if let Some(never) = matches.get_str(NEVER) {
         names.push(never)?;
     }
-    names.extend_from_slice(matches.get_strs(FIRST).unwrap_or(&[STANDARD_INPUT]))?;
+    names.extend_from_slice(any_names(matches))?;
     Ok(names)
 }
 
 /// Reads the arguments and the lists, prints the networks within the limits, and returns the exit status.
 #[inline(never)]
-pub fn fit_lists(rt: &HostRuntime, matches: &ArgMatches, writers: &mut Writers<'_>) -> u8 {
+pub fn fit_lists(rt: &HostRuntime, matches: &ArgMatches, writers: &mut Writers<'_>) -> u8
+    ensures { result ≤ 2 }
+{
     let request = match request_of(rt, matches) {
         Ok(request) => request,
         Err(status) => return status,

@@ -28,7 +28,7 @@ pub struct Argument {
     pub id: &'static str,
     /// How it is written.
     pub form: Form,
-    /// What help says of it.
+    /// Its description in help.
     pub help: &'static str,
     /// Whether it may not be omitted.
     pub is_required: bool,
@@ -44,7 +44,7 @@ pub struct Argument {
     pub needs: &'static [&'static str],
 }
 
-/// What most arguments have.
+/// The fields that most arguments have.
 pub const ARGUMENT: Argument = Argument {
     id: "",
     form: Form::Word(""),
@@ -62,7 +62,7 @@ pub const ARGUMENT: Argument = Argument {
 pub struct Subcommand {
     /// Its name.
     pub name: &'static str,
-    /// What help says of it.
+    /// Its description in help.
     pub about: &'static str,
     /// Its arguments, in the order in which help lists them.
     pub arguments: &'static [&'static [Argument]],

@@ -1,4 +1,4 @@
--- the names so far and those of the other rows are all
+-- the names so far and the names of the other rows are all names
 use Rattle.std.proofs.Common.{◌≡◌, ◌++◌, drop}
 use Rattle.netset_commands.specs.CommandLines.{command_names, names_in}
 use Rattle.netset_commands.proofs.commands.with_commands.Given as goal

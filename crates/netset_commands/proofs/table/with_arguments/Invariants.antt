@@ -1,4 +1,4 @@
--- the ids so far and those of the other arguments are all
+-- the ids so far and the ids of the other arguments are all ids
 use Rattle.std.proofs.Common.{◌≡◌, ◌++◌, drop}
 use Rattle.clap.specs.Words.{fields_of}
 use Rattle.netset_commands.specs.CommandLines.{ids_in, ids_of}
