@@ -27,7 +27,7 @@ const NEVER: &str = "never";
 fn number_option<'a>(alloc: Global, id: &'a str, name: &'a str, help: &'a str) -> Arg<'a> {
     Arg::new(alloc, id)
         .long(name)
-        .value_name("NUMBER")
+        .value_name("N")
         .help(help)
 }
 
