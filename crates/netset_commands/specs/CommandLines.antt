@@ -1,8 +1,9 @@
 -- The command line: its commands by name, and their arguments by id.
 use Rattle.std.specs.Prelude.{◌≡◌, ℕ, List, map, flat_map}
 use Rattle.std.specs.Borrow.{Bor}
-use Rattle.clap.specs.Words.{args_of, fields_of, subcommands_of}
+use Rattle.clap.specs.Facts.{args_of, subcommands_of}
 use Rattle.clap.specs.declared.builder.command.Command.{Command}
+use Rattle.clap.specs.declared.builder.command.Command.TheViews.{out-Command}
 use Rattle.netset_commands.specs.declared.table.Argument.{Argument}
 use Rattle.netset_commands.specs.declared.table.Subcommand.{Subcommand}
 
@@ -18,9 +19,13 @@ ids_in_groups groups = flat_map (λ arguments. ids_in arguments.now) groups
 abbrev pub ids_of : Command → List (List ℕ)
 ids_of command = map (λ arg. arg.id.now) (args_of command)
 
+-- The name of a command.
+abbrev pub command_name : Command → List ℕ
+command_name command = (out-Command command).name.now
+
 -- The command has the name and the arguments of a row of the table.
 pub record IsOfRow (row : Subcommand) (command : Command) : Type 0 where
-  pub name : (fields_of command).name.now ≡ row.name.now
+  pub name : command_name command ≡ row.name.now
   pub ids : ids_of command ≡ ids_in_groups row.arguments.now
 
 -- The names of the commands in the table.
@@ -29,4 +34,4 @@ names_in rows = map (λ row. row.name.now) rows
 
 -- The names of a program's commands, in the order in which help lists them.
 abbrev pub command_names : Command → List (List ℕ)
-command_names command = map (λ c. (fields_of c).name.now) (subcommands_of command)
+command_names command = map command_name (subcommands_of command)

@@ -35,13 +35,13 @@ pub const FIT_COMMAND: Subcommand = Subcommand {
         &[
             Argument {
                 id: IPV4_LIMIT,
-                form: Form::Value("ipv4", "NUMBER"),
+                form: Form::Value("ipv4", "N"),
                 help: "At most this number of IPv4 networks, which add as few addresses as possible",
                 ..ARGUMENT
             },
             Argument {
                 id: IPV6_LIMIT,
-                form: Form::Value("ipv6", "NUMBER"),
+                form: Form::Value("ipv6", "N"),
                 help: "At most this number of IPv6 networks, which add as few addresses as possible",
                 ..ARGUMENT
             },

@@ -1,7 +1,6 @@
 //! Commands and their arguments as tables, and what `clap` makes of them.
 ghost use Rattle.std.specs.Prelude.{◌≡◌, ◌++◌, IfOk};
-ghost use Rattle.clap.specs.Words.{fields_of};
-ghost use Rattle.netset_commands.specs.CommandLines.{ids_in, ids_of, IsOfRow};
+ghost use Rattle.netset_commands.specs.CommandLines.{command_name, ids_in, ids_of, IsOfRow};
 
 use clap::{Arg, ArgAction, Command};
 use std::alloc::{AllocError, Global};
@@ -119,7 +118,7 @@ fn with_arguments<'a>(
     mut command: Command<'a>,
     arguments: &[Argument],
 ) -> Result<Command<'a>, AllocError>
-    ensures name { IfOk result (λ r. (fields_of r).name.now ≡ (fields_of command.entry).name.now) }
+    ensures name { IfOk result (λ r. command_name r ≡ command_name command.entry) }
     ensures ids { IfOk result (λ r. ids_of r ≡ ids_of command.entry ++ ids_in arguments.now) }
 {
     for argument in arguments {

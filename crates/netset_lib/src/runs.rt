@@ -6,7 +6,7 @@ ghost use Rattle.ipnet_lists.specs.Names.{Names};
 ghost use Rattle.ipnet_lists.specs.Reports.{OfNew, IsReport};
 ghost use Rattle.ipnet_lists.specs.Reports as lists;
 ghost use Rattle.ipnet_text.specs.Outputs.{IsWritten, IsFrontWritten};
-ghost use Rattle.netset_lib.specs.ListReports.{IsListReported};
+ghost use Rattle.netset_lib.specs.ListReports.{IsListReport, IsListBegun};
 ghost use Rattle.netset_lib.specs.Reports.{IsFailureReport, IsFailureBegun, words_line, unwritable};
 ghost use Rattle.netset_lib.specs.Runs.{IsReported, IsReportBegun, OfFault, exit_of_fault};
 ghost use Rattle.netset_lib.specs.declared.runs.Fault.TheVariants.{Lists};
@@ -153,9 +153,9 @@ impl Report for Failure {
 impl<C: LineCause> Report for ListFailure<C> {
     ghost exit = { λ _. 2 };
 
-    ghost is_reported = { λ failure _. IsListReported IsWritten failure };
+    ghost is_reported = { λ failure names. IsWritten (IsListReport C.explains failure names) };
 
-    ghost is_begun = { λ failure _. IsListReported IsFrontWritten failure };
+    ghost is_begun = { λ failure names. IsFrontWritten (IsListBegun C.explains failure names) };
 
     fn status(&self) -> u8 {
         2
@@ -164,7 +164,7 @@ impl<C: LineCause> Report for ListFailure<C> {
     fn report<X: Write>(&self, names: &[&str], faults: &mut X) -> io::Result<()> {
         match self {
             ListFailure::Refused(lines) => {
-                report_refused(faults, names.last().copied().unwrap_or("list"), lines)
+                report_refused(faults, names, names.len().saturating_sub(1), lines)
             }
             ListFailure::Memory => report_words(faults, OUT_OF_MEMORY),
         }
