@@ -265,12 +265,12 @@ fn report_lines<X: Write, C: LineCause>(
     Ok(())
 }
 
-/// The lines after the first `shown`.
-fn lines_after<C>(lines: &[Refused<C>], shown: usize) -> &[Refused<C>]
-    ensures { result.now ≡ drop shown lines.now }
+/// The items after the first `count`.
+fn items_after<T>(items: &[T], count: usize) -> &[T]
+    ensures { result.now ≡ drop count items.now }
 {
-    if shown <= lines.len() {
-        &lines[shown..]
+    if count <= items.len() {
+        &items[count..]
     } else {
         &[]
     }
@@ -306,30 +306,31 @@ pub fn report_since<X: Write, C: LineCause>(
     if lines.count == count {
         return Ok(());
     }
-    let new = lines_after(lines.shown.as_slice(), shown);
+    let new = items_after(lines.shown.as_slice(), shown);
     report_lines(faults, names, new)?;
     let more = hidden_of(lines.count, count, new.len());
     report_more(faults, more)
 }
 
-/// Reports the refused lines of the list with this name: those that are kept, and the number of the others. Nothing is
-/// printed if there are none.
+/// Reports the refused lines of the list whose name has this index: those that are kept, and the number of the others.
+/// Nothing is printed if there are none. The index of the list in the lines is 0.
 ///
 /// ```text
-/// twelve lines: ten lines, and "netset: and 2 more"
+/// the names a and b, index 1, twelve lines: ten lines that begin with "b:", and "netset: and 2 more"
 /// ```
 pub fn report_refused<X: Write, C: LineCause>(
     faults: &mut X,
-    name: &str,
+    names: &[&str],
+    index: usize,
     lines: &Refusals<C>,
 ) -> io::Result<()>
     ensures none { lines.now.count ≡ 0 → Keeps (X.contents faults.old) (X.contents faults.new) }
-    ensures whole { OnOk result (IsWritten (OfNew (IsReport C.explains (name.now ∷ [])) lines.now 0 0)
+    ensures whole { OnOk result (IsWritten (OfNew (IsReport C.explains (drop index names.now)) lines.now 0 0)
         (X.contents faults.old) (X.contents faults.new)) }
-    ensures front { IsFrontWritten (OfNew (IsReportBegun C.explains (name.now ∷ [])) lines.now 0 0)
+    ensures front { IsFrontWritten (OfNew (IsReportBegun C.explains (drop index names.now)) lines.now 0 0)
         (X.contents faults.old) (X.contents faults.new) }
 {
-    report_since(faults, &[name], lines, (0, 0))
+    report_since(faults, items_after(names, index), lines, (0, 0))
 }
 
 /// Reports the number of the refused lines that are not shown. Nothing is printed if all are.

@@ -35,6 +35,11 @@ pub record IsFlag (matches : ArgMatches) (id : List ℕ) (flag : Bool) : Type 0 
 abbrev pub list_name : ArgMatches → List ℕ → List ℕ
 list_name matches id = unwrap_or (first_value (found_of matches) id) standard_input
 
+-- The names of any number of lists: those that are given, or `-` for standard input.
+abbrev pub any_names : ArgMatches → List (List ℕ)
+any_names matches =
+    unwrap_or (option_map raw_values (matched_of (found_of matches) (codes "first"))) (standard_input ∷ [])
+
 -- The choice for files without an entry, by the flags `--no-empty` and `--allow-empty`. Without a flag they are
 -- reported.
 abbrev pub empties_of : Bool → Bool → Empties

@@ -1,30 +1,39 @@
 //! The command `apply`: its arguments, and its run.
 ghost use Rattle.std.specs.Prelude.{◌≡◌, ◌≤◌, IfErr};
 
-use crate::arguments::{command_of, first, flag, other, two_or_report};
+use crate::arguments::{FIRST_LIST, OTHERS, RANGES_FLAG, SHARED, two_or_report};
 use crate::lists::{Empties, Reports};
 use crate::output::Writers;
 use crate::reading::{bytes_of, reading_work, session_of, whole_of};
-use clap::{ArgMatches, Command};
+use crate::table::{ARGUMENT, Argument, Form, Subcommand};
+use clap::ArgMatches;
 use netset_lib::{ApplyCommand, run_text};
-use std::alloc::{AllocError, Global};
 
 /// The name of the command.
 pub const APPLY: &str = "apply";
 
 /// The command `apply`.
-#[inline(never)]
-pub fn apply_command<'a>(alloc: Global) -> Result<Command<'a>, AllocError> {
-    let about = "The addresses of OLD after the changes of CHANGES, which netset changes prints";
-    let old = first(alloc, "OLD", "The list before, - for standard input");
-    let help = "The changes, one a line: + or - and a network; standard input if it is omitted";
-    let changes = other(alloc, help).value_name("CHANGES").required(false);
-    let ranges = "Print the fewest ranges, such as 10.0.0.0-10.0.0.5, instead of networks";
-    command_of(alloc, APPLY, about)?
-        .arg(flag(alloc, "ranges", ranges))?
-        .arg(old)?
-        .arg(changes)
-}
+pub const APPLY_COMMAND: Subcommand = Subcommand {
+    name: APPLY,
+    about: "The addresses of OLD after the changes of CHANGES, which netset changes prints",
+    arguments: &[
+        SHARED,
+        &[
+            RANGES_FLAG,
+            Argument {
+                form: Form::Word("OLD"),
+                help: "The list before, - for standard input",
+                ..FIRST_LIST
+            },
+            Argument {
+                id: OTHERS,
+                form: Form::Word("CHANGES"),
+                help: "The changes, one a line: + or - and a network; standard input if it is omitted",
+                ..ARGUMENT
+            },
+        ],
+    ],
+};
 
 /// Reads the bytes of the changes of this name. Without --no-empty, a file without a change is like any other.
 fn changes_of(rt: &HostRuntime, name: &str, reports: Reports) -> Result<Vec<u8>, u8>

@@ -4,7 +4,7 @@ ghost use Rattle.std.specs.Prelude.{OnOk, IsOk, length};
 ghost use Rattle.std.specs.Char.{is_ascii_control};
 ghost use Rattle.std.specs.List.{list_any};
 ghost use Rattle.netset_commands.specs.Arguments.{values_of, list_name, standard_input, IsFlag};
-ghost use Rattle.netset_commands.specs.Arguments.{AreListNames, empties_of, input_count, have_control};
+ghost use Rattle.netset_commands.specs.Arguments.{AreListNames, any_names, empties_of, input_count, have_control};
 ghost use Rattle.netset_commands.specs.Arguments.{most_before_input};
 ghost use Rattle.netset_commands.specs.Calls.{IsCall, IsCallFailure, IsNameFailure, AreGoodNames, PrintsNames};
 ghost use Rattle.netset_commands.specs.Calls.{AreFlags, AreTwoNames};
@@ -12,7 +12,8 @@ ghost use Rattle.netset_commands.specs.declared.arguments.ArgumentFailure.TheVar
 
 use crate::input::STANDARD_INPUT;
 use crate::lists::{Empties, Reports};
-use clap::{Arg, ArgAction, ArgMatches, Command};
+use crate::table::{ARGUMENT, Argument, Form};
+use clap::ArgMatches;
 use netset_lib::{Flags, ListCommand, Query, Work};
 use std::alloc::{AllocError, Global};
 use std::env;
@@ -32,6 +33,88 @@ pub const NO_EMPTY: &str = "no-empty";
 
 /// The id of the lists after the first.
 pub const OTHERS: &str = "others";
+
+/// The flag for the grammar.
+pub const LEGACY_FLAG: Argument = Argument {
+    id: "legacy",
+    form: Form::Flag("legacy"),
+    help: "Accept leading zeros (numbers stay decimal), and a :: that replaces no group",
+    ..ARGUMENT
+};
+
+/// The option for the file that the answer replaces.
+pub const OUTPUT_OPTION: Argument = Argument {
+    id: OUTPUT,
+    form: Form::Value(OUTPUT, "FILE"),
+    letter: Some('o'),
+    help: "Replace FILE by the answer as a whole; at status 2, FILE stays as it is",
+    ..ARGUMENT
+};
+
+/// The arguments of each command that reads lists.
+pub const SHARED: &[Argument] = &[
+    LEGACY_FLAG,
+    Argument {
+        id: "progress",
+        form: Form::Flag("progress"),
+        help: "Print the number of bytes read from each list to standard error",
+        ..ARGUMENT
+    },
+    Argument {
+        id: ALLOW_EMPTY,
+        form: Form::Flag(ALLOW_EMPTY),
+        help: "Do not report files without an entry",
+        ..ARGUMENT
+    },
+    Argument {
+        id: NO_EMPTY,
+        form: Form::Flag(NO_EMPTY),
+        help: "Fail if a file has no entry: status 2, and nothing is written",
+        conflicts: &[ALLOW_EMPTY],
+        ..ARGUMENT
+    },
+    OUTPUT_OPTION,
+];
+
+/// The flag for ranges.
+pub const RANGES_FLAG: Argument = Argument {
+    id: "ranges",
+    form: Form::Flag("ranges"),
+    help: "Print the fewest ranges, such as 10.0.0.0-10.0.0.5, instead of networks",
+    ..ARGUMENT
+};
+
+/// The first of several lists.
+pub const FIRST_LIST: Argument = Argument {
+    id: FIRST,
+    form: Form::Word("FILE"),
+    help: "A list, - for standard input",
+    is_required: true,
+    ..ARGUMENT
+};
+
+/// The only list; standard input, if it is omitted.
+pub const ONE_LIST: Argument = Argument {
+    id: FIRST,
+    form: Form::Word("FILE"),
+    help: "A list, - for standard input; standard input if it is omitted",
+    ..ARGUMENT
+};
+
+/// Any number of lists; standard input, if all are omitted.
+pub const ANY_LISTS: Argument = Argument {
+    form: Form::Words("FILE"),
+    ..ONE_LIST
+};
+
+/// The list after the first.
+pub const OTHER_LIST: Argument = Argument {
+    id: OTHERS,
+    form: Form::Word("FILE"),
+    help: "The other list",
+    is_required: true,
+    ..ARGUMENT
+};
 
 /// The most bytes that the system lets an argument have, with the zero byte at its end.
 const MOST_ARGUMENT: usize = 131_072;
@@ -134,23 +217,6 @@ pub fn escaped(alloc: Global, words: &[String]) -> Result<Vec<String>, AllocErro
     Ok(shown)
 }
 
-/// The flag with this name and help text.
-pub fn flag<'a>(alloc: Global, name: &'a str, help: &'a str) -> Arg<'a> {
-    Arg::new(alloc, name)
-        .long(name)
-        .action(ArgAction::SetTrue)
-        .help(help)
-}
-
-/// The option for the file that the answer replaces.
-pub fn output_option<'a>(alloc: Global) -> Arg<'a> {
-    Arg::new(alloc, OUTPUT)
-        .short('o')
-        .long(OUTPUT)
-        .value_name("FILE")
-        .help("Replace FILE by the answer as a whole; at status 2, FILE stays as it is")
-}
-
 /// Whether the flag with this id is set. A flag that the command does not have is not set.
 pub fn is_set(matches: &ArgMatches, id: &str) -> bool
     ensures { IsFlag matches.now id.now result }
@@ -182,68 +248,6 @@ pub fn reports_of(matches: &ArgMatches) -> Reports
         progress: is_set(matches, "progress"),
         empties: chosen_empties(refuses, allows),
     }
-}
-
-/// The first list.
-pub fn first<'a>(alloc: Global, name: &'a str, help: &'a str) -> Arg<'a> {
-    Arg::new(alloc, FIRST)
-        .value_name(name)
-        .required(true)
-        .help(help)
-}
-
-/// The only list; standard input, if it is omitted.
-pub fn one_file<'a>(alloc: Global) -> Arg<'a> {
-    let help = "A list, - for standard input; standard input if it is omitted";
-    first(alloc, "FILE", help).required(false)
-}
-
-/// Any number of lists; standard input, if all are omitted.
-pub fn any_files<'a>(alloc: Global) -> Arg<'a> {
-    one_file(alloc).num_args(1..).action(ArgAction::Append)
-}
-
-/// The list after the first.
-pub fn other<'a>(alloc: Global, help: &'a str) -> Arg<'a> {
-    Arg::new(alloc, OTHERS)
-        .value_name("FILE")
-        .required(true)
-        .help(help)
-}
-
-/// Adds the flags for files without an entry, and the option for the output.
-#[inline(never)]
-fn with_files<'a>(alloc: Global, command: Command<'a>) -> Result<Command<'a>, AllocError> {
-    let allow_empty = "Do not report files without an entry";
-    let no_empty = "Fail if a file has no entry: status 2, and nothing is written";
-    let no_empty = flag(alloc, NO_EMPTY, no_empty).conflicts_with(ALLOW_EMPTY)?;
-    command
-        .arg(flag(alloc, ALLOW_EMPTY, allow_empty))?
-        .arg(no_empty)?
-        .arg(output_option(alloc))
-}
-
-/// Adds the flags for the grammar and for the progress.
-#[inline(never)]
-fn with_flags<'a>(alloc: Global, command: Command<'a>) -> Result<Command<'a>, AllocError> {
-    let legacy = "Accept leading zeros (numbers stay decimal), and a :: that replaces no group";
-    let progress = "Print the number of bytes read from each list to standard error";
-    command
-        .arg(flag(alloc, "legacy", legacy))?
-        .arg(flag(alloc, "progress", progress))
-}
-
-/// A command with the flags that all commands have.
-#[inline(never)]
-pub fn command_of<'a>(
-    alloc: Global,
-    name: &'a str,
-    about: &'a str,
-) -> Result<Command<'a>, AllocError> {
-    with_files(
-        alloc,
-        with_flags(alloc, Command::new(alloc, name).about(about))?,
-    )
 }
 
 /// The flags that are set. A flag that the command does not have is not set.
@@ -317,6 +321,16 @@ pub fn name_of_list<'a>(matches: &ArgMatches<'a>, id: &str) -> &'a str
     match matches.get_str(id) {
         Some(name) => name,
         None => STANDARD_INPUT,
+    }
+}
+
+/// The names of any number of lists; "-" for standard input, if all are omitted.
+pub fn any_names<'a, 'b>(matches: &'b ArgMatches<'a>) -> &'b [&'a str]
+    ensures { map (λ name. name.now) result.now ≡ any_names matches.now }
+{
+    match matches.get_strs(FIRST) {
+        Some(names) => names,
+        None => &[STANDARD_INPUT],
     }
 }
 

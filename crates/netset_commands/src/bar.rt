@@ -8,22 +8,21 @@ ghost use Rattle.netset_commands.specs.Words.{IsFrameOf, IsPicturedWork, mark_ch
 ghost use Rattle.netset_pictures.specs.BarAnswers.{width_text};
 
 use crate::arguments::{
-    ArgumentFailure, FIRST, any_files, command_of, flag, flags_of, is_set, reads_input_twice,
+    ANY_LISTS, ArgumentFailure, SHARED, any_names, flags_of, is_set, reads_input_twice,
     report_argument_failure,
 };
-use crate::input::STANDARD_INPUT;
 use crate::listing::network_or_report;
 use crate::lists::Reports;
 use crate::output::Writers;
 use crate::reading::{comparing_work, reading_work, session_of};
-use clap::{Arg, ArgMatches, Command};
+use crate::table::{ARGUMENT, Argument, Form, Subcommand};
+use clap::ArgMatches;
 use ipnet_bars::{BarForm, Frame, Marks, RowWidth};
 use netset_lib::{Session, Work, run_text};
 use netset_pictures::{
     BarCommand, BarRequest, ComparisonBarCommand, LocaleValues, MarkChoice, chosen_marks,
     read_row_width,
 };
-use std::alloc::{AllocError, Global};
 use std::env;
 use std::env::VarError;
 use std::io::Write;
@@ -48,74 +47,87 @@ const WIDTH: &str = "width";
 /// The values of `--width`.
 const WIDTHS: &[&str] = &["4", "8", "16", "32", "64"];
 
-/// Adds the flags for the marks of a bar. Each of them needs these other flags.
-#[inline(never)]
-fn with_marks<'a>(
-    alloc: Global,
-    command: Command<'a>,
-    needed: &[&'a str],
-) -> Result<Command<'a>, AllocError> {
-    let ascii = "Draw the marks .:ox# even on a terminal with a UTF-8 locale";
-    let utf8 = "Draw the marks \u{b7}\u{2591}\u{2592}\u{2593}\u{2588} even in a file or a pipe";
-    let ascii = flag(alloc, ASCII, ascii).requires_all(needed)?;
-    let utf8 = flag(alloc, UTF8, utf8)
-        .conflicts_with(ASCII)?
-        .requires_all(needed)?;
-    command.arg(ascii)?.arg(utf8)
-}
+/// The flags for the marks of a bar.
+const ASCII_FLAG: Argument = Argument {
+    id: ASCII,
+    form: Form::Flag(ASCII),
+    help: "Draw the marks .:ox# even on a terminal with a UTF-8 locale",
+    ..ARGUMENT
+};
 
-/// Adds the options for the form of a bar. Each of them needs these other flags.
-#[inline(never)]
-fn with_form<'a>(
-    alloc: Global,
-    command: Command<'a>,
-    needed: &[&'a str],
-) -> Result<Command<'a>, AllocError> {
-    let width = Arg::new(alloc, WIDTH)
-        .long(WIDTH)
-        .value_name("N")
-        .value_parser(WIDTHS)
-        .help("Draw at most N marks in a row; by default 32")
-        .requires_all(needed)?;
-    with_marks(alloc, command, needed)?.arg(width)
-}
+const UTF8_FLAG: Argument = Argument {
+    id: UTF8,
+    form: Form::Flag(UTF8),
+    help: "Draw the marks \u{b7}\u{2591}\u{2592}\u{2593}\u{2588} even in a file or a pipe",
+    conflicts: &[ASCII],
+    ..ARGUMENT
+};
 
-/// Adds the flag `--bar` and the options that need it.
-#[inline(never)]
-pub fn with_plan_bar<'a>(alloc: Global, command: Command<'a>) -> Result<Command<'a>, AllocError> {
-    let bar = "Draw a bar instead of the networks: which addresses are not free after the plan";
-    with_form(alloc, command.arg(flag(alloc, BAR, bar))?, &[BAR])
-}
+/// The option for the number of marks in a row.
+const WIDTH_OPTION: Argument = Argument {
+    id: WIDTH,
+    form: Form::Choice(WIDTH, "N", WIDTHS),
+    help: "Draw at most N marks in a row; by default 32",
+    ..ARGUMENT
+};
 
-/// Adds the options for the network that is drawn.
-#[inline(never)]
-pub fn with_frame<'a>(alloc: Global, command: Command<'a>) -> Result<Command<'a>, AllocError> {
-    let network = Arg::new(alloc, IN).long(IN).value_name("NETWORK").help(
-        "Draw NETWORK; by default, the smallest network that contains all addresses of one family",
-    );
-    let ipv6 = "Draw the IPv6 addresses; by default, the IPv4 addresses if there are any";
-    let ipv6 = flag(alloc, IPV6, ipv6).conflicts_with(IN)?;
-    command.arg(network)?.arg(ipv6)
-}
+/// The flag `--bar`, and the arguments that need it.
+pub const PLAN_BAR: &[Argument] = &[
+    Argument {
+        id: BAR,
+        form: Form::Flag(BAR),
+        help: "Draw a bar instead of the networks: which addresses are not free after the plan",
+        ..ARGUMENT
+    },
+    Argument {
+        needs: &[BAR],
+        ..ASCII_FLAG
+    },
+    Argument {
+        needs: &[BAR],
+        ..UTF8_FLAG
+    },
+    Argument {
+        needs: &[BAR],
+        ..WIDTH_OPTION
+    },
+];
+
+/// The arguments for the network that is drawn.
+pub const FRAME: &[Argument] = &[
+    Argument {
+        id: IN,
+        form: Form::Value(IN, "NETWORK"),
+        help: "Draw NETWORK; by default, the smallest network that contains all addresses of one family",
+        ..ARGUMENT
+    },
+    Argument {
+        id: IPV6,
+        form: Form::Flag(IPV6),
+        help: "Draw the IPv6 addresses; by default, the IPv4 addresses if there are any",
+        conflicts: &[IN],
+        ..ARGUMENT
+    },
+];
+
+/// The flag that compares two lists.
+const COMPARE_FLAG: Argument = Argument {
+    id: COMPARE,
+    form: Form::Flag(COMPARE),
+    help: "Compare two lists: - only in the first, + only in the second, = in both; status 1 if they differ",
+    ..ARGUMENT
+};
 
 /// The command `bar`.
-#[inline(never)]
-pub fn bar_command<'a>(alloc: Global) -> Result<Command<'a>, AllocError> {
-    let about =
-        "A network in at most 16 rows of marks: how full it is, and where its largest free block is";
-    let bar = with_frame(alloc, command_of(alloc, BAR, about)?)?;
-    with_lists(alloc, with_form(alloc, bar, &[])?)
-}
-
-/// Adds the flag `--compare` and the lists of `bar`.
-#[inline(never)]
-fn with_lists<'a>(alloc: Global, command: Command<'a>) -> Result<Command<'a>, AllocError> {
-    let compare =
-        "Compare two lists: - only in the first, + only in the second, = in both; status 1 if they differ";
-    command
-        .arg(flag(alloc, COMPARE, compare))?
-        .arg(any_files(alloc))
-}
+pub const BAR_COMMAND: Subcommand = Subcommand {
+    name: BAR,
+    about: "A network in at most 16 rows of marks: how full it is, and where its largest free block is",
+    arguments: &[
+        SHARED,
+        FRAME,
+        &[ASCII_FLAG, UTF8_FLAG, WIDTH_OPTION, COMPARE_FLAG, ANY_LISTS],
+    ],
+};
 
 /// The value of the variable, which is empty if it is not set. A value that is not UTF-8 is "?", since it is not empty,
 /// and no name of a locale. If memory runs out, it is reported, and the error is the exit status.
@@ -282,7 +294,7 @@ pub fn draw_bar(rt: &HostRuntime, matches: &ArgMatches, writers: &mut Writers<'_
         Ok(request) => request,
         Err(status) => return status,
     };
-    let names = matches.get_strs(FIRST).unwrap_or(&[STANDARD_INPUT]);
+    let names = any_names(matches);
     let session = match read_pictured(rt, matches, names, writers.reports) {
         Ok(session) => session,
         Err(status) => return status,

@@ -1,25 +1,36 @@
 //! The command `changes`: its arguments, and its run.
 ghost use Rattle.std.specs.Prelude.{◌≤◌};
 
-use crate::arguments::{command_of, first, other, two_or_report};
+use crate::arguments::{FIRST_LIST, OTHER_LIST, SHARED, two_or_report};
 use crate::output::Writers;
 use crate::reading::{comparing_work, session_of};
-use clap::{ArgMatches, Command};
+use crate::table::{Argument, Form, Subcommand};
+use clap::ArgMatches;
 use netset_lib::{ChangesCommand, run_text};
-use std::alloc::{AllocError, Global};
 
 /// The name of the command.
 pub const CHANGES: &str = "changes";
 
 /// The command `changes`.
-#[inline(never)]
-pub fn changes_command<'a>(alloc: Global) -> Result<Command<'a>, AllocError> {
-    let about =
-        "The networks to add (+) and to remove (-) that turn OLD into NEW; status 1 if there are any";
-    let old = first(alloc, "OLD", "The list before, - for standard input");
-    let new = other(alloc, "The list after").value_name("NEW");
-    command_of(alloc, CHANGES, about)?.arg(old)?.arg(new)
-}
+pub const CHANGES_COMMAND: Subcommand = Subcommand {
+    name: CHANGES,
+    about: "The networks to add (+) and to remove (-) that turn OLD into NEW; status 1 if there are any",
+    arguments: &[
+        SHARED,
+        &[
+            Argument {
+                form: Form::Word("OLD"),
+                help: "The list before, - for standard input",
+                ..FIRST_LIST
+            },
+            Argument {
+                form: Form::Word("NEW"),
+                help: "The list after",
+                ..OTHER_LIST
+            },
+        ],
+    ],
+};
 
 /// Reads the arguments and the lists, prints the changes, and returns the exit status.
 #[inline(never)]

@@ -2,14 +2,14 @@
 ghost use Rattle.std.specs.Prelude.{◌≤◌};
 
 use crate::arguments::{
-    FIRST, OTHERS, command_of, flags_of, name_of_list, one_file, other, two_or_report,
+    FIRST, ONE_LIST, OTHER_LIST, OTHERS, SHARED, flags_of, name_of_list, two_or_report,
 };
 use crate::output::Writers;
 use crate::reading::{bytes_of, reading_work, session_of};
-use clap::{ArgMatches, Command};
+use crate::table::{Argument, Subcommand};
+use clap::ArgMatches;
 use netset_entries::{OverlapsCommand, RedundantCommand, SupernetCommand};
 use netset_lib::{run, run_text};
-use std::alloc::{AllocError, Global};
 
 /// The names of the commands.
 pub const SUPERNET: &str = "supernet";
@@ -18,32 +18,36 @@ pub const REDUNDANT: &str = "redundant";
 
 pub const OVERLAPS: &str = "overlaps";
 
-/// The command `overlaps`.
-#[inline(never)]
-pub fn overlaps_command<'a>(alloc: Global) -> Result<Command<'a>, AllocError> {
-    let about =
-        "The pairs of entries that share an address; of two lists, of an entry of each; status 1 if there are any";
-    let help = "The other list; the pairs are then of an entry of each";
-    command_of(alloc, OVERLAPS, about)?
-        .arg(one_file(alloc))?
-        .arg(other(alloc, help).required(false))
-}
-
 /// The command `supernet`.
-#[inline(never)]
-pub fn supernet_command<'a>(alloc: Global) -> Result<Command<'a>, AllocError> {
-    let about =
-        "The smallest network that contains all addresses of the list, for each address family that occurs in it";
-    command_of(alloc, SUPERNET, about)?.arg(one_file(alloc))
-}
+pub const SUPERNET_COMMAND: Subcommand = Subcommand {
+    name: SUPERNET,
+    about: "The smallest network that contains all addresses of the list, for each address family that occurs in it",
+    arguments: &[SHARED, &[ONE_LIST]],
+};
 
 /// The command `redundant`.
-#[inline(never)]
-pub fn redundant_command<'a>(alloc: Global) -> Result<Command<'a>, AllocError> {
-    let about =
-        "The entries that the others make unnecessary, and the fewest that cover each; status 1 if there are any";
-    command_of(alloc, REDUNDANT, about)?.arg(one_file(alloc))
-}
+pub const REDUNDANT_COMMAND: Subcommand = Subcommand {
+    name: REDUNDANT,
+    about: "The entries that the others make unnecessary, and the fewest that cover each; status 1 if there are any",
+    arguments: &[SHARED, &[ONE_LIST]],
+};
+
+/// The command `overlaps`.
+pub const OVERLAPS_COMMAND: Subcommand = Subcommand {
+    name: OVERLAPS,
+    about: "The pairs of entries that share an address; of two lists, of an entry of each; status 1 if there are any",
+    arguments: &[
+        SHARED,
+        &[
+            ONE_LIST,
+            Argument {
+                help: "The other list; the pairs are then of an entry of each",
+                is_required: false,
+                ..OTHER_LIST
+            },
+        ],
+    ],
+};
 
 /// Reads the list, and prints the smallest networks around its addresses.
 #[inline(never)]

@@ -6,16 +6,15 @@ ghost use Rattle.netset_lib.specs.Commands.{grammar_of};
 ghost use Rattle.netset_lib.specs.declared.command.Flags.{Flags};
 
 use crate::arguments::{
-    ArgumentFailure, FIRST, any_files, command_of, flag, flags_of, is_set, reads_input_twice,
+    ANY_LISTS, ArgumentFailure, SHARED, any_names, flags_of, is_set, reads_input_twice,
     report_argument_failure,
 };
-use crate::input::STANDARD_INPUT;
 use crate::output::Writers;
 use crate::reading::fill;
-use clap::{Arg, ArgAction, ArgMatches, Command};
+use crate::table::{ARGUMENT, Argument, Form, Subcommand};
+use clap::ArgMatches;
 use netset_lib::run_text;
 use netset_words::{ExtractRequest, Extraction};
-use std::alloc::{AllocError, Global};
 
 /// The name of the command.
 pub const EXTRACT: &str = "extract";
@@ -27,22 +26,28 @@ const FIRST_ENTRY: &str = "first-entry";
 const RANGES: &str = "ranges";
 
 /// The command `extract`.
-#[inline(never)]
-pub fn extract_command<'a>(alloc: Global) -> Result<Command<'a>, AllocError> {
-    let about =
-        "The entries in any text, one a line, as written; a word such as 255.0.0.0 is refused";
-    let first = "Print only the first entry of each line";
-    let ranges =
-        "Read two addresses around a - with blanks as a range; without it, as two addresses";
-    let first = Arg::new(alloc, FIRST_ENTRY)
-        .long("first")
-        .action(ArgAction::SetTrue)
-        .help(first);
-    command_of(alloc, EXTRACT, about)?
-        .arg(first)?
-        .arg(flag(alloc, RANGES, ranges))?
-        .arg(any_files(alloc))
-}
+pub const EXTRACT_COMMAND: Subcommand = Subcommand {
+    name: EXTRACT,
+    about: "The entries in any text, one a line, as written; a word such as 255.0.0.0 is refused",
+    arguments: &[
+        SHARED,
+        &[
+            Argument {
+                id: FIRST_ENTRY,
+                form: Form::Flag("first"),
+                help: "Print only the first entry of each line",
+                ..ARGUMENT
+            },
+            Argument {
+                id: RANGES,
+                form: Form::Flag(RANGES),
+                help: "Read two addresses around a - with blanks as a range; without it, as two addresses",
+                ..ARGUMENT
+            },
+            ANY_LISTS,
+        ],
+    ],
+};
 
 /// Which entries the flags ask for.
 fn request_of(matches: &ArgMatches) -> ExtractRequest
@@ -62,7 +67,7 @@ fn request_of(matches: &ArgMatches) -> ExtractRequest
 pub fn extract_entries(rt: &HostRuntime, matches: &ArgMatches, writers: &mut Writers<'_>) -> u8
     ensures { result ≤ 2 }
 {
-    let names = matches.get_strs(FIRST).unwrap_or(&[STANDARD_INPUT]);
+    let names = any_names(matches);
     if reads_input_twice(names) {
         return report_argument_failure(rt, ArgumentFailure::InputTwice);
     }

@@ -4,10 +4,10 @@ ghost use Rattle.netset_commands.specs.Words.{AreFormOptions};
 ghost use Rattle.netset_forms.specs.FormOptions.{IsRequestOf};
 ghost use Rattle.netset_forms.specs.declared.options.FormOptions.{FormOptions};
 
-use crate::arguments::{command_of, flag, is_set};
-use clap::{Arg, ArgMatches, Command};
+use crate::arguments::{RANGES_FLAG, is_set};
+use crate::table::{ARGUMENT, Argument, Form};
+use clap::ArgMatches;
 use netset_forms::{FormOptions, FormRequest, SetNames};
-use std::alloc::{AllocError, Global};
 use std::io::Write;
 
 /// The ids and the names of the options.
@@ -28,62 +28,48 @@ const MAXELEM: &str = "maxelem";
 /// The values of `--format`.
 const FORMATS: &[&str] = &["plain", "ranges", "json", "csv", "nft", "ipset"];
 
-/// An option with a value.
-fn option<'a>(alloc: Global, name: &'a str, value: &'a str, help: &'a str) -> Arg<'a> {
-    Arg::new(alloc, name)
-        .long(name)
-        .value_name(value)
-        .help(help)
-}
-
-/// Adds the options for the layout of an answer that is a set.
-#[inline(never)]
-fn with_layouts<'a>(alloc: Global, command: Command<'a>) -> Result<Command<'a>, AllocError> {
-    let ranges = "Print the fewest ranges, such as 10.0.0.0-10.0.0.5, instead of networks";
-    let format = "How the answer is written; ranges is --ranges";
-    let prefix = "Print TEXT before each line, for plain and ranges";
-    let format = option(alloc, FORMAT, "FORM", format)
-        .value_parser(FORMATS)
-        .conflicts_with(RANGES)?;
-    command.arg(flag(alloc, RANGES, ranges))?.arg(format)?.arg(option(
-        alloc, PREFIX, "TEXT", prefix,
-    ).allow_hyphen_values(true))
-}
-
-/// Adds the options for the lengths of networks, and for the number of networks of a set.
-#[inline(never)]
-fn with_numbers<'a>(alloc: Global, command: Command<'a>) -> Result<Command<'a>, AllocError> {
-    let min_length =
-        "Print networks of at least this prefix length: a shorter one as its subnets of length LEN";
-    let maxelem = "The most networks of a set, for ipset; by default 4294967295";
-    command
-        .arg(option(alloc, MIN_LENGTH, "LEN", min_length))?
-        .arg(option(alloc, MAXELEM, "N", maxelem))
-}
-
-/// Adds the options for the sets of `nft` and `ipset`.
-#[inline(never)]
-fn with_sets<'a>(alloc: Global, command: Command<'a>) -> Result<Command<'a>, AllocError> {
-    let ipv4_set =
-        "The set of the IPv4 networks: for nft its family, table and name, as in 'inet filter allowed'";
-    let ipv6_set = "The set of the IPv6 networks, for nft and ipset";
-    command
-        .arg(option(alloc, IPV4_SET, "SET", ipv4_set))?
-        .arg(option(alloc, IPV6_SET, "SET", ipv6_set))
-}
-
-/// The command of an operation; its lists are still missing.
-//
-// Its steps follow one another, and are not nested, so that little of the stack is in use at once.
-#[inline(never)]
-pub fn operation_command<'a>(
-    alloc: Global,
-    name: &'a str,
-    about: &'a str,
-) -> Result<Command<'a>, AllocError> {
-    let command = with_layouts(alloc, command_of(alloc, name, about)?)?;
-    with_sets(alloc, with_numbers(alloc, command)?)
-}
+/// The arguments for the form of an answer that is a set.
+pub const ANSWER_FORM: &[Argument] = &[
+    RANGES_FLAG,
+    Argument {
+        id: FORMAT,
+        form: Form::Choice(FORMAT, "FORM", FORMATS),
+        help: "How the answer is written; ranges is --ranges",
+        conflicts: &[RANGES],
+        ..ARGUMENT
+    },
+    Argument {
+        id: PREFIX,
+        form: Form::Value(PREFIX, "TEXT"),
+        help: "Print TEXT before each line, for plain and ranges",
+        may_have_dash: true,
+        ..ARGUMENT
+    },
+    Argument {
+        id: MIN_LENGTH,
+        form: Form::Value(MIN_LENGTH, "LEN"),
+        help: "Print networks of at least this prefix length: a shorter one as its subnets of length LEN",
+        ..ARGUMENT
+    },
+    Argument {
+        id: MAXELEM,
+        form: Form::Value(MAXELEM, "N"),
+        help: "The most networks of a set, for ipset; by default 4294967295",
+        ..ARGUMENT
+    },
+    Argument {
+        id: IPV4_SET,
+        form: Form::Value(IPV4_SET, "SET"),
+        help: "The set of the IPv4 networks: for nft its family, table and name, as in 'inet filter allowed'",
+        ..ARGUMENT
+    },
+    Argument {
+        id: IPV6_SET,
+        form: Form::Value(IPV6_SET, "SET"),
+        help: "The set of the IPv6 networks, for nft and ipset",
+        ..ARGUMENT
+    },
+];
 
 /// The options for the form of an answer.
 fn options_of<'a>(matches: &ArgMatches<'a>) -> FormOptions<'a>

@@ -8,6 +8,7 @@ mod changes;
 mod commands;
 mod entries;
 mod extract;
+mod fit;
 mod forms;
 mod input;
 mod leftovers;
@@ -23,6 +24,7 @@ mod reading;
 mod replacement;
 mod rules;
 mod stream;
+mod table;
 mod texts;
 mod whole_lines;
 

@@ -4,12 +4,12 @@ ghost use Rattle.ipnet.specs.NetworkOf.{ip_network};
 ghost use Rattle.ipnet_lists.specs.Entries.{IsNetworkOrMasked};
 ghost use Rattle.netset_commands.specs.Words.{word_of, IsNetworkGiven};
 
-use crate::arguments::{FIRST, OTHERS, first, flag, flags_of, output_option};
+use crate::arguments::{FIRST, LEGACY_FLAG, OTHERS, OUTPUT_OPTION, flags_of};
 use crate::output::Writers;
-use clap::{Arg, ArgMatches, Command};
+use crate::table::{ARGUMENT, Argument, Form, Subcommand};
+use clap::ArgMatches;
 use ipnet::{Grammar, IpNet};
 use netset_lib::{ArgumentCause, read_length, read_network_argument, run_hosts, run_split};
-use std::alloc::{AllocError, Global};
 use std::io::Write;
 
 /// The names of the two commands.
@@ -17,48 +17,41 @@ pub const SPLIT: &str = "split";
 
 pub const HOSTS: &str = "hosts";
 
-/// The network that is listed.
-fn network<'a>(alloc: Global) -> Arg<'a> {
-    first(
-        alloc,
-        "NETWORK",
-        "A network, such as 10.0.0.0/24; host bits do not matter",
-    )
-}
-
-/// A command that lists what a network contains.
-#[inline(never)]
-fn listing_command<'a>(
-    alloc: Global,
-    name: &'a str,
-    about: &'a str,
-) -> Result<Command<'a>, AllocError> {
-    let legacy = "Accept leading zeros (numbers stay decimal), and a :: that replaces no group";
-    Command::new(alloc, name)
-        .about(about)
-        .arg(flag(alloc, "legacy", legacy))?
-        .arg(output_option(alloc))?
-        .arg(network(alloc))
-}
+/// The arguments of both.
+const LISTING: &[Argument] = &[
+    LEGACY_FLAG,
+    OUTPUT_OPTION,
+    Argument {
+        id: FIRST,
+        form: Form::Word("NETWORK"),
+        help: "A network, such as 10.0.0.0/24; host bits do not matter",
+        is_required: true,
+        ..ARGUMENT
+    },
+];
 
 /// The command `split`.
-#[inline(never)]
-pub fn split_command<'a>(alloc: Global) -> Result<Command<'a>, AllocError> {
-    let about = "The subnets of a network that have this prefix length";
-    let length = Arg::new(alloc, OTHERS)
-        .value_name("LEN")
-        .required(true)
-        .help("The prefix length of the subnets, such as 26 or /26");
-    listing_command(alloc, SPLIT, about)?.arg(length)
-}
+pub const SPLIT_COMMAND: Subcommand = Subcommand {
+    name: SPLIT,
+    about: "The subnets of a network that have this prefix length",
+    arguments: &[
+        LISTING,
+        &[Argument {
+            id: OTHERS,
+            form: Form::Word("LEN"),
+            help: "The prefix length of the subnets, such as 26 or /26",
+            is_required: true,
+            ..ARGUMENT
+        }],
+    ],
+};
 
 /// The command `hosts`.
-#[inline(never)]
-pub fn hosts_command<'a>(alloc: Global) -> Result<Command<'a>, AllocError> {
-    let about =
-        "The hosts of a network: its addresses, without both ends if it is IPv4 and larger than /31";
-    listing_command(alloc, HOSTS, about)
-}
+pub const HOSTS_COMMAND: Subcommand = Subcommand {
+    name: HOSTS,
+    about: "The hosts of a network: its addresses, without both ends if it is IPv4 and larger than /31",
+    arguments: &[LISTING],
+};
 
 /// The word with this id, which is empty if there is none.
 fn word_of<'a>(matches: &ArgMatches<'a>, id: &str) -> &'a str

@@ -1,5 +1,5 @@
 //! The lists, read from files and from standard input.
-ghost use Rattle.std.specs.Prelude.{◌≡◌, ◌≢◌, ◌⊎◌, ◌↔◌, IsTrue, IfOk};
+ghost use Rattle.std.specs.Prelude.{◌≡◌, ◌≢◌, ◌⊎◌, ◌↔◌, ℕ, Bool, IsTrue, IfOk};
 ghost use Rattle.netset_commands.specs.Arguments.{standard_input};
 ghost use Rattle.netset_commands.specs.declared.lists.Empties.TheVariants.{Refuse};
 
@@ -15,17 +15,31 @@ const MUCH: usize = 16_777_216;
 
 /// A reader of lists one after another, by methods that `Session` and `Extraction` have.
 pub trait ListReader {
+    /// The number of refused lines.
+    ghost refused: { Self → ℕ };
+
+    /// Whether the last list has an entry.
+    ghost holds: { Self → Bool };
+
     /// Reads the next list up to its end.
     fn read<R: Read>(&mut self, input: &mut R) -> Result<(), ReadFailure>;
 
     /// The number of refused lines of all lists that were read.
-    fn refused_count(&self) -> usize;
+    fn refused_count(&self) -> usize
+        ensures { result ≡ refused self.now };
 
     /// Whether the list that was read last has an entry.
-    fn has_entry(&self) -> bool;
+    fn has_entry(&self) -> bool
+        ensures { result ≡ holds self.now };
 }
 
 impl ListReader for Session {
+    ghost use Rattle.netset_lib.specs.Sessions.{has_entry, refused_count};
+
+    ghost refused = { refused_count };
+
+    ghost holds = { has_entry };
+
     fn read<R: Read>(&mut self, input: &mut R) -> Result<(), ReadFailure> {
         Session::read(self, input)
     }
@@ -40,6 +54,12 @@ impl ListReader for Session {
 }
 
 impl ListReader for Extraction {
+    ghost use Rattle.netset_words.specs.Extractions.{has_entry, refused_count};
+
+    ghost refused = { refused_count };
+
+    ghost holds = { has_entry };
+
     fn read<R: Read>(&mut self, input: &mut R) -> Result<(), ReadFailure> {
         Extraction::read(self, input)
     }

@@ -7,22 +7,22 @@ ghost use Rattle.svg_maps.specs.declared.style.Theme.{Theme};
 ghost use Rattle.svg_maps.specs.declared.style.Theme.TheVariants.{Auto};
 
 use crate::arguments::{
-    ArgumentFailure, FIRST, any_files, command_of, flag, flags_of, is_set, reads_input,
+    ANY_LISTS, ArgumentFailure, SHARED, any_names, flags_of, is_set, reads_input,
     report_argument_failure,
 };
-use crate::bar::{COMPARE, frame_of, pictured_work, with_frame};
+use crate::bar::{COMPARE, FRAME, frame_of, pictured_work};
 use crate::input::STANDARD_INPUT;
 use crate::lists::Reports;
 use crate::noted::{EntryList, NotedSession, entries_of};
 use crate::output::Writers;
 use crate::reading::{bytes_of, fill};
-use clap::{Arg, ArgMatches, Command};
+use crate::table::{ARGUMENT, Argument, Form, Subcommand};
+use clap::ArgMatches;
 use ipnet_bars::Frame;
 use ipnet_routes::RouteTable;
 use netset_entries::EntryNotes;
 use netset_lib::{Session, run_text, table_or_report};
 use netset_pictures::{ChangeMapCommand, MapCommand, MapRequest, SetsMapCommand, read_theme};
-use std::alloc::{AllocError, Global};
 use std::io::Write;
 use svg_maps::{Look, MOST_LISTS, MapEntries, Theme};
 
@@ -41,32 +41,41 @@ const NAMES: &str = "names";
 /// The values of `--theme`.
 const THEMES: &[&str] = &["auto", "light", "dark"];
 
-/// Adds the options for what a map shows beside its lists.
-#[inline(never)]
-fn with_overlay<'a>(alloc: Global, command: Command<'a>) -> Result<Command<'a>, AllocError> {
-    let free = "Outline the blocks that no list has, and say which is the largest";
-    let names = Arg::new(alloc, NAMES).long(NAMES).value_name("FILE").help(
-        "Outline the networks of FILE: each line is a network and its name; - for standard input",
-    );
-    command.arg(flag(alloc, FREE, free))?.arg(names)
-}
+/// The arguments of a map.
+const MAP_ARGUMENTS: &[Argument] = &[
+    Argument {
+        id: THEME,
+        form: Form::Choice(THEME, "THEME", THEMES),
+        help: "Choose the colours; by default auto: dark if the reader prefers dark pages",
+        ..ARGUMENT
+    },
+    Argument {
+        id: COMPARE,
+        form: Form::Flag(COMPARE),
+        help: "Show what changed between two lists; status 1 if they differ",
+        ..ARGUMENT
+    },
+    Argument {
+        id: FREE,
+        form: Form::Flag(FREE),
+        help: "Outline the blocks that no list has, and say which is the largest",
+        ..ARGUMENT
+    },
+    Argument {
+        id: NAMES,
+        form: Form::Value(NAMES, "FILE"),
+        help: "Outline the networks of FILE: each line is a network and its name; - for standard input",
+        ..ARGUMENT
+    },
+    ANY_LISTS,
+];
 
 /// The command `map`.
-#[inline(never)]
-pub fn map_command<'a>(alloc: Global) -> Result<Command<'a>, AllocError> {
-    let about =
-        "A network as a picture in SVG: what up to six lists cover, or what changed between two";
-    let compare = "Show what changed between two lists; status 1 if they differ";
-    let theme = Arg::new(alloc, THEME)
-        .long(THEME)
-        .value_name("THEME")
-        .value_parser(THEMES)
-        .help("Choose the colours; by default auto: dark if the reader prefers dark pages");
-    let map = with_frame(alloc, command_of(alloc, MAP, about)?)?
-        .arg(theme)?
-        .arg(flag(alloc, COMPARE, compare))?;
-    with_overlay(alloc, map)?.arg(any_files(alloc))
-}
+pub const MAP_COMMAND: Subcommand = Subcommand {
+    name: MAP,
+    about: "A network as a picture in SVG: what up to six lists cover, or what changed between two",
+    arguments: &[SHARED, FRAME, MAP_ARGUMENTS],
+};
 
 /// Whether the lists are too many for one map. If so, it is reported.
 fn are_too_many(rt: &HostRuntime, matches: &ArgMatches, names: &[&str]) -> bool
@@ -228,7 +237,7 @@ fn draw_table(
             count: 0,
         },
     };
-    let names = matches.get_strs(FIRST).unwrap_or(&[STANDARD_INPUT]);
+    let names = any_names(matches);
     draw_lists(rt, matches, names, MapRequest { frame, look }, writers)
 }
 
@@ -261,7 +270,7 @@ pub fn draw_map(rt: &HostRuntime, matches: &ArgMatches, writers: &mut Writers<'_
         Ok(frame) => frame,
         Err(status) => return status,
     };
-    let names = matches.get_strs(FIRST).unwrap_or(&[STANDARD_INPUT]);
+    let names = any_names(matches);
     if are_too_many(rt, matches, names) {
         return 2;
     }

@@ -53,6 +53,12 @@ impl<R: Read> Read for NotedInput<'_, R> {
 }
 
 impl ListReader for NotedSession {
+    ghost use Rattle.netset_lib.specs.Sessions.{has_entry, refused_count};
+
+    ghost refused = { λ noted. refused_count noted.session };
+
+    ghost holds = { λ noted. has_entry noted.session };
+
     fn read<R: Read>(&mut self, input: &mut R) -> Result<(), ReadFailure> {
         let Ok(notes) = EntryNotes::new(self.alloc, self.grammar, self.frame) else {
             return Err(ReadFailure::Memory);

@@ -6,17 +6,16 @@ ghost use Rattle.netset_lib.specs.Commands.{families_of};
 ghost use Rattle.netset_lib.specs.declared.command.Flags.{Flags};
 
 use crate::arguments::{
-    ArgumentFailure, FIRST, command_of, first, flag, flags_of, name_of_list,
-    report_argument_failure,
+    ArgumentFailure, FIRST, FIRST_LIST, SHARED, flags_of, name_of_list, report_argument_failure,
 };
-use crate::bar::{BAR, bar_form_of, with_plan_bar};
+use crate::bar::{BAR, PLAN_BAR, bar_form_of};
 use crate::output::Writers;
 use crate::reading::{reading_work, session_of};
-use clap::{Arg, ArgAction, ArgMatches, Command};
+use crate::table::{ARGUMENT, Argument, Form, Subcommand};
+use clap::ArgMatches;
 use ipnet_bars::BarForm;
 use netset_lib::{Families, PlanCommand, PlanRequest, families, read_length, run_text};
 use netset_pictures::{PlanBarCommand, PlanBarRequest};
-use std::alloc::{AllocError, Global};
 use std::io::Write;
 
 /// The name of the command.
@@ -25,35 +24,44 @@ pub const PLAN: &str = "plan";
 /// The id of the prefix lengths.
 const LENGTHS: &str = "lengths";
 
-/// Adds the list and the prefix lengths of `plan`.
-#[inline(never)]
-fn with_networks<'a>(alloc: Global, command: Command<'a>) -> Result<Command<'a>, AllocError> {
-    let free = first(
-        alloc,
-        "FREE",
-        "The list of the free addresses, - for standard input",
-    );
-    let lengths = Arg::new(alloc, LENGTHS)
-        .value_name("LEN")
-        .required(true)
-        .num_args(1..)
-        .action(ArgAction::Append)
-        .help("The prefix lengths, such as 24 or /24, one for each network");
-    command.arg(free)?.arg(lengths)
-}
+/// The flags for the families.
+const FAMILIES: &[Argument] = &[
+    Argument {
+        id: "ipv4",
+        form: Form::Flag("ipv4"),
+        help: "Plan IPv4 networks; by default, the only family of the list",
+        ..ARGUMENT
+    },
+    Argument {
+        id: "ipv6",
+        form: Form::Flag("ipv6"),
+        help: "Plan IPv6 networks",
+        ..ARGUMENT
+    },
+];
+
+/// The list and the prefix lengths.
+const FREE_AND_LENGTHS: &[Argument] = &[
+    Argument {
+        form: Form::Word("FREE"),
+        help: "The list of the free addresses, - for standard input",
+        ..FIRST_LIST
+    },
+    Argument {
+        id: LENGTHS,
+        form: Form::Words("LEN"),
+        help: "The prefix lengths, such as 24 or /24, one for each network",
+        is_required: true,
+        ..ARGUMENT
+    },
+];
 
 /// The command `plan`.
-#[inline(never)]
-pub fn plan_command<'a>(alloc: Global) -> Result<Command<'a>, AllocError> {
-    let about =
-        "Networks of these prefix lengths inside FREE that share no address; status 1 if none exist";
-    let ipv4 = "Plan IPv4 networks; by default, the only family of the list";
-    let ipv6 = "Plan IPv6 networks";
-    let command = command_of(alloc, PLAN, about)?
-        .arg(flag(alloc, "ipv4", ipv4))?
-        .arg(flag(alloc, "ipv6", ipv6))?;
-    with_networks(alloc, with_plan_bar(alloc, command)?)
-}
+pub const PLAN_COMMAND: Subcommand = Subcommand {
+    name: PLAN,
+    about: "Networks of these prefix lengths inside FREE that share no address; status 1 if none exist",
+    arguments: &[SHARED, FAMILIES, PLAN_BAR, FREE_AND_LENGTHS],
+};
 
 /// The families of the networks, by the flags `--ipv4` and `--ipv6`.
 fn families_of(matches: &ArgMatches) -> Families

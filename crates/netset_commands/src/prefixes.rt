@@ -1,27 +1,36 @@
 //! The command `prefix-list`: its arguments, and its run.
 ghost use Rattle.std.specs.Prelude.{◌≤◌};
 
-use crate::arguments::{command_of, first, flags_of, other, two_or_report};
+use crate::arguments::{FIRST_LIST, OTHER_LIST, SHARED, flags_of, two_or_report};
 use crate::output::Writers;
 use crate::reading::bytes_of;
-use clap::{ArgMatches, Command};
+use crate::table::{Argument, Form, Subcommand};
+use clap::ArgMatches;
 use netset_lib::{PrefixListCommand, run_text};
-use std::alloc::{AllocError, Global};
 
 /// The name of the command.
 pub const PREFIX_LIST: &str = "prefix-list";
 
 /// The command `prefix-list`.
-#[inline(never)]
-pub fn prefix_command<'a>(alloc: Global) -> Result<Command<'a>, AllocError> {
-    let about =
-        "For each network of FILE, permit or deny by the prefix list PREFIXES; status 1 if any is denied";
-    let prefixes = first(alloc, "PREFIXES", "The prefix list, - for standard input");
-    let networks = "The list of networks; standard input if it is omitted";
-    command_of(alloc, PREFIX_LIST, about)?
-        .arg(prefixes)?
-        .arg(other(alloc, networks).required(false))
-}
+pub const PREFIX_COMMAND: Subcommand = Subcommand {
+    name: PREFIX_LIST,
+    about: "For each network of FILE, permit or deny by the prefix list PREFIXES; status 1 if any is denied",
+    arguments: &[
+        SHARED,
+        &[
+            Argument {
+                form: Form::Word("PREFIXES"),
+                help: "The prefix list, - for standard input",
+                ..FIRST_LIST
+            },
+            Argument {
+                help: "The list of networks; standard input if it is omitted",
+                is_required: false,
+                ..OTHER_LIST
+            },
+        ],
+    ],
+};
 
 /// Reads the arguments and both lists, prints the verdicts, and returns the exit status.
 #[inline(never)]

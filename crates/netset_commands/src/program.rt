@@ -16,6 +16,7 @@ use crate::entries::{
     OVERLAPS, REDUNDANT, SUPERNET, print_overlaps, print_redundant, print_supernet,
 };
 use crate::extract::{EXTRACT, extract_entries};
+use crate::fit::{FIT, fit_lists};
 use crate::forms::form_of;
 use crate::listing::{HOSTS, SPLIT, list_hosts, list_subnets};
 use crate::map::{MAP, draw_map};
@@ -119,6 +120,7 @@ fn run_command(rt: &HostRuntime, name: &str, matches: &ArgMatches, writers: &mut
         BAR => draw_bar(rt, matches, writers),
         MAP => draw_map(rt, matches, writers),
         SUPERNET => print_supernet(rt, matches, writers),
+        FIT => fit_lists(rt, matches, writers),
         REDUNDANT => print_redundant(rt, matches, writers),
         OVERLAPS => print_overlaps(rt, matches, writers),
         SPLIT => list_subnets(rt, matches, writers),

@@ -2,16 +2,16 @@
 ghost use Rattle.std.specs.Prelude.{◌≡◌, ◌≤◌, IfErr};
 ghost use Rattle.netset_commands.specs.Arguments.{IsDefault};
 
-use crate::arguments::{FIRST, command_of, first, flags_of, name_of_list};
-use crate::forms::{form_of, operation_command};
+use crate::arguments::{FIRST, SHARED, flags_of, name_of_list};
+use crate::forms::{ANSWER_FORM, form_of};
 use crate::input::report_unread;
 use crate::lists::{Reports, read_rules};
 use crate::output::Writers;
-use clap::{Arg, ArgMatches, Command};
+use crate::table::{ARGUMENT, Argument, Form, Subcommand};
+use clap::ArgMatches;
 use ipnet_rules::Action;
 use netset_forms::PermittedCommand;
 use netset_lib::{RuleList, UnreachedCommand, run, run_text};
-use std::alloc::{AllocError, Global};
 
 /// The names of the two commands.
 pub const PERMITTED: &str = "permitted";
@@ -26,34 +26,39 @@ const PERMIT: &str = "permit";
 const ACTIONS: &[&str] = &[PERMIT, "deny"];
 
 /// The list of rules.
-fn rules_file<'a>(alloc: Global) -> Arg<'a> {
-    let help = "The list of rules, - for standard input; standard input if it is omitted";
-    first(alloc, "RULES", help).required(false)
-}
+const RULES: Argument = Argument {
+    id: FIRST,
+    form: Form::Word("RULES"),
+    help: "The list of rules, - for standard input; standard input if it is omitted",
+    ..ARGUMENT
+};
 
 /// The command `permitted`.
-#[inline(never)]
-pub fn permitted_command<'a>(alloc: Global) -> Result<Command<'a>, AllocError> {
-    let about = "The addresses whose first matching rule in RULES permits them";
-    let default = "What happens to the addresses that no rule matches";
-    let default = Arg::new(alloc, DEFAULT)
-        .long(DEFAULT)
-        .value_name("ACTION")
-        .value_parser(ACTIONS)
-        .default_value("deny")
-        .help(default);
-    operation_command(alloc, PERMITTED, about)?
-        .arg(default)?
-        .arg(rules_file(alloc))
-}
+pub const PERMITTED_COMMAND: Subcommand = Subcommand {
+    name: PERMITTED,
+    about: "The addresses whose first matching rule in RULES permits them",
+    arguments: &[
+        SHARED,
+        ANSWER_FORM,
+        &[
+            Argument {
+                id: DEFAULT,
+                form: Form::Choice(DEFAULT, "ACTION", ACTIONS),
+                help: "What happens to the addresses that no rule matches",
+                default: Some("deny"),
+                ..ARGUMENT
+            },
+            RULES,
+        ],
+    ],
+};
 
 /// The command `unreached`.
-#[inline(never)]
-pub fn unreached_command<'a>(alloc: Global) -> Result<Command<'a>, AllocError> {
-    let about =
-        "The rules of RULES that decide on no address, and the rules that do; status 1 if any";
-    command_of(alloc, UNREACHED, about)?.arg(rules_file(alloc))
-}
+pub const UNREACHED_COMMAND: Subcommand = Subcommand {
+    name: UNREACHED,
+    about: "The rules of RULES that decide on no address, and the rules that do; status 1 if any",
+    arguments: &[SHARED, &[RULES]],
+};
 
 /// Returns what happens to the addresses that no rule matches.
 fn default_of(matches: &ArgMatches) -> Action

@@ -2,19 +2,21 @@
 ghost use Rattle.std.specs.Prelude.{◌≤◌, codes};
 ghost use Rattle.netset_commands.specs.Arguments.{IsFlag};
 
-use crate::arguments::{flag, flags_of, two_or_report};
+use crate::arguments::{flags_of, two_or_report};
 use crate::output::Writers;
 use crate::reading::bytes_of;
-use clap::{Arg, ArgMatches};
+use crate::table::{ARGUMENT, Argument, Form};
+use clap::ArgMatches;
 use netset_lib::{TextRoutesCommand, run_text};
-use std::alloc::{AllocError, Global};
 
 /// The flag by which the texts of the table are read and printed.
-pub fn text_flag<'a>(alloc: Global) -> Result<Arg<'a>, AllocError> {
-    let help =
-        "In TABLE, text may follow the entry of a line; print it after the network. Not with --stream";
-    flag(alloc, "with-text", help).conflicts_with("stream")
-}
+pub const TEXT_FLAG: Argument = Argument {
+    id: "with-text",
+    form: Form::Flag("with-text"),
+    help: "In TABLE, text may follow the entry of a line; print it after the network. Not with --stream",
+    conflicts: &["stream"],
+    ..ARGUMENT
+};
 
 /// Whether the texts of the table are asked for.
 pub fn has_text_flag(matches: &ArgMatches) -> bool

@@ -5,14 +5,14 @@ ghost use Rattle.netset_commands.specs.Calls.{AreFlags};
 ghost use Rattle.netset_lib.specs.Commands.{grammar_of, side_of};
 ghost use Rattle.netset_lib.specs.declared.command.Flags.{Flags};
 
-use crate::arguments::{flag, flags_of, is_set, two_or_report};
+use crate::arguments::{flags_of, is_set, two_or_report};
 use crate::input::{open_log, report_unread};
 use crate::output::Writers;
 use crate::reading::{reading_work, session_of};
-use clap::{Arg, ArgAction, ArgMatches, Command};
+use crate::table::{ARGUMENT, Argument, Form};
+use clap::ArgMatches;
 use netset_lib::report_failure;
 use netset_words::{LineFilter, LinesRequest, run_lines};
-use std::alloc::{AllocError, Global};
 use std::io::Write;
 
 /// The name of the flag for whole lines.
@@ -24,24 +24,30 @@ const ANY: &str = "any";
 /// The id of the flag `--others`. The id `others` belongs to the lists after the first.
 const OTHER_LINES: &str = "other-lines";
 
-/// Adds the flags for whole lines to the command `filter`.
-#[inline(never)]
-pub fn with_lines<'a>(alloc: Global, command: Command<'a>) -> Result<Command<'a>, AllocError> {
-    let lines =
-        "Print the whole lines of FILE, any text, whose first entry lies inside SET; not with --stream";
-    let any =
-        "With --lines: the lines of which any entry lies inside SET, or outside it with --outside";
-    let others = "With --lines: the other lines, with those that have no entry";
-    let others = Arg::new(alloc, OTHER_LINES)
-        .long("others")
-        .action(ArgAction::SetTrue)
-        .help(others)
-        .requires_arg(LINES)?;
-    command
-        .arg(flag(alloc, LINES, lines).conflicts_with("stream")?)?
-        .arg(flag(alloc, ANY, any).requires_arg(LINES)?)?
-        .arg(others)
-}
+/// The flags for whole lines.
+pub const LINE_FLAGS: &[Argument] = &[
+    Argument {
+        id: LINES,
+        form: Form::Flag(LINES),
+        help: "Print the whole lines of FILE, any text, whose first entry lies inside SET; not with --stream",
+        conflicts: &["stream"],
+        ..ARGUMENT
+    },
+    Argument {
+        id: ANY,
+        form: Form::Flag(ANY),
+        help: "With --lines: the lines of which any entry lies inside SET, or outside it with --outside",
+        needs: &[LINES],
+        ..ARGUMENT
+    },
+    Argument {
+        id: OTHER_LINES,
+        form: Form::Flag("others"),
+        help: "With --lines: the other lines, with those that have no entry",
+        needs: &[LINES],
+        ..ARGUMENT
+    },
+];
 
 /// Which lines the flags choose.
 fn lines_request(matches: &ArgMatches) -> LinesRequest

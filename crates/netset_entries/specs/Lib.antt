@@ -1,5 +1,6 @@
 -- The definitions that the contracts of this crate cite.
 pub mod Supernets
+pub mod FittedLists
 pub mod NumberedEntries
 pub mod EntryLineOf
 pub mod EntryPlaces

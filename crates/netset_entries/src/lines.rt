@@ -7,7 +7,7 @@ ghost use Rattle.netset_entries.specs.EntryLineOf.{numbered};
 ghost use Rattle.netset_entries.specs.WriteReports.{IsWriteReported};
 
 use crate::entry_list::EntryLine;
-use ipnet_lists::{RefusedLines, name_of, report_refused};
+use ipnet_lists::{RefusedLines, report_refused};
 use ipnet_text::pieces::PIECE;
 use ipnet_text::write_whole;
 use netset_lib::reports::{OUT_OF_MEMORY, UNWRITABLE, report_words};
@@ -90,8 +90,8 @@ impl Report for WriteFailure {
     fn report<X: Write>(&self, names: &[&str], faults: &mut X) -> io::Result<()> {
         match self {
             WriteFailure::Refused(first, second) => {
-                report_refused(faults, name_of(names, 0), first)?;
-                report_refused(faults, name_of(names, 1), second)
+                report_refused(faults, names, 0, first)?;
+                report_refused(faults, names, 1, second)
             }
             WriteFailure::Memory => report_words(faults, OUT_OF_MEMORY),
             WriteFailure::Unwritable => report_words(faults, UNWRITABLE),

@@ -1,17 +1,7 @@
 -- The values of options: numbers, prefix lengths and names of sets.
-use Rattle.std.proofs.Common.{◌≡◌, ◌≢◌, ◌⊎◌, ◌↔◌, ◌∙◌, ℕ, List, true, false, sym, subst, inl, inr, Option, Some, None}
+use Rattle.std.proofs.Common.{◌≡◌, ◌≢◌, ◌⊎◌, ◌↔◌, ◌∙◌, ℕ, List, sym, subst, inl, inr, Option, Some, None}
 use Rattle.std.specs.Borrow.{Bor}
-use Rattle.std.specs.Char.{is_ascii_digit}
-use Rattle.std.specs.List.{list_all}
 use Rattle.std.specs.Option.{IsSomeAnd}
-use Rattle.ipnet.specs.Numerals.{IsDecimal}
-use Rattle.ipnet.specs.declared.parser.Grammar.TheVariants.{Strict}
-use Rattle.ipnet_lists.proofs.CauseTexts.{same_digits, digits_model}
-
--- a number has only decimal digits
-pub number_digits : (most greatest : ℕ) (text : List ℕ) (n : ℕ) → IsDecimal Strict most greatest text n
-    → list_all is_ascii_digit text ≡ true
-number_digits most greatest text n h = same_digits text ∙ digits_model.from text h.digits.1
 
 -- if no number was read, the text is not one
 pub none_read : (P : ℕ → Type 0) (r : Option ℕ) → ((n : ℕ) → (r ≡ Some n) ↔ P n) → r ≡ None → (n : ℕ) → ¬ (P n)

@@ -1,5 +1,5 @@
 -- The options of a command line for the form of an answer, and why they do not go together.
-use Rattle.std.specs.Prelude.{◌≡◌, ◌≢◌, ◌⊎◌, ◌↔◌, ◌==◌, ℕ, Bool, true, false, cond, List, [], codes, slice_index}
+use Rattle.std.specs.Prelude.{◌≡◌, ◌≢◌, ◌⊎◌, ◌↔◌, ◌==◌, ◌≤◌, ℕ, Bool, true, false, cond, List, [], codes}
 use Rattle.std.specs.Prelude.{Option, Some, None, IsSome, IfSome, IsSomeAnd, unwrap_or, option_map}
 use Rattle.std.specs.List.{list_any}
 use Rattle.std.specs.Borrow.{Bor}
@@ -55,7 +55,7 @@ HasNames options = IsSome options.sets.ipv4 ⊎ IsSome options.sets.ipv6
 
 -- The text is a `maxelem`: a number from 1 to 4294967295, without leading zeros.
 abbrev pub IsMaxelem : List ℕ → ℕ → Type 0
-IsMaxelem text n = IsDecimal Strict 10 4294967295 text n × (slice_index text 0 ≢ 48)
+IsMaxelem text n = IsDecimal Strict 10 4294967295 text n × (1 ≤ n)
 
 -- The most elements of a set: the `maxelem` of ipset, or the greatest.
 abbrev pub IsMostElements : FormName → FormOptions → ℕ → Type 0

@@ -9,8 +9,7 @@ ghost use Rattle.netset_forms.specs.declared.options.FormName.{FormName};
 
 use crate::form::{AnswerForm, FormRequest, SetNames};
 use crate::names::{are_ipset_sets, are_nft_sets, is_ipset_name, is_nft_name};
-use ipnet_lists::are_digits;
-use netset_lib::read_length;
+use netset_lib::{read_length, read_number};
 
 /// The `maxelem` of a set of ipset without the option: the greatest that the kernel has.
 pub const MOST_ELEMENTS: u32 = 4_294_967_295;
@@ -163,19 +162,9 @@ fn has_line_break(text: &str) -> bool
 fn read_maxelem(digits: &str) -> Option<u32>
     ensures { (n : ℕ) → (result ≡ Some n) ↔ IsMaxelem digits.now n }
 {
-    let bytes = digits.as_bytes();
-    if bytes.is_empty() || bytes.len() > 10 {
-        return None;
-    }
-    if !are_digits(bytes) {
-        return None;
-    }
-    if bytes[0] == b'0' {
-        return None;
-    }
-    match digits.parse::<u32>() {
-        Ok(number) => Some(number),
-        Err(_) => None,
+    match read_number(digits) {
+        Some(number) if number > 0 => Some(number),
+        _ => None,
     }
 }
 

@@ -48,7 +48,7 @@ count_same A B n same h = record {
 }
 
 -- sets with the same addresses have the same counts
-counts_same : (A B : Address → Type 0) (line : List ℕ) → ((x : Address) → A x ↔ B x) → IsCountsLine A line
+pub counts_same : (A B : Address → Type 0) (line : List ℕ) → ((x : Address) → A x ↔ B x) → IsCountsLine A line
     → IsCountsLine B line
 counts_same A B line same h = record {
   ipv4 = h.ipv4;

@@ -53,6 +53,14 @@ prefix_reason (Prefixes.NoNetwork cause) = network_reason cause
 prefix_reason Prefixes.BadBounds = codes "after the network: ge or le and a number, each at most once"
 prefix_reason (Prefixes.RefusedBounds error) = bounds_reason error
 
+-- The words for a line that is not a network.
+abbrev pub no_network : List ℕ
+no_network = codes "not a network"
+
+-- The words for a line that is not a rule of a prefix list.
+abbrev pub no_prefix_rule : List ℕ
+no_prefix_rule = codes "not a rule of a prefix list"
+
 -- The text is not what `what_not` says, for the reason that `reason_of` names.
 abbrev pub Explains : {C : Type 0} → List ℕ → (C → List ℕ) → C → List ℕ → List ℕ → Option (List ℕ) → Type 0
 Explains what_not reason_of cause text what why = (what ≡ what_not) × (why ≡ Some (reason_of cause))

@@ -19,6 +19,10 @@ long_words length most = codes "/" ++ decimal length ++ codes ": the prefix leng
 abbrev pub unwritable : List ℕ
 unwritable = codes "output cannot be written"
 
+-- The line that reports that memory ran out: `netset: out of memory`, and a line feed.
+abbrev pub memory_line : List ℕ
+memory_line = words_line (codes "out of memory")
+
 -- The text reports why lists have no answer. For refused lines, `Is` says so of the kept ones and the number of the
 -- others.
 abbrev pub IsFailureText : (List Refusal → ℕ → List ℕ → Type 0) → Failure → List ℕ → Type 0
@@ -27,7 +31,7 @@ IsFailureText Is Failures.NoFamily text =
     text ≡ words_line (codes "the list has no entries: choose --ipv4 or --ipv6, or both")
 IsFailureText Is (Failures.Refused lines) text = OfNew Is lines 0 0 text
 IsFailureText Is Failures.Unreadable text = text ≡ words_line (codes "a list could not be read")
-IsFailureText Is Failures.Memory text = text ≡ words_line (codes "out of memory")
+IsFailureText Is Failures.Memory text = text ≡ memory_line
 
 -- The text is the report of the failure about lists with these names: its words, or the first ten refused lines and the
 -- number of the others.

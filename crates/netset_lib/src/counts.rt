@@ -29,7 +29,11 @@ fn push_ipv6_count(text: &mut String, set: &IpSet) -> Result<(), AllocError>
 }
 
 /// Appends how many addresses of each family the set has, on one line.
-fn push_counts(text: &mut String, set: &IpSet) -> Result<(), AllocError>
+///
+/// ```text
+/// of 10.0.0.0-10.0.0.5: "IPv4 6, IPv6 0\n"
+/// ```
+pub fn push_counts(text: &mut String, set: &IpSet) -> Result<(), AllocError>
     ensures { OnOk result ((line : List ℕ) × IsCountsLine (IsMember set.now) line
         × (string_bytes text.new ≡ string_bytes text.old ++ line)) }
 {

@@ -1,5 +1,7 @@
 //! The command `prefix-list` of the program.
-ghost use Rattle.std.specs.Prelude.{◌≡◌, ⊤, not, List, ℕ};
+ghost use Rattle.std.specs.Prelude.{◌≡◌, not, List, ℕ};
+ghost use Rattle.ipnet_text.specs.Outputs.{IsWritten, IsFrontWritten};
+ghost use Rattle.netset_lib.specs.ListReports.{IsVerdictReport, IsVerdictBegun};
 ghost use Rattle.netset_lib.specs.PrefixAnswers.{IsVerdictAnswer};
 ghost use Rattle.netset_lib.specs.PrefixReading.{IsPrefixFailure};
 
@@ -7,7 +9,7 @@ use crate::prefix_answer::{PrefixFailure, prefix_verdicts};
 use crate::reports::{OUT_OF_MEMORY, report_words};
 use crate::runs::{Report, TextCommand};
 use ipnet::Grammar;
-use ipnet_lists::{name_of, report_refused};
+use ipnet_lists::report_refused;
 use std::alloc::Global;
 use std::io;
 use std::io::Write;
@@ -62,9 +64,9 @@ impl<'a> TextCommand for PrefixListCommand<'a> {
 impl Report for PrefixFailure {
     ghost exit = { λ _. 2 };
 
-    ghost is_reported = { λ _ _ _ _. ⊤ };
+    ghost is_reported = { λ failure names. IsWritten (IsVerdictReport failure names) };
 
-    ghost is_begun = { λ _ _ _ _. ⊤ };
+    ghost is_begun = { λ failure names. IsFrontWritten (IsVerdictBegun failure names) };
 
     fn status(&self) -> u8 {
         2
@@ -73,8 +75,8 @@ impl Report for PrefixFailure {
     fn report<X: Write>(&self, names: &[&str], faults: &mut X) -> io::Result<()> {
         match self {
             PrefixFailure::Memory => report_words(faults, OUT_OF_MEMORY),
-            PrefixFailure::Prefixes(lines) => { report_refused(faults, name_of(names, 0), lines) }
-            PrefixFailure::Networks(lines) => { report_refused(faults, name_of(names, 1), lines) }
+            PrefixFailure::Prefixes(lines) => report_refused(faults, names, 0, lines),
+            PrefixFailure::Networks(lines) => report_refused(faults, names, 1, lines),
         }
     }
 }

@@ -2,6 +2,7 @@
 ghost use Rattle.std.specs.Prelude.{◌≡◌, codes};
 ghost use Rattle.netset_lib.specs.Reasons.{network_reason, change_reason, rule_reason, bounds_reason, prefix_reason};
 ghost use Rattle.netset_lib.specs.Reasons.{entry_reason, Explains};
+ghost use Rattle.netset_lib.specs.ListReports.{ExplainsNetwork, ExplainsPrefix};
 
 use crate::change_line::ChangeCause;
 use crate::network_entry::NetworkCause;
@@ -84,7 +85,7 @@ fn prefix_reason(cause: &PrefixCause) -> &'static str
 }
 
 impl LineCause for NetworkCause {
-    ghost explains = { Explains (codes "not a network") network_reason };
+    ghost explains = { ExplainsNetwork };
 
     fn explain(&self, _: &[u8]) -> Explanation {
         Explanation {
@@ -117,7 +118,7 @@ impl LineCause for RuleCause {
 }
 
 impl LineCause for PrefixCause {
-    ghost explains = { Explains (codes "not a rule of a prefix list") prefix_reason };
+    ghost explains = { ExplainsPrefix };
 
     fn explain(&self, _: &[u8]) -> Explanation {
         Explanation {

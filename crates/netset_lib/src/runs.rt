@@ -6,7 +6,7 @@ ghost use Rattle.ipnet_lists.specs.Names.{Names};
 ghost use Rattle.ipnet_lists.specs.Reports.{OfNew, IsReport};
 ghost use Rattle.ipnet_lists.specs.Reports as lists;
 ghost use Rattle.ipnet_text.specs.Outputs.{IsWritten, IsFrontWritten};
-ghost use Rattle.netset_lib.specs.ListReports.{IsListReported};
+ghost use Rattle.netset_lib.specs.ListReports.{IsListReport, IsListBegun};
 ghost use Rattle.netset_lib.specs.Reports.{IsFailureReport, IsFailureBegun, words_line, unwritable};
 ghost use Rattle.netset_lib.specs.Runs.{IsReported, IsReportBegun, OfFault, exit_of_fault};
 ghost use Rattle.netset_lib.specs.declared.runs.Fault.TheVariants.{Lists};
@@ -153,9 +153,9 @@ impl Report for Failure {
 impl<C: LineCause> Report for ListFailure<C> {
     ghost exit = { λ _. 2 };
 
-    ghost is_reported = { λ failure _. IsListReported IsWritten failure };
+    ghost is_reported = { λ failure names. IsWritten (IsListReport C.explains failure names) };
 
-    ghost is_begun = { λ failure _. IsListReported IsFrontWritten failure };
+    ghost is_begun = { λ failure names. IsFrontWritten (IsListBegun C.explains failure names) };
 
     fn status(&self) -> u8 {
         2
@@ -164,11 +164,7 @@ impl<C: LineCause> Report for ListFailure<C> {
     fn report<X: Write>(&self, names: &[&str], faults: &mut X) -> io::Result<()> {
         match self {
             ListFailure::Refused(lines) => {
-                report_refused(
-                    faults,
-                    names.last().copied().unwrap_or("list"),
-                    lines.as_slice(),
-                )
+                report_refused(faults, names, names.len().saturating_sub(1), lines)
             }
             ListFailure::Memory => report_words(faults, OUT_OF_MEMORY),
         }
@@ -234,8 +230,12 @@ impl Ended {
     }
 }
 
-/// Reports the failure, and ends with its status.
-fn end_with<F: Report, X: Write>(failure: &F, names: &[&str], faults: &mut X) -> Ended
+/// Reports the failure, and ends with its status. If a write fails, a front of the report has been written.
+///
+/// ```text
+/// out of memory: status 2, and faults gets "netset: out of memory\n"
+/// ```
+pub fn end_with<F: Report, X: Write>(failure: &F, names: &[&str], faults: &mut X) -> Ended
     ensures status { result.status ≡ F.exit failure.now }
     ensures least { 1 ≤ result.status }
     ensures most { result.status ≤ 2 }
@@ -256,8 +256,13 @@ fn end_with<F: Report, X: Write>(failure: &F, names: &[&str], faults: &mut X) ->
     }
 }
 
-/// Reports that the output cannot be written, and ends with status 2.
-fn end_unwritable<X: Write>(faults: &mut X) -> Ended
+/// Reports that the output cannot be written, and ends with status 2. If a write fails, a front of the report has been
+/// written.
+///
+/// ```text
+/// status 2, and faults gets "netset: output cannot be written\n"
+/// ```
+pub fn end_unwritable<X: Write>(faults: &mut X) -> Ended
     ensures status { result.status ≡ 2 }
     ensures whole { IsTrue result.is_reported → IsWritten (λ t. t ≡ words_line unwritable)
         (X.contents faults.old) (X.contents faults.new) }

@@ -1,6 +1,8 @@
 //! The command `route --with-text` of the program.
-ghost use Rattle.std.specs.Prelude.{◌≡◌, ⊤, not, List, ℕ, IfSome};
+ghost use Rattle.std.specs.Prelude.{◌≡◌, not, List, ℕ, IfSome};
 ghost use Rattle.std.specs.Io.KnownBytes.{Keeps};
+ghost use Rattle.ipnet_text.specs.Outputs.{IsWritten, IsFrontWritten};
+ghost use Rattle.netset_lib.specs.ListReports.{IsRouteReport, IsRouteBegun};
 ghost use Rattle.netset_lib.specs.TextReasons.{ExplainsTextLine};
 ghost use Rattle.netset_lib.specs.TextReplies.{IsTextFailure};
 ghost use Rattle.netset_lib.specs.TextTables.{IsTextRouteAnswer, IsTableOfTexts};
@@ -10,7 +12,7 @@ use crate::runs::{Report, TextCommand};
 use crate::text_line::{NotTextLine, text_cause};
 use crate::text_route::{TextFailure, table_of_texts, text_route_answers};
 use ipnet::Grammar;
-use ipnet_lists::{Explanation, LineCause, explain_cause, name_of, report_refused, report_since};
+use ipnet_lists::{Explanation, LineCause, explain_cause, report_refused};
 use ipnet_routes::RouteTable;
 use std::alloc::Global;
 use std::io;
@@ -77,9 +79,9 @@ impl<'a> TextCommand for TextRoutesCommand<'a> {
 impl Report for TextFailure {
     ghost exit = { λ _. 2 };
 
-    ghost is_reported = { λ _ _ _ _. ⊤ };
+    ghost is_reported = { λ failure names. IsWritten (IsRouteReport failure names) };
 
-    ghost is_begun = { λ _ _ _ _. ⊤ };
+    ghost is_begun = { λ failure names. IsFrontWritten (IsRouteBegun failure names) };
 
     fn status(&self) -> u8 {
         2
@@ -87,10 +89,8 @@ impl Report for TextFailure {
 
     fn report<X: Write>(&self, names: &[&str], faults: &mut X) -> io::Result<()> {
         match self {
-            TextFailure::Table(lines) => report_refused(faults, name_of(names, 0), lines),
-            TextFailure::List(lines) => {
-                report_since(faults, &[name_of(names, 1)], lines, (0, 0))
-            }
+            TextFailure::Table(lines) => report_refused(faults, names, 0, lines),
+            TextFailure::List(lines) => report_refused(faults, names, 1, lines),
             TextFailure::Memory => report_words(faults, OUT_OF_MEMORY),
         }
     }

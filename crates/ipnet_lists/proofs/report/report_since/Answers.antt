@@ -19,8 +19,8 @@ returns-then-lines-count-clause-front g c =
 pub returns-in_err-report_lines-clause-front : goal.returns-in_err-report_lines-clause-front
 returns-in_err-report_lines-clause-front g c =
     new_begun g.C.LineCause.explains c.args.names.now c.args.lines.now c.args.before.0 c.args.before.1
-    c.lines_after-new.result.now
-    (c.lines_after-new.ensures ∙ ap (drop c.args.before.0) c.as_slice.ensures.value) c.if-lines-count.false
+    c.items_after-new.result.now
+    (c.items_after-new.ensures ∙ ap (drop c.args.before.0) c.as_slice.ensures.value) c.if-lines-count.false
     (g.X.Write.contents c.args.faults.now) (g.X.Write.contents c.report_lines.new.faults)
     c.report_lines.ensures.front
 
@@ -28,8 +28,8 @@ pub returns-clause-whole : goal.returns-clause-whole
 returns-clause-whole g c =
     on_ok_weaker c.report_more.result
     (λ k. new_written g.C.LineCause.explains c.args.names.now c.args.lines.now c.args.before.0 c.args.before.1
-    c.lines_after-new.result.now
-    (c.lines_after-new.ensures ∙ ap (drop c.args.before.0) c.as_slice.ensures.value) c.if-lines-count.false
+    c.items_after-new.result.now
+    (c.items_after-new.ensures ∙ ap (drop c.args.before.0) c.as_slice.ensures.value) c.if-lines-count.false
     c.hidden_of-more.result (g.X.Write.contents c.args.faults.now) (g.X.Write.contents c.report_lines.new.faults)
     (g.X.Write.contents c.report_more.new.faults)
     c.hidden_of-more.ensures
@@ -39,8 +39,8 @@ returns-clause-whole g c =
 pub returns-clause-front : goal.returns-clause-front
 returns-clause-front g c =
     more_begun g.C.LineCause.explains c.args.names.now c.args.lines.now c.args.before.0 c.args.before.1
-    c.lines_after-new.result.now
-    (c.lines_after-new.ensures ∙ ap (drop c.args.before.0) c.as_slice.ensures.value) c.if-lines-count.false
+    c.items_after-new.result.now
+    (c.items_after-new.ensures ∙ ap (drop c.args.before.0) c.as_slice.ensures.value) c.if-lines-count.false
     c.hidden_of-more.result (g.X.Write.contents c.args.faults.now) (g.X.Write.contents c.report_lines.new.faults)
     (g.X.Write.contents c.report_more.new.faults)
     c.hidden_of-more.ensures

@@ -1,0 +1,37 @@
+-- The command line: its commands by name, and their arguments by id.
+use Rattle.std.specs.Prelude.{◌≡◌, ℕ, List, map, flat_map}
+use Rattle.std.specs.Borrow.{Bor}
+use Rattle.clap.specs.Facts.{args_of, subcommands_of}
+use Rattle.clap.specs.declared.builder.command.Command.{Command}
+use Rattle.clap.specs.declared.builder.command.Command.TheViews.{out-Command}
+use Rattle.netset_commands.specs.declared.table.Argument.{Argument}
+use Rattle.netset_commands.specs.declared.table.Subcommand.{Subcommand}
+
+-- The ids of arguments, in order.
+abbrev pub ids_in : List Argument → List (List ℕ)
+ids_in arguments = map (λ argument. argument.id.now) arguments
+
+-- The ids of arguments in groups, in order. Example: `a`, `b`, `c` of a group of `a` and `b` and one of `c`.
+abbrev pub ids_in_groups : List (Bor (List Argument)) → List (List ℕ)
+ids_in_groups groups = flat_map (λ arguments. ids_in arguments.now) groups
+
+-- The ids of a command's arguments, in the order in which help lists them.
+abbrev pub ids_of : Command → List (List ℕ)
+ids_of command = map (λ arg. arg.id.now) (args_of command)
+
+-- The name of a command.
+abbrev pub command_name : Command → List ℕ
+command_name command = (out-Command command).name.now
+
+-- The command has the name and the arguments of a row of the table.
+pub record IsOfRow (row : Subcommand) (command : Command) : Type 0 where
+  pub name : command_name command ≡ row.name.now
+  pub ids : ids_of command ≡ ids_in_groups row.arguments.now
+
+-- The names of the commands in the table.
+abbrev pub names_in : List Subcommand → List (List ℕ)
+names_in rows = map (λ row. row.name.now) rows
+
+-- The names of a program's commands, in the order in which help lists them.
+abbrev pub command_names : Command → List (List ℕ)
+command_names command = map command_name (subcommands_of command)
