@@ -328,10 +328,7 @@ pub fn name_of_list<'a>(matches: &ArgMatches<'a>, id: &str) -> &'a str
 pub fn any_names<'a, 'b>(matches: &'b ArgMatches<'a>) -> &'b [&'a str]
     ensures { map (λ name. name.now) result.now ≡ any_names matches.now }
 {
-    match matches.get_strs(FIRST) {
-        Some(names) => names,
-        None => &[STANDARD_INPUT],
-    }
+    matches.get_strs(FIRST).unwrap_or(&[STANDARD_INPUT])
 }
 
 /// The names of the two lists of a command.
