@@ -127,7 +127,10 @@ fn names_of<'a>(alloc: Global, matches: &ArgMatches<'a>) -> Result<Vec<&'a str>,
     if let Some(never) = matches.get_str(NEVER) {
         names.push(never)?;
     }
-    names.extend_from_slice(matches.get_strs(FIRST).unwrap_or(&[STANDARD_INPUT]))?;
+    match matches.get_strs(FIRST) {
+        Some(lists) => names.extend_from_slice(lists)?,
+        None => names.push(STANDARD_INPUT)?,
+    }
     Ok(names)
 }
 
