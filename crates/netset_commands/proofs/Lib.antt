@@ -1,3 +1,4 @@
+pub mod CommandLaws
 -- Lemmas of this crate.
 pub mod MapLaws
 pub mod WordLaws

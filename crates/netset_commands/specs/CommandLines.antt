@@ -1,5 +1,5 @@
 -- The command line: its commands by name, and their arguments by id.
-use Rattle.std.specs.Prelude.{◌≡◌, ℕ, List, map, flat_map}
+use Rattle.std.specs.Prelude.{◌≡◌, ◌∷◌, ℕ, List, [], codes, map, flat_map}
 use Rattle.std.specs.Borrow.{Bor}
 use Rattle.clap.specs.Facts.{args_of, subcommands_of}
 use Rattle.clap.specs.declared.builder.command.Command.{Command}
@@ -35,3 +35,12 @@ names_in rows = map (λ row. row.name.now) rows
 -- The names of a program's commands, in the order in which help lists them.
 abbrev pub command_names : Command → List (List ℕ)
 command_names command = map command_name (subcommands_of command)
+
+-- The commands of the program, in the order in which help lists them.
+abbrev pub all_commands : List (List ℕ)
+all_commands =
+    codes "union" ∷ codes "intersection" ∷ codes "difference" ∷ codes "symmetric-difference" ∷ codes "complement"
+    ∷ codes "count" ∷ codes "compare" ∷ codes "changes" ∷ codes "apply" ∷ codes "extract" ∷ codes "filter"
+    ∷ codes "route" ∷ codes "plan" ∷ codes "bar" ∷ codes "map" ∷ codes "supernet" ∷ codes "fit" ∷ codes "redundant"
+    ∷ codes "overlaps" ∷ codes "split" ∷ codes "hosts" ∷ codes "permitted" ∷ codes "unreached"
+    ∷ codes "prefix-list" ∷ []

@@ -4,7 +4,7 @@ ghost use Rattle.std.specs.Prelude.{OnOk, IsOk, length};
 ghost use Rattle.std.specs.Char.{is_ascii_control};
 ghost use Rattle.std.specs.List.{list_any};
 ghost use Rattle.netset_commands.specs.Arguments.{values_of, list_name, standard_input, IsFlag};
-ghost use Rattle.netset_commands.specs.Arguments.{AreListNames, any_names, empties_of, input_count, have_control};
+ghost use Rattle.netset_commands.specs.Arguments.{AreListNames, empties_of, input_count, have_control};
 ghost use Rattle.netset_commands.specs.Arguments.{most_before_input};
 ghost use Rattle.netset_commands.specs.Calls.{IsCall, IsCallFailure, IsNameFailure, AreGoodNames, PrintsNames};
 ghost use Rattle.netset_commands.specs.Calls.{AreFlags, AreTwoNames};
@@ -321,16 +321,6 @@ pub fn name_of_list<'a>(matches: &ArgMatches<'a>, id: &str) -> &'a str
     match matches.get_str(id) {
         Some(name) => name,
         None => STANDARD_INPUT,
-    }
-}
-
-/// The names of any number of lists; "-" for standard input, if all are omitted.
-pub fn any_names<'a, 'b>(matches: &'b ArgMatches<'a>) -> &'b [&'a str]
-    ensures { map (λ name. name.now) result.now ≡ any_names matches.now }
-{
-    match matches.get_strs(FIRST) {
-        Some(names) => names,
-        None => &[STANDARD_INPUT],
     }
 }
 

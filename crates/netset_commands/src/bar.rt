@@ -8,9 +8,10 @@ ghost use Rattle.netset_commands.specs.Words.{IsFrameOf, IsPicturedWork, mark_ch
 ghost use Rattle.netset_pictures.specs.BarAnswers.{width_text};
 
 use crate::arguments::{
-    ANY_LISTS, ArgumentFailure, SHARED, any_names, flags_of, is_set, reads_input_twice,
+    ANY_LISTS, ArgumentFailure, FIRST, SHARED, flags_of, is_set, reads_input_twice,
     report_argument_failure,
 };
+use crate::input::STANDARD_INPUT;
 use crate::listing::network_or_report;
 use crate::lists::Reports;
 use crate::output::Writers;
@@ -294,7 +295,7 @@ pub fn draw_bar(rt: &HostRuntime, matches: &ArgMatches, writers: &mut Writers<'_
         Ok(request) => request,
         Err(status) => return status,
     };
-    let names = any_names(matches);
+    let names = matches.get_strs(FIRST).unwrap_or(&[STANDARD_INPUT]);
     let session = match read_pictured(rt, matches, names, writers.reports) {
         Ok(session) => session,
         Err(status) => return status,

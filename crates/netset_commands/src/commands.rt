@@ -2,7 +2,7 @@
 ghost use Rattle.std.specs.Prelude.{◌≡◌, ◌++◌, IfOk};
 ghost use Rattle.clap.specs.Built.{IsParsedFrom};
 ghost use Rattle.clap.specs.declared.builder.command.Command.{Command};
-ghost use Rattle.netset_commands.specs.CommandLines.{command_names, names_in};
+ghost use Rattle.netset_commands.specs.CommandLines.{all_commands, command_names, names_in};
 
 use crate::apply::APPLY_COMMAND;
 use crate::arguments::{ANY_LISTS, FIRST_LIST, NO_EMPTY, ONE_LIST, OTHER_LIST, OTHERS, SHARED};
@@ -211,8 +211,7 @@ fn with_commands<'a>(
 /// The command line of the program with this version, with its commands in the order in which help lists them.
 #[inline(never)]
 fn command<'a>(alloc: Global, version: &'a str) -> Result<Command<'a>, AllocError>
-    ensures { IfOk result (λ r. command_names r
-        ≡ names_in OPERATIONS.now ++ names_in QUERIES.now ++ names_in OTHER_COMMANDS.now) }
+    ensures { IfOk result (λ r. command_names r ≡ all_commands) }
 {
     let command = Command::new(alloc, "netset")
         .version(version)
@@ -231,8 +230,8 @@ pub fn matches_of<'a>(
     words: &'a [String],
     version: &'a str,
 ) -> Result<ArgMatches<'a>, Error>
-    ensures { IfOk result (λ matches. (c : Command) × IsParsedFrom c matches × (command_names c
-        ≡ names_in OPERATIONS.now ++ names_in QUERIES.now ++ names_in OTHER_COMMANDS.now)) }
+    ensures { IfOk result (λ matches. (c : Command) × IsParsedFrom c matches
+        × (command_names c ≡ all_commands)) }
 {
     command(alloc, version)?.try_get_matches_from(words)
 }

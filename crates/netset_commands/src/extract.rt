@@ -6,9 +6,10 @@ ghost use Rattle.netset_lib.specs.Commands.{grammar_of};
 ghost use Rattle.netset_lib.specs.declared.command.Flags.{Flags};
 
 use crate::arguments::{
-    ANY_LISTS, ArgumentFailure, SHARED, any_names, flags_of, is_set, reads_input_twice,
+    ANY_LISTS, ArgumentFailure, FIRST, SHARED, flags_of, is_set, reads_input_twice,
     report_argument_failure,
 };
+use crate::input::STANDARD_INPUT;
 use crate::output::Writers;
 use crate::reading::fill;
 use crate::table::{ARGUMENT, Argument, Form, Subcommand};
@@ -67,7 +68,7 @@ fn request_of(matches: &ArgMatches) -> ExtractRequest
 pub fn extract_entries(rt: &HostRuntime, matches: &ArgMatches, writers: &mut Writers<'_>) -> u8
     ensures { result ≤ 2 }
 {
-    let names = any_names(matches);
+    let names = matches.get_strs(FIRST).unwrap_or(&[STANDARD_INPUT]);
     if reads_input_twice(names) {
         return report_argument_failure(rt, ArgumentFailure::InputTwice);
     }

@@ -3,8 +3,9 @@ ghost use Rattle.std.specs.Prelude.{◌≡◌, ◌≤◌, map, codes, IfOk, IfEr
 ghost use Rattle.netset_commands.specs.FitOptions.{fit_names, limit_of, IsFitRequest, IsNumberGiven};
 
 use crate::arguments::{
-    ANY_LISTS, ArgumentFailure, SHARED, any_names, reads_input_twice, report_argument_failure,
+    ANY_LISTS, ArgumentFailure, FIRST, SHARED, reads_input_twice, report_argument_failure,
 };
+use crate::input::STANDARD_INPUT;
 use crate::output::Writers;
 use crate::reading::{reading_work, session_of};
 use crate::table::{ARGUMENT, Argument, Form, Subcommand};
@@ -126,7 +127,10 @@ fn names_of<'a>(alloc: Global, matches: &ArgMatches<'a>) -> Result<Vec<&'a str>,
     if let Some(never) = matches.get_str(NEVER) {
         names.push(never)?;
     }
-    names.extend_from_slice(any_names(matches))?;
+    match matches.get_strs(FIRST) {
+        Some(lists) => names.extend_from_slice(lists)?,
+        None => names.push(STANDARD_INPUT)?,
+    }
     Ok(names)
 }
 

@@ -7,7 +7,7 @@ ghost use Rattle.svg_maps.specs.declared.style.Theme.{Theme};
 ghost use Rattle.svg_maps.specs.declared.style.Theme.TheVariants.{Auto};
 
 use crate::arguments::{
-    ANY_LISTS, ArgumentFailure, SHARED, any_names, flags_of, is_set, reads_input,
+    ANY_LISTS, ArgumentFailure, FIRST, SHARED, flags_of, is_set, reads_input,
     report_argument_failure,
 };
 use crate::bar::{COMPARE, FRAME, frame_of, pictured_work};
@@ -237,7 +237,7 @@ fn draw_table(
             count: 0,
         },
     };
-    let names = any_names(matches);
+    let names = matches.get_strs(FIRST).unwrap_or(&[STANDARD_INPUT]);
     draw_lists(rt, matches, names, MapRequest { frame, look }, writers)
 }
 
@@ -270,7 +270,7 @@ pub fn draw_map(rt: &HostRuntime, matches: &ArgMatches, writers: &mut Writers<'_
         Ok(frame) => frame,
         Err(status) => return status,
     };
-    let names = any_names(matches);
+    let names = matches.get_strs(FIRST).unwrap_or(&[STANDARD_INPUT]);
     if are_too_many(rt, matches, names) {
         return 2;
     }
