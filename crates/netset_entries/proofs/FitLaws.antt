@@ -251,5 +251,5 @@ pub none_reported : (request : FitRequest) (session : Session) (why : Fault Fail
     → OfCombined (HasNoFitAnswer request) session
     × IsReportedAs (words_line (fit_words NoList)) held held_after sure
 none_reported request session (Lists failure) names held held_after sure is one begun whole = absurd (cc)
-none_reported request session (Other NoList) names held held_after sure is one begun whole = (is refl, begun, whole)
+none_reported request session (Other NoList) names held held_after sure is one begun whole = (is refl, (begun, whole))
 none_reported request session (Other Memory) names held held_after sure is one begun whole = absurd (cc)
