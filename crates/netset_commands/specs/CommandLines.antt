@@ -1,5 +1,5 @@
 -- The command line: its commands by name, and their arguments by id.
-use Rattle.std.specs.Prelude.{◌≡◌, ◌∷◌, ℕ, List, [], codes, map, flat_map}
+use Rattle.std.specs.Prelude.{◌≡◌, ◌∷◌, ◌++◌, ℕ, List, [], codes, map, flat_map}
 use Rattle.std.specs.Borrow.{Bor}
 use Rattle.clap.specs.Facts.{args_of, subcommands_of}
 use Rattle.clap.specs.declared.builder.command.Command.{Command}
@@ -36,11 +36,25 @@ names_in rows = map (λ row. row.name.now) rows
 abbrev pub command_names : Command → List (List ℕ)
 command_names command = map command_name (subcommands_of command)
 
+-- The commands that are operations, in the order in which help lists them.
+abbrev pub operation_names : List (List ℕ)
+operation_names = codes "union" ∷ codes "intersection" ∷ codes "difference" ∷ codes "symmetric-difference"
+    ∷ codes "complement" ∷ []
+
+-- The commands that ask about lists, in the order in which help lists them.
+abbrev pub query_names : List (List ℕ)
+query_names = codes "count" ∷ codes "compare" ∷ codes "changes" ∷ codes "apply" ∷ codes "extract" ∷ codes "filter"
+    ∷ codes "route" ∷ []
+
+-- The commands about free space, pictures and limits, in the order in which help lists them.
+abbrev pub space_names : List (List ℕ)
+space_names = codes "plan" ∷ codes "bar" ∷ codes "map" ∷ codes "supernet" ∷ codes "fit" ∷ []
+
+-- The commands about entries, networks and rules, in the order in which help lists them.
+abbrev pub entry_names : List (List ℕ)
+entry_names = codes "redundant" ∷ codes "overlaps" ∷ codes "split" ∷ codes "hosts" ∷ codes "permitted"
+    ∷ codes "unreached" ∷ codes "prefix-list" ∷ []
+
 -- The commands of the program, in the order in which help lists them.
 abbrev pub all_commands : List (List ℕ)
-all_commands =
-    codes "union" ∷ codes "intersection" ∷ codes "difference" ∷ codes "symmetric-difference" ∷ codes "complement"
-    ∷ codes "count" ∷ codes "compare" ∷ codes "changes" ∷ codes "apply" ∷ codes "extract" ∷ codes "filter"
-    ∷ codes "route" ∷ codes "plan" ∷ codes "bar" ∷ codes "map" ∷ codes "supernet" ∷ codes "fit" ∷ codes "redundant"
-    ∷ codes "overlaps" ∷ codes "split" ∷ codes "hosts" ∷ codes "permitted" ∷ codes "unreached"
-    ∷ codes "prefix-list" ∷ []
+all_commands = ((operation_names ++ query_names) ++ space_names) ++ entry_names

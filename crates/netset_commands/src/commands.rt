@@ -3,6 +3,7 @@ ghost use Rattle.std.specs.Prelude.{◌≡◌, ◌++◌, IfOk};
 ghost use Rattle.clap.specs.Built.{IsParsedFrom};
 ghost use Rattle.clap.specs.declared.builder.command.Command.{Command};
 ghost use Rattle.netset_commands.specs.CommandLines.{all_commands, command_names, names_in};
+ghost use Rattle.netset_commands.specs.CommandLines.{entry_names, operation_names, query_names, space_names};
 
 use crate::apply::APPLY_COMMAND;
 use crate::arguments::{ANY_LISTS, FIRST_LIST, NO_EMPTY, ONE_LIST, OTHER_LIST, OTHERS, SHARED};
@@ -177,13 +178,17 @@ const QUERIES: &[Subcommand] = &[
     },
 ];
 
-/// The other commands.
-const OTHER_COMMANDS: &[Subcommand] = &[
+/// The commands about free space, pictures and limits.
+const SPACE_COMMANDS: &[Subcommand] = &[
     PLAN_COMMAND,
     BAR_COMMAND,
     MAP_COMMAND,
     SUPERNET_COMMAND,
     FIT_COMMAND,
+];
+
+/// The commands about entries, networks and rules.
+const ENTRY_COMMANDS: &[Subcommand] = &[
     REDUNDANT_COMMAND,
     OVERLAPS_COMMAND,
     SPLIT_COMMAND,
@@ -192,6 +197,38 @@ const OTHER_COMMANDS: &[Subcommand] = &[
     UNREACHED_COMMAND,
     PREFIX_COMMAND,
 ];
+
+/// The operations.
+#[inline(never)]
+fn operations() -> &'static [Subcommand]
+    ensures { names_in result.now ≡ operation_names }
+{
+    OPERATIONS
+}
+
+/// The commands that ask about lists.
+#[inline(never)]
+fn queries() -> &'static [Subcommand]
+    ensures { names_in result.now ≡ query_names }
+{
+    QUERIES
+}
+
+/// The commands about free space, pictures and limits.
+#[inline(never)]
+fn space_commands() -> &'static [Subcommand]
+    ensures { names_in result.now ≡ space_names }
+{
+    SPACE_COMMANDS
+}
+
+/// The commands about entries, networks and rules.
+#[inline(never)]
+fn entry_commands() -> &'static [Subcommand]
+    ensures { names_in result.now ≡ entry_names }
+{
+    ENTRY_COMMANDS
+}
 
 /// The program with these commands too.
 #[inline(never)]
@@ -218,9 +255,10 @@ fn command<'a>(alloc: Global, version: &'a str) -> Result<Command<'a>, AllocErro
         .about("Combines and compares lists of networks, addresses and ranges")
         .subcommand_required(true)
         .arg_required_else_help(true);
-    let command = with_commands(alloc, command, OPERATIONS)?;
-    let command = with_commands(alloc, command, QUERIES)?;
-    with_commands(alloc, command, OTHER_COMMANDS)
+    let command = with_commands(alloc, command, operations())?;
+    let command = with_commands(alloc, command, queries())?;
+    let command = with_commands(alloc, command, space_commands())?;
+    with_commands(alloc, command, entry_commands())
 }
 
 /// Parses the command line. The error is the text to print: help, the version, or what is wrong.
