@@ -5,7 +5,7 @@ use Rattle.std.proofs.Common.{append_assoc, append-nil}
 use Rattle.std.proofs.lemmas.List.{drop_all, drop_more}
 use Rattle.std.specs.Borrow.{Bor}
 use Rattle.netset_commands.specs.Words.{AreLengths}
-use Rattle.netset_lib.specs.Counts.{Names}
+use Rattle.ipnet_lists.specs.Names.{Names}
 use Rattle.netset_lib.specs.PlanAnswers.{IsLengthText}
 
 -- whatever the lengths of the other words are, these come before them

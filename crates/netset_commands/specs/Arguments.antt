@@ -10,7 +10,7 @@ use Rattle.ipnet_rules.specs.declared.rules.Action.{Action}
 use Rattle.ipnet_rules.specs.declared.rules.Action.TheVariants.{Permit}
 use Rattle.netset_commands.specs.declared.lists.Empties.{Empties}
 use Rattle.netset_commands.specs.declared.lists.Empties.TheVariants.{Report, Allow, Refuse}
-use Rattle.netset_lib.specs.Counts.{Names}
+use Rattle.ipnet_lists.specs.Names.{Names}
 use Rattle.netset_lib.specs.declared.command.Work.{Work}
 use Rattle.netset_lib.specs.declared.command.Work.TheVariants.{Combine, Ask}
 use Rattle.netset_lib.specs.declared.query.Query.TheVariants.{Count, Compare, Filter, Route}

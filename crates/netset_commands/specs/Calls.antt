@@ -8,7 +8,7 @@ use Rattle.netset_commands.specs.declared.arguments.ArgumentFailure.TheVariants.
 use Rattle.netset_commands.specs.declared.arguments.Call.{Call}
 use Rattle.netset_commands.specs.declared.arguments.TwoNames.{TwoNames}
 use Rattle.netset_lib.specs.Commands.{name_of, work_of}
-use Rattle.netset_lib.specs.Counts.{Names}
+use Rattle.ipnet_lists.specs.Names.{Names}
 use Rattle.netset_lib.specs.declared.command.Flags.{Flags}
 use Rattle.netset_lib.specs.declared.command.ListCommand.{ListCommand}
 use Rattle.netset_lib.specs.declared.command.Work.{Work}

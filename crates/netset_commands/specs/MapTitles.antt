@@ -6,7 +6,7 @@ use Rattle.std.specs.List.{dedup}
 use Rattle.ipnet.specs.contracts.net.IpNetPartialEq.TheImpl.{eq-value}
 use Rattle.ipnet.specs.declared.net.IpNet.{IpNet}
 use Rattle.ipnet.specs.declared.net.IpNet.TheVariants.{V4, V6}
-use Rattle.netset_lib.specs.Counts.{Names}
+use Rattle.ipnet_lists.specs.Names.{Names}
 use Rattle.svg_maps.specs.declared.entry.MapEntry.{MapEntry}
 
 -- The title of an entry after the name of its list, if the list has a name.

@@ -12,7 +12,7 @@ use Rattle.netset_commands.specs.Arguments.{IsFlag, input_count}
 use Rattle.netset_commands.specs.Calls.{AreFlags}
 use Rattle.netset_forms.specs.declared.options.FormOptions.{FormOptions}
 use Rattle.netset_lib.specs.Commands.{grammar_of, work_of}
-use Rattle.netset_lib.specs.Counts.{Names}
+use Rattle.ipnet_lists.specs.Names.{Names}
 use Rattle.netset_lib.specs.PlanAnswers.{IsLengthText}
 use Rattle.netset_lib.specs.declared.command.Flags.{Flags}
 use Rattle.netset_lib.specs.declared.command.ListCommand.{ListCommand}
