@@ -38,7 +38,12 @@ fn show_written_out(alloc: Global, address: &IpAddr) -> Result<String, AllocErro
 /// The reverse zones of the network and their names.
 fn show_zones(alloc: Global, network: &IpNet) -> Result<String, AllocError> {
     let mut text = String::new(alloc);
-    for zone in reverse_zones(network) {
+    let mut zones = reverse_zones(network);
+    // there are at most 128 zones
+    for _ in 0..129 {
+        let Some(zone) = zones.next() else {
+            break;
+        };
         if !text.is_empty() {
             text.push_str(", ")?;
         }
