@@ -98,7 +98,7 @@ def match_row(bench, name, count):
     python = python_figure(bench, "longest_match", source, answers)
     part = ratio(changed, table)
     row(name, format(count, ","), *("%.0f" % (time / count) for time in (table, changed)), shown(part),
-        bench.judged(label, part, 1), each(python, count), each(original, count),
+        bench.judged(label, part, 2), each(python, count), each(original, count),
         each(searched, count) if search == ["linear_match"] else "-", bench.compared(label, answers + more))
 
 

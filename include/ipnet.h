@@ -10,7 +10,8 @@
  *   `value`) are never NULL.
  * - A length is at most the number of bytes that may be read, or written, at its pointer.
  * - The memory that a call writes (`buffer`, `count`, `same`, `covered`, `line`, `answers`, `counts`, `bad`, `network`,
- *   `value`, `values`, and `families` and `octets` if they are not const) does not overlap any other argument.
+ *   `covering`, `lengths`, `value`, and `values`, `families` and `octets` if they are not const) does not overlap any
+ *   other argument.
  * - malloc, realloc and free belong to the same allocator. It aligns a block to each power of two up to 16 that divides
  *   the size of the block. The allocators of Linux do so.
  * - No call is made from a signal handler, nor in the child of a process that had several threads when it forked.
@@ -535,7 +536,7 @@ ipnet_status ipnet_table_longest_match_all(const void *table, size_t table_len, 
  *
  * A family that is neither 4 nor 6 is read as 0, and the 12 bytes after the octets of an IPv4 address are not read.
  * `octets_len` counts bytes, so it is 16 times `families_len`. Numbers are aligned as uint32_t; bytes need no
- * alignment. The calls allocate nothing, and test only the header of an image. */
+ * alignment. The calls allocate nothing, and test only the header of an image, except ipnet_set_range_rows. */
 
 /* Writes for each IPv4 address 1 if the set contains it, and 0 if it does not.
  *
@@ -600,6 +601,74 @@ ipnet_status ipnet_table_longest_match_rows(const void *table, size_t table_len,
  *     6 and ::ffff:10.0.0.1   OK, 4 and 10, 0, 0, 1 and 12 zeros
  */
 ipnet_status ipnet_unmap_rows(uint8_t *families, size_t families_len, uint8_t *octets, size_t octets_len);
+
+/* Writes the fewest ranges of the set as rows: for each range the row of its first address, and then the row of its
+ * last address. The ranges ascend, IPv4 first, and no two of them overlap or touch. `*count` is the number of ranges.
+ * If there are more than two rows for each, the others keep their bytes.
+ *
+ * OK                the first 2 * `*count` rows are written
+ * WRONG_LENGTH      if and only if `octets_len` is not 16 times `families_len`
+ * NOT_A_SET         if and only if the bytes are not the image of a set; checked after the lengths
+ * OUT_OF_MEMORY
+ * BUFFER_TOO_SHORT  there are fewer than 2 * `*count` rows
+ *
+ * `families` and `octets` are modified only on OK, and `*count` only on OK and BUFFER_TOO_SHORT. The call tests all of
+ * the image, and allocates. For an image of n bytes, n / 4 rows are always enough.
+ *
+ *     the image of 10.0.0.0/30 and 10.0.0.4/31, and two rows   OK, 10.0.0.0 and 10.0.0.5, 1
+ */
+ipnet_status ipnet_set_range_rows(const void *set, size_t set_len, uint8_t *families, size_t families_len,
+                                  uint8_t *octets, size_t octets_len, size_t *count);
+
+/* Writes the networks of the routes of a table from the index `start` on, one for each row: its address, without host
+ * bits, as the row, and its prefix length into `lengths`. The routes ascend, IPv4 first, and a network is before those
+ * that it contains. ipnet_table_count says how many there are.
+ *
+ * OK                all rows and lengths are written. If the table comes from outside and is not an image, a route that
+ *                   is none has the family 0, and 0 for each octet and for the length
+ * NOT_A_TABLE       as ipnet_table_count
+ * WRONG_LENGTH      if and only if the bytes start with the header of an image, and `octets_len` is not 16 times
+ *                   `families_len`, or `lengths_len` is not `families_len`, or the table does not have that many routes
+ *                   from `start` on
+ *
+ * `families`, `octets` and `lengths` are modified only on OK.
+ *
+ *     the image of 10.0.0.0/8 and 10.1.0.0/16, 1, and one row   OK, 4 and 10, 1, 0, 0 and 12 zeros, 16
+ */
+ipnet_status ipnet_table_networks(const void *table, size_t table_len, size_t start, uint8_t *families,
+                                  size_t families_len, uint8_t *octets, size_t octets_len, uint8_t *lengths,
+                                  size_t lengths_len);
+
+/* Writes the values of the routes of a table from the index `start` on, in the order of ipnet_table_networks.
+ *
+ * OK                all values are written; a route that is none has the value 0
+ * NOT_A_TABLE       as ipnet_table_count
+ * WRONG_LENGTH      if and only if the bytes start with the header of an image, and the table does not have
+ *                   `values_len` routes from `start` on
+ *
+ * `values` is modified only on OK.
+ *
+ *     the image of 10.0.0.0/8 with 1 and 10.1.0.0/16 with 2, 0, and two values   OK, 1, 2
+ */
+ipnet_status ipnet_table_values(const void *table, size_t table_len, size_t start, uint32_t *values,
+                                size_t values_len);
+
+/* Writes the image of the table with the same networks and other values: one for each route, in the order of
+ * ipnet_table_networks. The image is as long as the image of the table.
+ *
+ * OK                `buffer` starts with the image, and `*count` is its length
+ * NOT_A_TABLE       as ipnet_table_count
+ * WRONG_LENGTH      if and only if the bytes start with the header of an image, and there are not as many values as
+ *                   routes
+ * BUFFER_TOO_SHORT  `*count` is the length of the image
+ *
+ * `buffer` is modified only on OK, and only up to the end of the image. `*count` is modified only on OK and
+ * BUFFER_TOO_SHORT.
+ *
+ *     the image of 10.0.0.0/8 with 1, and 7   OK, the image of 10.0.0.0/8 with 7, 48
+ */
+ipnet_status ipnet_table_with_values(const void *table, size_t table_len, const uint32_t *values, size_t values_len,
+                                     void *buffer, size_t buffer_len, size_t *count);
 
 /* Replaces each address by the first address of its network of a prefix length: `ipv4_length` for IPv4, `ipv6_length`
  * for IPv6. The row of an IPv4 address then ends with 12 zeros. Rows that are not an address keep their bytes.

@@ -292,8 +292,8 @@ def tall_of(path):
 
 
 def rows_of(path):
-    """The rectangles of a path of lines: column, row, width and height of each, which is 1. The pen is behind a row after
-    it is drawn. None if it is another path."""
+    """The rectangles of a path of lines: column, row, width and height of each, which is 1. The pen is at the end of
+    a row after it is drawn. None if it is another path."""
     first, lines = path[:len(MIDDLE)], path[len(MIDDLE):]
     if path and (first != MIDDLE or not lines or LINE.sub("", lines)):
         return None

@@ -172,6 +172,17 @@ static ipnet_status set_to_ranges(struct lent *lent)
     return ipnet_set_to_ranges(part_set.bytes, part_set.len, lent->buffer, sizeof lent->buffer, &lent->number);
 }
 
+static ipnet_status set_range_rows(struct lent *lent)
+{
+    static const uint8_t wanted[] = {10, 0, 0, 0, 0, 0, 0, 0, 0, 0, 0, 0, 0, 0, 0, 0, 10, 0, 0, 255};
+    uint8_t families[4], octets[64];
+    ipnet_status status = ipnet_set_range_rows(part_set.bytes, part_set.len, families, 4, octets, 64, &lent->number);
+    lent->yes = status == IPNET_OK ? lent->number == 2 && memcmp(families, "\4\4\6\6", 4) == 0
+                                         && memcmp(octets, wanted, sizeof wanted) == 0
+                                   : lent->yes;
+    return status;
+}
+
 static ipnet_status set_union(struct lent *lent)
 {
     uint8_t image[128];
@@ -208,7 +219,7 @@ static const struct {
     {"difference_text", difference, rest},  {"same_addresses", same_addresses, NULL},
     {"is_covered", is_covered, NULL},       {"set_from_text", set_from_text, NULL},
     {"set_to_text", set_to_text, whole},    {"set_to_ranges", set_to_ranges, part_ranges},
-    {"set_union", set_union, NULL},
+    {"set_union", set_union, NULL},         {"set_range_rows", set_range_rows, NULL},
     {"set_complement", set_complement, NULL}, {"set_is_subset", set_is_subset, NULL},
     {"set_from_list", set_from_list, NULL}, {"set_counts", set_counts, NULL},
     {"set_from_list_legacy", set_from_list_legacy, NULL}, {"set_from_text_legacy", set_from_text_legacy, NULL},

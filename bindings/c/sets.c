@@ -175,7 +175,7 @@ static void try_many(void)
     free(set.at);
 }
 
-/* Many networks: the answers are those of ipnet_set_covers, one by one. */
+/* Many networks: the same answers as ipnet_set_covers, one by one. */
 static void try_many_networks(void)
 {
     struct bytes set = image_of("10.0.0.0/30\nfd00::/32");
@@ -259,6 +259,58 @@ static void try_ranges(void)
         }
         size_t count = 99;
         expect(ipnet_set_to_ranges(set.at, set.len - 1, NULL, 0, &count) == IPNET_NOT_A_SET && count == 99, "no ranges");
+        free(set.at);
+    }
+}
+
+/* The text of the row with this index, with the prefix length of a single address. */
+static size_t print_row(const uint8_t *families, const uint8_t *octets, size_t i, char *text)
+{
+    uint8_t bytes[18] = {families[i] == 6};
+    size_t width = families[i] == 6 ? 16 : 4, count = 0;
+    memcpy(bytes + 1, octets + 16 * i, width);
+    bytes[width + 1] = (uint8_t)(8 * width);
+    expect(ipnet_print(bytes, width + 2, text, 43, &count) == IPNET_OK, "a row is an address");
+    return count - (width == 4 ? 3 : 4);
+}
+
+/* The same ranges as rows: their texts are those above. With a row too few, nothing is modified. */
+static void try_range_rows(void)
+{
+    for (size_t i = 0; i < sizeof ranges / sizeof *ranges; i++) {
+        struct bytes set = image_of(ranges[i].list);
+        char text[512] = "";
+        size_t needed = 0, len = 0;
+        for (const char *at = ranges[i].ranges; *at != '\0'; at++) {
+            needed += *at == '\n' ? 2 : 0;
+        }
+        for (size_t rows = needed > 0 ? needed - 1 : 0; rows <= needed + 1; rows++) {
+            size_t count = 99;
+            uint8_t *families = malloc(rows + 1), *octets = malloc(16 * rows + 1);
+            memset(families, UNTOUCHED, rows + 1);
+            memset(octets, UNTOUCHED, 16 * rows + 1);
+            ipnet_status status = ipnet_set_range_rows(set.at, set.len, families, rows, octets, 16 * rows, &count);
+            expect(status == (rows < needed ? IPNET_BUFFER_TOO_SHORT : IPNET_OK) && count == needed / 2, ranges[i].list);
+            for (size_t k = rows < needed ? 0 : needed; k < rows + 1; k++) {
+                expect(families[k] == UNTOUCHED && octets[16 * k] == UNTOUCHED, "other rows are not modified");
+            }
+            len = 0;
+            for (size_t k = 0; rows >= needed && k < needed; k += 2) {
+                len += print_row(families, octets, k, text + len);
+                text[len++] = '-';
+                len += print_row(families, octets, k + 1, text + len);
+                text[len++] = '\n';
+            }
+            free(families);
+            free(octets);
+        }
+        expect(len == strlen(ranges[i].ranges) && memcmp(text, ranges[i].ranges, len) == 0, ranges[i].ranges);
+        uint8_t family = UNTOUCHED, octets[17] = {UNTOUCHED};
+        size_t count = 99;
+        expect(ipnet_set_range_rows(set.at, set.len, &family, 1, octets, 17, &count) == IPNET_WRONG_LENGTH
+               && ipnet_set_range_rows(set.at, set.len - 1, &family, 1, octets, 17, &count) == IPNET_WRONG_LENGTH
+               && ipnet_set_range_rows(set.at, set.len - 1, &family, 1, octets, 16, &count) == IPNET_NOT_A_SET
+               && count == 99 && family == UNTOUCHED && octets[0] == UNTOUCHED, "no rows of ranges");
         free(set.at);
     }
 }
@@ -388,6 +440,7 @@ int main(void)
     try_statuses();
     try_lists();
     try_ranges();
+    try_range_rows();
     try_legacy();
     try_counts();
     try_hostile();

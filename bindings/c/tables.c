@@ -180,6 +180,80 @@ static void bulk(const uint8_t *table, size_t len)
     free(octets);
 }
 
+/* The routes of the table, in order, as rows: the family, the octets, the prefix length and the value. */
+static const struct {
+    uint8_t family, octets[16], length;
+    uint32_t value;
+} listed[] = {
+    {4, {0}, 0, 1}, {4, {10}, 8, 5}, {4, {10, 1}, 16, 3}, {4, {10, 1, 2}, 24, 4}, {6, {0xfd}, 32, 6},
+};
+
+/* Each part of the list of routes, and with one route too many. */
+static void rows(const uint8_t *table, size_t len)
+{
+    for (size_t start = 0; start <= 5; start++) {
+        for (size_t count = 0; start + count <= 6; count++) {
+            bool fits = start + count <= 5;
+            uint8_t *families = malloc(count + 1), *octets = malloc(16 * count + 1), *lengths = malloc(count + 1);
+            uint32_t *values = malloc(4 * count + 4);
+            memset(families, 0xa5, count + 1);
+            memset(octets, 0xa5, 16 * count + 1);
+            memset(lengths, 0xa5, count + 1);
+            memset(values, 0xa5, 4 * count + 4);
+            expect(ipnet_table_networks(table, len, start, families, count, octets, 16 * count, lengths, count)
+                   == (fits ? IPNET_OK : IPNET_WRONG_LENGTH), "the status of networks");
+            expect(ipnet_table_values(table, len, start, values, count) == (fits ? IPNET_OK : IPNET_WRONG_LENGTH),
+                   "the status of values");
+            for (size_t i = 0; fits && i < count; i++) {
+                expect(families[i] == listed[start + i].family && lengths[i] == listed[start + i].length
+                       && memcmp(octets + 16 * i, listed[start + i].octets, 16) == 0, "a network");
+                expect(values[i] == listed[start + i].value, "a value of the list");
+            }
+            size_t kept = fits ? count : 0;
+            expect(families[kept] == 0xa5 && octets[16 * kept] == 0xa5 && lengths[kept] == 0xa5
+                   && values[kept] == UNTOUCHED, "no other row");
+            free(families);
+            free(octets);
+            free(lengths);
+            free(values);
+        }
+    }
+    uint8_t few[32];
+    uint32_t value;
+    expect(ipnet_table_networks(table, len, 0, few, 1, few + 1, 17, few + 18, 1) == IPNET_WRONG_LENGTH, "17 octets");
+    expect(ipnet_table_networks(table, len, 0, few, 1, few + 1, 16, few + 18, 2) == IPNET_WRONG_LENGTH, "two lengths");
+    expect(ipnet_table_networks(table, len, SIZE_MAX, few, 1, few + 1, 16, few + 18, 1) == IPNET_WRONG_LENGTH
+           && ipnet_table_values(table, len, SIZE_MAX, &value, 1) == IPNET_WRONG_LENGTH, "a start beyond all routes");
+    expect(ipnet_table_networks(table, 31, 0, few, 1, few + 1, 17, few + 18, 1) == IPNET_NOT_A_TABLE
+           && ipnet_table_values(table, 31, 9, &value, 1) == IPNET_NOT_A_TABLE, "no header, no rows");
+}
+
+/* Other values: the result is the image of the same networks with these values. */
+static void other_values(const uint8_t *table, size_t len)
+{
+    static const uint32_t values[] = {70, 0x01020304, 0, 0xffffffff, 80, 9};
+    static const char networks[] = "0.0.0.0/0\n10.0.0.0/8\n10.1.0.0/16\n10.1.2.0/24\nfd00::/32\n";
+    uint8_t wanted[512];
+    size_t count = 0, wanted_len = 0;
+    expect(ipnet_table_from_text(networks, strlen(networks), values, 5, wanted, sizeof wanted, &wanted_len) == IPNET_OK
+           && wanted_len == len, "the same networks");
+    for (size_t room = len - 1; room <= len + 1; room++) {
+        uint8_t *buffer = malloc(room);
+        memset(buffer, 0xa5, room);
+        count = 99;
+        expect(ipnet_table_with_values(table, len, values, 5, buffer, room, &count)
+               == (room < len ? IPNET_BUFFER_TOO_SHORT : IPNET_OK) && count == len, "the status of other values");
+        expect(room < len ? buffer[0] == 0xa5 : memcmp(buffer, wanted, len) == 0, "the image with other values");
+        expect(room == len || buffer[room - 1] == 0xa5, "the bytes after the image");
+        free(buffer);
+    }
+    count = 99;
+    expect(ipnet_table_with_values(table, len, values, 4, wanted, sizeof wanted, &count) == IPNET_WRONG_LENGTH
+           && ipnet_table_with_values(table, len, values, 6, wanted, sizeof wanted, &count) == IPNET_WRONG_LENGTH
+           && ipnet_table_with_values(table, 31, values, 5, wanted, sizeof wanted, &count) == IPNET_NOT_A_TABLE
+           && count == 99, "no other values");
+}
+
 /* Each byte of the image changed, and each shorter image: every call ends, and reads no further. */
 static void hostile(const uint8_t *table, size_t len)
 {
@@ -197,6 +271,18 @@ static void hostile(const uint8_t *table, size_t len)
                 ipnet_table_longest_covering(changed, len, held[k].network, held[k].len, network, sizeof network,
                                              &value);
             }
+            uint8_t families[5], octets[80], lengths[5];
+            uint32_t values[5];
+            size_t count;
+            status = ipnet_table_networks(changed, len, 0, families, 5, octets, 80, lengths, 5);
+            expect(status == (is_header ? IPNET_NOT_A_TABLE : IPNET_OK), "the rows of a changed image");
+            for (size_t k = 0; status == IPNET_OK && k < 5; k++) {
+                expect(families[k] == listed[k].family || (families[k] == 0 && lengths[k] == 0), "a row of any bytes");
+            }
+            expect(ipnet_table_values(changed, len, 0, values, 5) == status, "the values of a changed image");
+            uint8_t *copy = malloc(len);
+            expect(ipnet_table_with_values(changed, len, numbers, 5, copy, len, &count) == status, "other values");
+            free(copy);
             free(changed);
         }
         uint8_t *shorter = copied(table, i);
@@ -266,6 +352,8 @@ int main(void)
     longest_routes(table, len);
     longest_covering(table, len);
     bulk(table, len);
+    rows(table, len);
+    other_values(table, len);
     hostile(table, len);
     free(table);
     indexed();

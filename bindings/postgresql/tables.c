@@ -21,6 +21,14 @@ count_of(const Image *table)
     return count;
 }
 
+static void
+read_routes(const Image *table, size_t start, size_t count, SqlPiece *piece)
+{
+    ipnet_status status = sql_read_routes(table->bytes, image_len(table), start, count, piece);
+    if (status != IPNET_OK)
+        report_status(status);
+}
+
 Datum
 iptable_in(PG_FUNCTION_ARGS)
 {
@@ -45,9 +53,13 @@ iptable_out(PG_FUNCTION_ARGS)
     const Image *table = (const Image *) PG_DETOAST_DATUM(PG_GETARG_DATUM(0));
     size_t count = count_of(table), index;
     StringInfoData text;
+    SqlPiece piece;
     initStringInfo(&text);
     for (index = 0; index < count; index++) {
-        SqlRoute route = sql_route_at(table->bytes, index);
+        SqlRoute route;
+        if (index % SQL_PIECE == 0)
+            read_routes(table, index, Min(count - index, SQL_PIECE), &piece);
+        route = sql_route_at(&piece, index % SQL_PIECE);
         enlargeStringInfo(&text, SQL_LINE + 2);
         text.len += sql_print_line(&route.network, text.data + text.len);
         text.data[text.len - 1] = ' ';

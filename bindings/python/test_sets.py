@@ -64,6 +64,24 @@ class Sets(unittest.TestCase):
         self.assertEqual(list(every), [ipaddress.ip_network("0.0.0.0/0"), ipaddress.ip_network("::/0")])
         self.assertEqual(every.ranges()[0], (ipaddress.ip_address("0.0.0.0"), ipaddress.ip_address("255.255.255.255")))
 
+    def test_ranges(self):
+        draw = random.Random(9)
+        for count in (0, 1, 3, 40):
+            networks = [ipaddress.ip_network((draw.getrandbits(128 - 9) << 9 | draw.getrandbits(9), 128))
+                        if draw.randrange(2) else
+                        ipaddress.ip_network(((10 << 24) + (draw.randrange(64) << 2), draw.choice((30, 32))))
+                        for _ in range(count)]
+            networks += [ipaddress.ip_network((address, 128)) for address in range(2 ** 128 - 1, 2 ** 128 - 1 - count, -2)]
+            wanted = []
+            for network in sorted(networks, key=lambda network: (network.version, network)):
+                first, last = network[0], network[-1]
+                if wanted and wanted[-1][0].version == first.version and int(first) <= int(wanted[-1][1]) + 1:
+                    wanted[-1] = (wanted[-1][0], max(last, wanted[-1][1]))
+                else:
+                    wanted.append((first, last))
+            self.assertEqual(IpSet(networks).ranges(), wanted)
+            self.assertEqual(bool(IpSet(networks)), count > 0)
+
     def test_forms(self):
         made = IpSet(["10.0.0.0/24", ipaddress.ip_network("fd00::/32"), ipaddress.ip_address("8.8.8.8")])
         for inside in ("10.0.0.7", b"10.0.0.0/25", bytearray(b"fd00::1"), memoryview(b"8.8.8.8"),

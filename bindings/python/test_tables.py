@@ -57,6 +57,18 @@ class Tables(unittest.TestCase):
                     packed = again.get_packed(b"".join(address.packed for address in addresses), width, missing=999)
                     self.assertEqual([None if value == 999 else value for value in packed], wanted)
 
+    def test_routes(self):
+        draw = random.Random(4)
+        for count in (0, 1, 2, 5, 40, 300):
+            routes = drawn(draw, count)
+            table = RouteTable(routes)
+            listed = table.routes()
+            self.assertEqual(listed, sorted(routes.items(), key=lambda route: (route[0].version, route[0])))
+            addresses = [ipaddress.IPv4Address((10 << 24) + draw.randrange(1 << 13)) for _ in range(30)]
+            addresses += [ipaddress.IPv6Address((0xfd << 120) + draw.randrange(1 << 13)) for _ in range(30)]
+            self.assertEqual([None if place is None else listed[place] for place in table.route_all(addresses)],
+                             [covering(routes, ipaddress.ip_network(address)) for address in addresses])
+
     def test_many_routes(self):
         routes = {f"10.{number >> 8}.{number & 255}.0/24": number for number in range(20_000)}
         table = RouteTable(routes)

@@ -9,7 +9,7 @@ fn main() {
         None => PathBuf::from(env::var_os("CARGO_MANIFEST_DIR").unwrap()).join("../out"),
     };
     let library = folder.join("libipnet.a");
-    // `cargo check` and editors need no library. If it is missing, only the linker fails, behind this line.
+    // `cargo check` and editors need no library. If it is missing, only the linker fails, after this line.
     if !library.exists() {
         println!(
             "cargo:warning={} is missing: run ./install --user at the top of the repository, which needs seconds, and \

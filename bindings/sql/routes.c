@@ -4,8 +4,6 @@
 #include <stdlib.h>
 #include <string.h>
 
-#include "ipnet.h"
-
 size_t sql_print_line(const SqlNetwork *network, char *line)
 {
     size_t count = 0;
@@ -39,27 +37,18 @@ const SqlRoute *sql_find_conflict(SqlRoute *routes, size_t count)
     return NULL;
 }
 
-/* The little-endian number in `count` bytes, at most 8. */
-static uint64_t number_at(const uint8_t *bytes, size_t count)
+ipnet_status sql_read_routes(const void *table, size_t table_len, size_t start, size_t count, SqlPiece *piece)
 {
-    uint64_t number = 0;
-    while (count-- > 0)
-        number = number << 8 | bytes[count];
-    return number;
+    ipnet_status status = ipnet_table_networks(table, table_len, start, piece->families, count, piece->octets,
+                                               16 * count, piece->lengths, count);
+    return status != IPNET_OK ? status : ipnet_table_values(table, table_len, start, piece->values, count);
 }
 
-SqlRoute sql_route_at(const void *table, size_t index)
+SqlRoute sql_route_at(const SqlPiece *piece, size_t index)
 {
-    const uint8_t *bytes = table;
-    uint64_t ipv4_count = number_at(bytes + 16, 8);
-    bool is_ipv4 = index < ipv4_count;
-    size_t width = is_ipv4 ? 4 : 16, i;
-    const uint8_t *row = bytes + 32 + 16 * index + (is_ipv4 ? 0 : 16 * (index - ipv4_count));
-    uint8_t octets[16], prefix_len = row[width];
-    SqlRoute route;
-    for (i = 0; i < width; i++)
-        octets[i] = row[width - 1 - i];
-    route.network = sql_network(octets, width, prefix_len <= 8 * width ? prefix_len : (uint8_t)(8 * width));
-    route.value = (uint32_t)number_at(row + width + 4, 4);
+    bool is_ipv6 = piece->families[index] == 6;
+    SqlRoute route = {{{is_ipv6}}, piece->values[index]};
+    memcpy(route.network.bytes + 1, piece->octets + 16 * index, 16);
+    route.network.bytes[is_ipv6 ? 17 : 5] = piece->lengths[index];
     return route;
 }

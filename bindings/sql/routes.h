@@ -1,8 +1,9 @@
-/* Routes of tables for the extensions: gathered routes on their way into a table, and the routes in the image of a
- * table. Nothing here allocates memory. crates/ipnet_routes/specs/TableImages.antt defines the layout of an image. */
+/* Routes of tables for the extensions: gathered routes on their way into a table, and the routes of a table. Nothing
+ * here allocates memory. */
 #ifndef SQL_ROUTES_H
 #define SQL_ROUTES_H
 
+#include "ipnet.h"
 #include "networks.h"
 
 /* A network with host bits 0, and its value. */
@@ -21,7 +22,22 @@ size_t sql_print_line(const SqlNetwork *network, char *line);
  * are neighbours then; or NULL if there is none. */
 const SqlRoute *sql_find_conflict(SqlRoute *routes, size_t count);
 
-/* The route with this index, below ipnet_table_count, in the image of a table. */
-SqlRoute sql_route_at(const void *table, size_t index);
+/* How many routes are read at a time. */
+enum { SQL_PIECE = 256 };
+
+/* Some routes of a table, one after the other, in the form of ipnet_table_networks and ipnet_table_values. */
+typedef struct SqlPiece {
+    uint8_t families[SQL_PIECE];
+    uint8_t octets[16 * SQL_PIECE];
+    uint8_t lengths[SQL_PIECE];
+    uint32_t values[SQL_PIECE];
+} SqlPiece;
+
+/* Reads `count` routes, at most SQL_PIECE, of the image of a table from the index `start` on. Returns OK, or what the
+ * library returns for the image. */
+ipnet_status sql_read_routes(const void *table, size_t table_len, size_t start, size_t count, SqlPiece *piece);
+
+/* The route with this index in the piece. */
+SqlRoute sql_route_at(const SqlPiece *piece, size_t index);
 
 #endif

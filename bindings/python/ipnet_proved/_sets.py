@@ -9,6 +9,7 @@ from ._bulk import RAISE, Options, contained
 from ._columns import ArrowText
 from ._networks import (Address, BadLine, Network, Networks, OneNetwork, Text, answered, as_bytes, bytes_of,
                         cause_of_entry, shown, text_of)
+from ._rows import WIDTH, checked
 
 try:
     from ._quick import contains
@@ -17,7 +18,8 @@ except ImportError:
         """No answer: ctypes asks the library."""
         return None
 
-HEADER = struct.Struct("<8sQQQ")
+# the length of the image of the empty set
+EMPTY = 32
 WIDTHS = (4, 16)
 NETWORK_WIDTHS = (6, 18)
 
@@ -26,6 +28,7 @@ _covers = library.question("ipnet_set_covers")
 _contains_all = library.question("ipnet_set_contains_all")
 _covers_all = library.question("ipnet_set_covers_all")
 _counts = library.question("ipnet_set_counts")
+_range_rows = library.question("ipnet_set_range_rows")
 _is_subset = library.question("ipnet_set_is_subset")
 _check = library.question("ipnet_set_check")
 
@@ -86,7 +89,7 @@ class IpSet:
         """
         data = as_bytes(text)
         name = "ipnet_set_from_list_legacy" if legacy else "ipnet_set_from_list"
-        status, number, image = library.writer(name, len(data) + HEADER.size)(data)
+        status, number, image = library.writer(name, len(data) + EMPTY)(data)
         if status == library.BAD_LINE:
             line = data.split(b"\n")[number - 1].strip()
             raise BadLine(number, shown(line), cause_of_entry(line, legacy))
@@ -294,17 +297,7 @@ class IpSet:
 
     def __bool__(self) -> bool:
         """Whether the set has an address."""
-        return len(self._image) > HEADER.size
-
-    def _ranges_of(self, width: int) -> List[Tuple[int, int]]:
-        """The numbers at which the ranges of a family begin and end."""
-        _, _, ipv4, ipv6 = HEADER.unpack_from(self._image)
-        count, start = (ipv4, HEADER.size + 16 * ipv6) if width == 4 else (ipv6, HEADER.size)
-        numbers = [int.from_bytes(self._image[at:at + width], "little")
-                   for at in range(start, start + count * width, width)]
-        if count % 2:
-            numbers.append(1 << 8 * width)
-        return list(zip(numbers[::2], (end - 1 for end in numbers[1::2])))
+        return len(self._image) > EMPTY
 
     def ranges(self) -> List[Tuple[Address, Address]]:
         """The fewest ranges of the set, each by its first and its last address, IPv4 first, ascending.
@@ -312,8 +305,18 @@ class IpSet:
         >>> IpSet(["10.0.0.0/31", "10.0.0.2"]).ranges()
         [(IPv4Address('10.0.0.0'), IPv4Address('10.0.0.2'))]
         """
-        return ([(IPv4Address(start), IPv4Address(end)) for start, end in self._ranges_of(4)]
-                + [(IPv6Address(start), IPv6Address(end)) for start, end in self._ranges_of(16)])
+        # for an image of n bytes, n / 4 rows are always enough
+        room, count = len(self._image) // 4, ctypes.c_size_t(0)
+        families, octets = map(ctypes.create_string_buffer, (room, WIDTH * room))
+        checked(_range_rows(self._image, len(self._image), families, room, octets, WIDTH * room, ctypes.byref(count)))
+        rows = ctypes.string_at(octets, 2 * WIDTH * count.value)
+        ipv4 = WIDTH * families.raw.count(4, 0, 2 * count.value)
+        ranges: List[Tuple[Address, Address]] = [
+            (IPv4Address(first), IPv4Address(last)) for first, last in struct.iter_unpack(">I12xI12x", rows[:ipv4])]
+        ranges.extend(
+            (IPv6Address(high << 64 | low), IPv6Address(last_high << 64 | last_low))
+            for high, low, last_high, last_low in struct.iter_unpack(">QQQQ", rows[ipv4:]))
+        return ranges
 
     @property
     def ipv4_count(self) -> int:

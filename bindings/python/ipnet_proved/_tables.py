@@ -2,6 +2,7 @@
 import array
 import ctypes
 import struct
+import sys
 from ipaddress import IPv4Network, IPv6Network
 from typing import Any, Iterable, Iterator, List, Mapping, Optional, Tuple, Union
 
@@ -9,6 +10,7 @@ from . import _library as library
 from ._bulk import RAISE, Options, matched
 from ._columns import ArrowText
 from ._networks import Network, OneNetwork, bytes_of, interface_of, refuse, text_of, with_lengths
+from ._rows import LARGEST, WIDTH, checked
 
 try:
     from ._quick import longest_match
@@ -17,15 +19,16 @@ except ImportError:
         """No answer: ctypes asks the library."""
         return NotImplemented
 
-LARGEST = 2 ** 32 - 1
 # the bytes of the longest byte form of a network
 LONGEST = 18
 WIDTHS = (4, 16)
-HEADER = struct.Struct("<8sQQQ")
 
 _from_text = library.question("ipnet_table_from_text")
 _check = library.question("ipnet_table_check")
 _count = library.question("ipnet_table_count")
+_networks = library.question("ipnet_table_networks")
+_values = library.question("ipnet_table_values")
+_with_values = library.question("ipnet_table_with_values")
 _longest_match = library.question("ipnet_table_longest_match")
 _longest_covering = library.question("ipnet_table_longest_covering")
 _longest_match_all = library.question("ipnet_table_longest_match_all")
@@ -181,15 +184,16 @@ class RouteTable:
 
     def routes(self) -> List[Tuple[Network, int]]:
         """The networks, each with its number, IPv4 first, ascending, a network before those that it contains."""
-        return list(routes_of(self._image))
+        return list(routes_of(self._image, len(self)))
 
     def _unused(self) -> int:
-        """A number that no route has: the first whose four bytes are nowhere in the image."""
+        """A number that no route has: the first whose four bytes are nowhere in the values."""
         try:
             return self._absent
         except AttributeError:
+            values = values_of(self._image, len(self)).tobytes()
             self._absent = next(number for number in range(LARGEST, -1, -1)
-                                if number.to_bytes(4, "little") not in self._image)
+                                if number.to_bytes(4, sys.byteorder) not in values)
             return self._absent
 
     def get_packed(self, octets: Union[bytes, bytearray, memoryview], width: int,
@@ -210,33 +214,33 @@ class RouteTable:
         return values
 
 
-def rows_of(image: bytes) -> Tuple[int, int]:
-    """How many IPv4 routes and IPv6 routes the image has."""
-    _, _, ipv4, ipv6 = HEADER.unpack_from(image)
-    return ipv4, ipv6
+def values_of(image: bytes, count: int) -> "array.array[int]":
+    """The values of the routes of an image, which has `count`, in their order."""
+    values = array.array("I", bytes(4 * count))
+    place, many = values.buffer_info()
+    checked(_values(image, len(image), 0, place, many))
+    return values
 
 
-def routes_of(image: bytes) -> Iterator[Tuple[Network, int]]:
-    """The routes of an image: a number, a prefix length and a value each, and a link."""
-    ipv4, ipv6 = rows_of(image)
-    end = HEADER.size + 16 * ipv4
-    for number, length, value, _ in struct.iter_unpack("<IIII", image[HEADER.size:end]):
+def routes_of(image: bytes, count: int) -> Iterator[Tuple[Network, int]]:
+    """The routes of an image, which has `count`. IPv4 routes are first."""
+    families, octets, lengths = map(ctypes.create_string_buffer, (count, WIDTH * count, count))
+    checked(_networks(image, len(image), 0, families, count, octets, WIDTH * count, lengths, count))
+    values, ipv4 = values_of(image, count), families.raw.count(4)
+    rows, sizes = octets.raw, lengths.raw
+    for (number,), length, value in zip(struct.iter_unpack(">I12x", rows[:WIDTH * ipv4]), sizes, values):
         yield IPv4Network((number, length)), value
-    for low, high, length, value, _ in struct.iter_unpack("<QQIIQ", image[end:end + 32 * ipv6]):
+    for (high, low), length, value in zip(struct.iter_unpack(">QQ", rows[WIDTH * ipv4:]), sizes[ipv4:], values[ipv4:]):
         yield IPv6Network((high << 64 | low, length)), value
 
 
 def with_values(image: bytes, values: Iterable[int]) -> bytes:
-    """The image with these values, in the order of its routes."""
-    ipv4, ipv6 = rows_of(image)
-    changed, numbers = bytearray(image), array.array("I", values)
-    words, given = memoryview(changed).cast("I"), memoryview(numbers)
-    first, second = HEADER.size // 4 + 2, HEADER.size // 4 + 4 * ipv4 + 5
-    if ipv4:
-        words[first:first + 4 * ipv4:4] = given[:ipv4]
-    if ipv6:
-        words[second:second + 8 * ipv6:8] = given[ipv4:]
-    return bytes(changed)
+    """The image with these values, one for each route, in their order."""
+    numbers = array.array("I", values)
+    place, many = numbers.buffer_info()
+    buffer, count = ctypes.create_string_buffer(len(image)), ctypes.c_size_t(0)
+    checked(_with_values(image, len(image), place, many, buffer, len(image), ctypes.byref(count)))
+    return buffer.raw
 
 
 def _written(text: bytes, values: "array.array[int]") -> Tuple[int, int, bytes]:

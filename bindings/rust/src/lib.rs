@@ -49,7 +49,7 @@ pub enum Error {
     NotASet,
     /// The bytes are not the image of a table.
     NotATable,
-    /// The text does not end with a line end, or there is no offset.
+    /// The text does not end with a line end, there is no offset, or there are not as many numbers as networks.
     WrongLength,
     /// An offset is less than the offset before it, or greater than the length of the text.
     BadOffsets,

@@ -212,6 +212,15 @@ extern "C" {
     ) -> u32;
     fn ipnet_set_counts(set: *const u8, set_len: usize, counts: *mut u64, counts_len: usize) -> u32;
     fn ipnet_set_is_subset(set: *const u8, set_len: usize, other: *const u8, other_len: usize) -> u32;
+    fn ipnet_set_range_rows(
+        set: *const u8,
+        set_len: usize,
+        families: *mut u8,
+        families_len: usize,
+        octets: *mut u8,
+        octets_len: usize,
+        count: *mut usize,
+    ) -> u32;
     fn ipnet_rows_from_lines(
         text: *const u8,
         text_len: usize,
@@ -243,6 +252,33 @@ extern "C" {
     ) -> u32;
     fn ipnet_table_check(table: *const u8, table_len: usize) -> u32;
     fn ipnet_table_count(table: *const u8, table_len: usize, count: *mut usize) -> u32;
+    fn ipnet_table_networks(
+        table: *const u8,
+        table_len: usize,
+        start: usize,
+        families: *mut u8,
+        families_len: usize,
+        octets: *mut u8,
+        octets_len: usize,
+        lengths: *mut u8,
+        lengths_len: usize,
+    ) -> u32;
+    fn ipnet_table_values(
+        table: *const u8,
+        table_len: usize,
+        start: usize,
+        values: *mut u32,
+        values_len: usize,
+    ) -> u32;
+    fn ipnet_table_with_values(
+        table: *const u8,
+        table_len: usize,
+        values: *const u32,
+        values_len: usize,
+        buffer: *mut u8,
+        buffer_len: usize,
+        count: *mut usize,
+    ) -> u32;
     fn ipnet_table_longest_match(
         table: *const u8,
         table_len: usize,
@@ -440,10 +476,10 @@ pub fn combine(text: &[u8], other: &[u8], into_buffer: BothIntoBuffer) -> Result
     })
 }
 
-/// Extends the buffer to `len` bytes.
-pub fn grow(buffer: &mut Vec<u8>, len: usize) -> Result<(), Error> {
+/// Extends the buffer to `len` items.
+pub fn grow<T: Clone + Default>(buffer: &mut Vec<T>, len: usize) -> Result<(), Error> {
     buffer.try_reserve_exact(len - buffer.len()).map_err(|_| Error::OutOfMemory)?;
-    buffer.resize(len, 0);
+    buffer.resize(len, T::default());
     Ok(())
 }
 
@@ -570,6 +606,33 @@ pub fn set_is_subset(set: &[u8], other: &[u8]) -> Result<bool, Error> {
     }
 }
 
+/// The ends of the fewest ranges of a set as rows: their families, and 16 octets for each.
+pub fn set_range_rows(set: &[u8]) -> Result<(Vec<u8>, Vec<u8>), Error> {
+    // for an image of n bytes, n / 4 rows are always enough
+    let (rows, mut count) = (set.len() / 4, 0);
+    let (mut families, mut octets) = (Vec::new(), Vec::new());
+    grow(&mut families, rows)?;
+    grow(&mut octets, rows.saturating_mul(16))?;
+    // SAFETY: as in `call`.
+    let status = unsafe {
+        ipnet_set_range_rows(
+            set.as_ptr(),
+            set.len(),
+            families.as_mut_ptr(),
+            families.len(),
+            octets.as_mut_ptr(),
+            octets.len(),
+            &mut count,
+        )
+    };
+    if status != OK {
+        return Err(error_of(status, count));
+    }
+    families.truncate(count.saturating_mul(2));
+    octets.truncate(count.saturating_mul(32));
+    Ok((families, octets))
+}
+
 /// The image of the table of the networks of a text, each with the value at its place. There are as many values as
 /// networks.
 pub fn table_from(text: &str, values: &[u32]) -> Result<Vec<u8>, Error> {
@@ -608,6 +671,61 @@ pub fn table_count(table: &[u8]) -> Result<usize, Error> {
         OK => Ok(count),
         status => Err(error_of(status, 0)),
     }
+}
+
+/// The networks of all routes of a table as rows: their families, 16 octets for each, and their prefix lengths.
+pub fn table_networks(table: &[u8]) -> Result<[Vec<u8>; 3], Error> {
+    let count = table_count(table)?;
+    let (mut families, mut octets, mut lengths) = (Vec::new(), Vec::new(), Vec::new());
+    grow(&mut families, count)?;
+    grow(&mut octets, count.saturating_mul(16))?;
+    grow(&mut lengths, count)?;
+    // SAFETY: as in `call`.
+    let status = unsafe {
+        ipnet_table_networks(
+            table.as_ptr(),
+            table.len(),
+            0,
+            families.as_mut_ptr(),
+            families.len(),
+            octets.as_mut_ptr(),
+            octets.len(),
+            lengths.as_mut_ptr(),
+            lengths.len(),
+        )
+    };
+    if status == OK { Ok([families, octets, lengths]) } else { Err(error_of(status, 0)) }
+}
+
+/// The values of all routes of a table, in the order of [`table_networks`].
+pub fn table_values(table: &[u8]) -> Result<Vec<u32>, Error> {
+    let mut values = Vec::new();
+    grow(&mut values, table_count(table)?)?;
+    // SAFETY: as in `call`.
+    match unsafe { ipnet_table_values(table.as_ptr(), table.len(), 0, values.as_mut_ptr(), values.len()) } {
+        OK => Ok(values),
+        status => Err(error_of(status, 0)),
+    }
+}
+
+/// The image of the table with the same networks and these values.
+pub fn table_with_values(table: &[u8], values: &[u32]) -> Result<Vec<u8>, Error> {
+    answer(table.len(), |buffer| {
+        let mut count = 0;
+        // SAFETY: as in `call`.
+        let status = unsafe {
+            ipnet_table_with_values(
+                table.as_ptr(),
+                table.len(),
+                values.as_ptr(),
+                values.len(),
+                buffer.as_mut_ptr(),
+                buffer.len(),
+                &mut count,
+            )
+        };
+        (status, count)
+    })
 }
 
 /// The value of the longest match for the address with these octets, 4 or 16.

@@ -1,5 +1,5 @@
 //! Sets of addresses.
-use crate::{lines, parsed, raw, Error, Network};
+use crate::{lines, parsed, raw, Error, Network, Rows};
 use std::fmt;
 use std::net::{IpAddr, Ipv4Addr, Ipv6Addr};
 use std::str::FromStr;
@@ -260,6 +260,23 @@ impl IpSet {
     /// ```
     pub fn to_ranges(&self) -> Result<String, Error> {
         raw::text_from(&self.image, raw::ipnet_set_to_ranges)
+    }
+
+    /// The fewest ranges of the set, each by its first and its last address, IPv4 first, ascending.
+    ///
+    /// ```
+    /// use ipnet_proved::{Error, IpSet};
+    /// use std::net::{IpAddr, Ipv4Addr};
+    ///
+    /// let set: IpSet = "10.0.0.0/31\n10.0.0.2/32".parse()?;
+    /// let (first, last) = (Ipv4Addr::new(10, 0, 0, 0), Ipv4Addr::new(10, 0, 0, 2));
+    /// assert_eq!(set.ranges()?, [(IpAddr::from(first), IpAddr::from(last))]);
+    /// # Ok::<(), Error>(())
+    /// ```
+    pub fn ranges(&self) -> Result<Vec<(IpAddr, IpAddr)>, Error> {
+        let (families, octets) = raw::set_range_rows(&self.image)?;
+        let rows = Rows { families, octets };
+        Ok((0..rows.len() / 2).filter_map(|index| rows.get(2 * index).zip(rows.get(2 * index + 1))).collect())
     }
 
     /// The fewest networks of the set, IPv4 first, ascending.

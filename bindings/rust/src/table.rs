@@ -1,5 +1,5 @@
 //! Tables of routes.
-use crate::{raw, Error, Network};
+use crate::{raw, Error, Network, Rows};
 use std::net::{IpAddr, Ipv4Addr, Ipv6Addr};
 
 /// Networks with a number each, which finds the longest network that contains an address. It is kept as its image: bytes
@@ -59,6 +59,45 @@ impl RouteTable {
     /// Whether the table has no route.
     pub fn is_empty(&self) -> bool {
         self.len() == 0
+    }
+
+    /// The networks, each with its number, IPv4 first, ascending, a network before those that it contains. Fails only if
+    /// memory runs out.
+    ///
+    /// ```
+    /// use ipnet_proved::{Error, RouteTable};
+    ///
+    /// let table = RouteTable::from_routes(&[("10.1.0.9/16".parse()?, 2), ("10.0.0.0/8".parse()?, 1)])?;
+    /// assert_eq!(table.routes()?, [("10.0.0.0/8".parse()?, 1), ("10.1.0.0/16".parse()?, 2)]);
+    /// assert_eq!(table.values()?, [1, 2]);
+    /// # Ok::<(), Error>(())
+    /// ```
+    pub fn routes(&self) -> Result<Vec<(Network, u32)>, Error> {
+        let [families, octets, lengths] = raw::table_networks(&self.image)?;
+        let rows = Rows { families, octets };
+        let values = self.values()?;
+        let networks = (0..rows.len()).zip(lengths).filter_map(|(index, len)| Network::new(rows.get(index)?, len).ok());
+        Ok(networks.zip(values).collect())
+    }
+
+    /// The numbers of the networks, in the order of [`RouteTable::routes`]. Fails only if memory runs out.
+    pub fn values(&self) -> Result<Vec<u32>, Error> {
+        raw::table_values(&self.image)
+    }
+
+    /// The table with the same networks and these numbers, in the order of [`RouteTable::routes`]. Fails with
+    /// [`Error::WrongLength`] if there are not as many numbers as networks, and if memory runs out.
+    ///
+    /// ```
+    /// use ipnet_proved::{Error, RouteTable};
+    ///
+    /// let table = RouteTable::from_routes(&[("10.0.0.0/8".parse()?, 1), ("10.1.0.0/16".parse()?, 2)])?;
+    /// assert_eq!(table.with_values(&[7, 8])?.values()?, [7, 8]);
+    /// assert_eq!(table.with_values(&[7]), Err(Error::WrongLength));
+    /// # Ok::<(), Error>(())
+    /// ```
+    pub fn with_values(&self, values: &[u32]) -> Result<RouteTable, Error> {
+        Ok(RouteTable { image: raw::table_with_values(&self.image, values)? })
     }
 
     /// The number of the longest network that contains the address, or `None` if none does. Allocates nothing.

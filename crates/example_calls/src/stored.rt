@@ -5,11 +5,10 @@ ghost use Rattle.ipnet.specs.Network.{InBlock};
 ghost use Rattle.ipnet.specs.NetworkOf.{ipv4_network};
 ghost use Rattle.ipnet_sets.specs.Members.{IsMemberOf};
 ghost use Rattle.ipnet_routes.specs.RoutesOf.{routes_of};
-ghost use Rattle.ipnet_routes.specs.ByteTableImages.{byte_routes};
 
 use ipnet::Ipv4Net;
 use ipnet_routes::RouteTable;
-use ipnet_routes::routes::laws::{a_byte_table_has_one_image, a_table_has_one_image};
+use ipnet_routes::routes::laws::a_table_has_one_image;
 use ipnet_sets::IpSet;
 use std::alloc::{AllocError, Global};
 
@@ -38,21 +37,4 @@ pub fn restored(alloc: Global, table: &RouteTable<u32>) -> Result<RouteTable<u32
     a_table_has_one_image();
     let image = table.to_bytes(alloc)?;
     RouteTable::from_bytes(alloc, image.as_slice()).map_err(|_| AllocError)
-}
-
-/// Returns the table of names that was written and read again. Fails if memory runs out, and if there are 2^32 routes
-/// or more.
-///
-/// ```text
-/// of the table of 10.0.0.0/8 with `office`: the table of 10.0.0.0/8 with `office`
-/// ```
-pub fn restored_names(
-    alloc: Global,
-    table: &RouteTable<Vec<u8>>,
-) -> Result<RouteTable<Vec<u8>>, AllocError>
-    ensures { IfOk result (λ copy. byte_routes (routes_of copy) ≡ byte_routes (routes_of table.now)) }
-{
-    a_byte_table_has_one_image();
-    let image = table.to_byte_image(alloc)?;
-    RouteTable::from_byte_image(alloc, image.as_slice()).map_err(|_| AllocError)
 }

@@ -18,3 +18,4 @@ pub mod LineTexts
 pub mod OffsetLaws
 pub mod TextRowReplies
 pub mod RouteReplies
+pub mod ImageRowReplies

@@ -8,7 +8,7 @@ use Rattle.ipnet_lists.specs.Lists.{Refusal, IsListRead}
 use Rattle.ipnet_lists.specs.ListTexts.{IsReadList}
 use Rattle.ipnet_lists.specs.RefusedLines.{RefusedLine, RefusedLines, refusal_of}
 use Rattle.ipnet_c.specs.Buffers.{IsWritten, IsTooLong}
-use Rattle.ipnet_c.specs.ListReplies.{HasAddressesOfList, IsFirstRefused, IsListReply}
+use Rattle.ipnet_c.specs.ListReplies.{HasAddressesOfList, IsListReply}
 use Rattle.ipnet_c.specs.SetReplies.{IsImageWith}
 use Rattle.ipnet_c.proofs.StatusLaws.{differ, not_other}
 

@@ -12,7 +12,7 @@ use Rattle.ipnet.specs.declared.net.IpNet.{IpNet}
 use Rattle.ipnet_sets.specs.declared.set.IpSet.{IpSet}
 use Rattle.ipnet_sets.specs.Images.{HasHeader, IsImage, IsImageOf}
 use Rattle.ipnet_sets.specs.Members.{IsMember, IsSubset}
-use Rattle.ipnet_c.specs.Replies.{AreBytesOf, IsYesExactlyAt}
+use Rattle.ipnet_c.specs.Replies.{AreBytesOf}
 use Rattle.ipnet_c.specs.SetReplies.{IsCoversReply, IsContainsAllReply, IsSubsetReply, AreOctetsOf, IsAnswerAt}
 use Rattle.ipnet_c.specs.SetReplies.{AreCountsOf, IsCountsReply, IsCoversAllReply}
 use Rattle.ipnet_c.proofs.ListReplies.{TellsFaults}

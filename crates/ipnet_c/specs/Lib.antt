@@ -11,3 +11,4 @@ pub mod Rows
 pub mod RowReplies
 pub mod TextRows
 pub mod RouteReplies
+pub mod ImageRows

@@ -9,7 +9,7 @@ use Rattle.ipnet.specs.Blocks.{IsCoveredBy}
 use Rattle.ipnet.specs.declared.parser.Grammar.TheVariants.{Strict}
 use Rattle.ipnet.specs.Lines.{lines_of, AreNetworksOf, IsFirstBadLine}
 use Rattle.ipnet_routes.specs.Routes.{Route, networks_of, IsTableOf, IsLongestMatch}
-use Rattle.ipnet_routes.specs.TableImages.{HasTableHeader, IsStoredRoute, IsTableImageOf, IsTableImage}
+use Rattle.ipnet_routes.specs.TableImages.{route_count, HasTableHeader, IsStoredRoute, IsTableImageOf, IsTableImage}
 use Rattle.ipnet_c.specs.Statuses as statuses
 use Rattle.ipnet_c.specs.Buffers.{IsWritten, IsTooLong}
 use Rattle.ipnet_c.specs.SetReplies.{AreOctetsOf, HasAddressLen, AreAddresses}
@@ -51,10 +51,11 @@ pub record IsTableReply (text values old new : List ℕ) (count_old count status
   pub count_kept : (status ≡ statuses.not_utf8) ⊎ ((status ≡ statuses.wrong_length)
       ⊎ (status ≡ statuses.out_of_memory)) → count ≡ count_old
 
--- How many routes the table has.
+-- How many routes the table has. Whatever the bytes are, it is the number that their header states.
 pub record IsTableCountReply (table : List ℕ) (count_old count status : ℕ) : Type 0 where
   pub known : (status ≡ statuses.ok) ⊎ (status ≡ statuses.not_a_table)
   pub ok : (t : List (Route ℕ)) → status ≡ statuses.ok → IsTableImageOf table t → count ≡ length t
+  pub stated : status ≡ statuses.ok → count ≡ route_count table
   pub not_a_table : (status ≡ statuses.not_a_table) ↔ ¬ (HasTableHeader table)
   pub kept : status ≢ statuses.ok → count ≡ count_old
 

@@ -7,6 +7,7 @@ mod buffers;
 pub mod bulk_numbers;
 pub mod bulk_rows;
 pub mod covers;
+pub mod image_rows;
 mod lists;
 pub mod networks;
 mod row_form;

@@ -58,7 +58,12 @@ fn row_form(row: Option<IpAddr>) -> (u8, [u8; 16])
 }
 
 /// Writes the row with this index, and returns the number of rows that are not an address: 1 or 0.
-fn write_row(families: &mut [u8], octets: &mut [u8], index: usize, row: Option<IpAddr>) -> usize
+pub(crate) fn write_row(
+    families: &mut [u8],
+    octets: &mut [u8],
+    index: usize,
+    row: Option<IpAddr>,
+) -> usize
     requires within { index < length families.old }
     requires rows { AreRows families.old octets.old }
     ensures family { families.new ≡ slice_set families.old index (written_family (option_map ip_address row)) }

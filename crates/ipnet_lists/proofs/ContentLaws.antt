@@ -1,190 +1,190 @@
--- The lines of a list that are not empty, as they are read one after another, and what is read of each.
-use Rattle.std.proofs.Common.{◌≡◌, ℕ, ◌+◌, ◌<◌, ◌≤◌, List, [], ◌∷◌, ◌++◌, length, map, take, get_or}
-use Rattle.std.proofs.Common.{refl}
-use Rattle.std.proofs.Common.{sym, ap, ◌∙◌, subst, arith, inl, inr, append_assoc, append-nil, Result, Ok, Err}
-use Rattle.std.proofs.Common.{take_all, All, IfOk, IfErr}
-use Rattle.std.proofs.lemmas.List.{map_push, take_more}
+-- The lines of a list that are not empty, as they are taken one after another, and what is read of each.
+use Rattle.std.proofs.Common.{◌≡◌, ◌↔◌, ℕ, ◌+◌, ◌<◌, List, [], ◌∷◌, ◌++◌, length, All, Any}
+use Rattle.std.proofs.Common.{refl, sym, ap, ◌∙◌, subst, arith, inl, inr, append_assoc, append-nil}
 use Rattle.std.proofs.lemmas.List.Elements.{All-nil, All-cons}
 use Rattle.ipnet.specs.Lines.{lines_of}
-use Rattle.ipnet_lists.specs.ContentLineOf.{AddsLine, AddsRead}
-use Rattle.ipnet_lists.specs.ContentLines.{ContentLine, RefusedContent, AreNumbered, AreItems}
-use Rattle.ipnet_lists.specs.Lists.{IsContents, AreContents}
+use Rattle.ipnet_sets.proofs.SetRangeLaws.{any_cases, any_there}
+use Rattle.ipnet_lists.specs.declared.refused.Refusals.{Refusals}
+use Rattle.ipnet_lists.specs.ContentLines.{ContentLine, IsSomeLine, AreItems, IsItemList, AreTaken}
+use Rattle.ipnet_lists.specs.ContentLines.{IsTakenList, AddsTaken}
+use Rattle.ipnet_lists.specs.Lists.{IsContents, AreContents, RefusalFor}
+use Rattle.ipnet_lists.specs.RefusedLines.{AreRefused}
+use Rattle.ipnet_lists.proofs.OneReading.{one_contents}
+use Rattle.ipnet_lists.proofs.RefusalLaws.{HasMore-nil, more_refused}
 
--- ---- the lines
+-- an empty line is no line with contents
+pub skip_empty : (line text : List ℕ) (lines : List (List ℕ)) → IsContents line text → text ≡ []
+    → Any IsSomeLine (line ∷ lines) ↔ Any IsSomeLine lines
+skip_empty line text lines is none = (
+  λ any. elim (any_cases IsSomeLine line lines any) [
+    | inl (other, also, some) ↦ absurd (some (one_contents line other text also is ∙ none))
+    | inr later ↦ later
+  ],
+  any_there IsSomeLine line lines,
+)
 
--- the lines of these bytes, which follow `number` lines
-abbrev pub AreLinesAfter : ℕ → List ℕ → List ContentLine → Type 0
-AreLinesAfter number bytes lines =
-    (texts : List (List ℕ)) × AreContents (lines_of bytes) texts × AreNumbered (number + 1) texts lines
+-- ---- one line is taken
 
--- the lines before the rest of the bytes are these, whatever the rest is
-pub record AreReadBefore (bytes : List ℕ) (number : ℕ) (lines : List ContentLine) (rest : List ℕ)
-    : Type 0 where
-  pub whole : (more : List ContentLine) → AreLinesAfter number rest more
-      → AreLinesAfter 0 bytes (lines ++ more)
+module _ {M C : Type 0} (Takes : ContentLine → M → M → Type 0) (IsCause : List ℕ → C → Type 0) where
+  some_taken : (number : ℕ) (text : List ℕ) (old new : M) → 0 < length text
+      → Takes (record { number = number; text = text }) old new → AreTaken Takes IsCause number (text ∷ []) old new []
+  some_taken number [] old new some takes = absurd (omega (arith, some))
+  some_taken number (b ∷ text) old new some takes = inl (new, takes, (refl, refl))
 
-pub before_start : (bytes : List ℕ) (number : ℕ) (lines : List ContentLine) → number ≡ 0
-    → lines ≡ [] → AreReadBefore bytes number lines bytes
-before_start bytes number lines first none = record {
-  whole = λ more h. subst (λ z. AreLinesAfter 0 bytes (z ++ more)) (sym none)
-      (subst (λ n. AreLinesAfter n bytes more) first h);
-}
+  pub adds_none : (line : ContentLine) (made : M) (refused : Refusals C) → line.text ≡ []
+      → AddsTaken Takes IsCause line made made refused refused
+  adds_none line made refused none = (
+    [],
+    subst (λ text. AreTaken Takes IsCause line.number (text ∷ []) made made []) (sym none) (refl, refl),
+    HasMore-nil refused refused.few,
+  )
 
--- one line more
-one_more : (number : ℕ) (text : List ℕ) (texts : List (List ℕ)) (old new more : List ContentLine)
-    → AddsLine (number + 1) text old new → AreNumbered (number + 1 + 1) texts more
-    → (whole : List ContentLine) × AreNumbered (number + 1) (text ∷ texts) whole × (old ++ whole ≡ new ++ more)
-one_more number [] texts old new more adds h = (more, h, ap (λ z. z ++ more) (sym adds))
-one_more number (b ∷ text) texts old new more adds h =
-    let line : ContentLine = record { number = number + 1; text = b ∷ text } in (
-      line ∷ more,
-      (more, refl, h),
-      sym (append_assoc old (line ∷ []) more) ∙ ap (λ z. z ++ more) (sym adds),
-    )
+  pub adds_taken : (line : ContentLine) (old new : M) (refused : Refusals C) → 0 < length line.text
+      → Takes line old new → AddsTaken Takes IsCause line old new refused refused
+  adds_taken line old new refused some takes =
+      ([], some_taken line.number line.text old new some takes, HasMore-nil refused refused.few)
 
-pub before_more : (bytes rest line after text : List ℕ) (number next : ℕ)
-    (old new : List ContentLine) → AreReadBefore bytes number old rest
-    → lines_of rest ≡ line ∷ lines_of after → next ≡ number + 1 → IsContents line text
-    → AddsLine next text old new → AreReadBefore bytes next new after
-before_more bytes rest line after text number next old new h cut is contents adds = record {
-  whole = λ more read.
-      let (texts, are, numbered) = read in
-      let (whole, wide, same) = one_more number text texts old new more
-      (subst (λ n. AddsLine n text old new) is adds)
-      (subst (λ n. AreNumbered (n + 1) texts more) is numbered) in
-      subst (AreLinesAfter 0 bytes) same
-      (h.whole whole (
-        text ∷ texts,
-        subst (λ ls. AreContents ls (text ∷ texts)) (sym cut) (text, texts, refl, contents, are),
-        wide,
-      ));
-}
-
-pub before_end : (bytes : List ℕ) (number : ℕ) (lines : List ContentLine)
-    → AreReadBefore bytes number lines [] → AreLinesAfter 0 bytes lines
-before_end bytes number lines h =
-    subst (AreLinesAfter 0 bytes) (append-nil lines) (h.whole [] ([], refl, refl))
-
--- ---- what is read of them
-
-module _ {T C : Type 0} (Is : List ℕ → T → Type 0) (IsCause : List ℕ → C → Type 0) where
-  item_last : (lines : List ContentLine) (line : ContentLine) (items : List T) (refused : List (RefusedContent C))
-      (item : T) → AreItems Is IsCause lines items refused → Is line.text item
-      → AreItems Is IsCause (lines ++ line ∷ []) (items ++ item ∷ []) refused
-  item_last [] line items refused item h is =
-      inl ([], record { item = item; is = is; next = ap (λ z. z ++ item ∷ []) h.0 }, (refl, h.1))
-  item_last (l ∷ lines) line items refused item (inl (more, next, h)) is =
+  -- the line and those after it
+  taken_cons : (number : ℕ) (text : List ℕ) (texts : List (List ℕ)) (old mid new : M)
+      (refused more : List (RefusalFor C))
+      → AreTaken Takes IsCause number (text ∷ []) old mid refused
+      → AreTaken Takes IsCause (number + 1) texts mid new more
+      → AreTaken Takes IsCause number (text ∷ texts) old new (refused ++ more)
+  taken_cons number [] texts old mid new refused more (same, none) h =
+      subst (λ z. AreTaken Takes IsCause (number + 1) texts old new (z ++ more)) (sym none)
+      (subst (λ z. AreTaken Takes IsCause (number + 1) texts z new more) same h)
+  taken_cons number (b ∷ text) texts old mid new refused more (inl (made, takes, (same, none))) h =
       inl (
-        more ++ item ∷ [],
-        record { item = next.item; is = next.is; next = ap (λ z. z ++ item ∷ []) next.next },
-        item_last lines line more refused item h is,
+        mid,
+        subst (Takes (record { number = number; text = b ∷ text }) old) (sym same) takes,
+        subst (λ z. AreTaken Takes IsCause (number + 1) texts mid new (z ++ more)) (sym none) h,
       )
-  item_last (l ∷ lines) line items refused item (inr (more, next, h)) is =
-      inr (more, next, item_last lines line items more item h is)
-
-  refused_last : (lines : List ContentLine) (line : ContentLine) (items : List T) (refused : List (RefusedContent C))
-      (cause : C) → AreItems Is IsCause lines items refused → IsCause line.text cause
-      → AreItems Is IsCause (lines ++ line ∷ []) items
-      (refused ++ record { number = line.number; text = line.text; cause = cause } ∷ [])
-  refused_last [] line items refused cause h reported =
-      let one : RefusedContent C = record { number = line.number; text = line.text; cause = cause } in
-      inr ([], record { cause = cause; reported = reported; next = ap (λ z. z ++ one ∷ []) h.1 }, (h.0, refl))
-  refused_last (l ∷ lines) line items refused cause (inl (more, next, h)) reported =
-      inl (more, next, refused_last lines line more refused cause h reported)
-  refused_last (l ∷ lines) line items refused cause (inr (more, next, h)) reported =
-      let one : RefusedContent C = record { number = line.number; text = line.text; cause = cause } in
+  taken_cons number (b ∷ text) texts old mid new refused more (inr (rest, next, (same, none))) h =
       inr (
-        more ++ one ∷ [],
-        record { cause = next.cause; reported = next.reported; next = ap (λ z. z ++ one ∷ []) next.next },
-        refused_last lines line items more cause h reported,
+        rest ++ more,
+        record { cause = next.cause; reported = next.reported; next = ap (λ z. z ++ more) next.next },
+        subst (λ z. AreTaken Takes IsCause (number + 1) texts old new (z ++ more)) (sym none)
+            (subst (λ z. AreTaken Takes IsCause (number + 1) texts z new more) same h),
       )
 
-  -- one line more was read
-  pub read_last : (lines : List ContentLine) (line : ContentLine) (read : Result T C) (items items_after : List T)
-      (refused refused_after : List (RefusedContent C)) → AreItems Is IsCause lines items refused
-      → IfOk read (Is line.text) → IfErr read (IsCause line.text)
-      → AddsRead line read items items_after refused refused_after
-      → AreItems Is IsCause (lines ++ line ∷ []) items_after refused_after
-  read_last lines line (Ok item) items items_after refused refused_after h is reported adds =
-      subst (λ z. AreItems Is IsCause (lines ++ line ∷ []) z refused_after) (sym adds.0)
-      (subst (AreItems Is IsCause (lines ++ line ∷ []) (items ++ item ∷ [])) (sym adds.1)
-      (item_last lines line items refused item h is))
-  read_last lines line (Err cause) items items_after refused refused_after h is reported adds =
-      subst (λ z. AreItems Is IsCause (lines ++ line ∷ []) z refused_after) (sym adds.0)
-      (subst (AreItems Is IsCause (lines ++ line ∷ []) items) (sym adds.1)
-      (refused_last lines line items refused cause h reported))
+  -- the lines of these bytes, which follow `number` lines, are taken
+  abbrev pub AreTakenAfter : ℕ → List ℕ → M → M → List (RefusalFor C) → Type 0
+  AreTakenAfter number bytes old new refused = (texts : List (List ℕ)) × AreContents (lines_of bytes) texts
+      × AreTaken Takes IsCause (number + 1) texts old new refused
 
-  -- each item is what some text is
-  pub items_all : (P : T → Type 0) → ((text : List ℕ) (item : T) → Is text item → P item)
-      → (lines : List ContentLine) (items : List T) (refused : List (RefusedContent C))
-      → AreItems Is IsCause lines items refused → All P items
-  items_all P each [] items refused h = subst (All P) (sym h.0) (All-nil P)
-  items_all P each (l ∷ lines) items refused (inl (more, next, h)) =
+-- the lines before the rest of the bytes are taken, whatever the rest is
+pub record AreTakenBefore {M C : Type 0} (Takes : ContentLine → M → M → Type 0) (IsCause : List ℕ → C → Type 0)
+    (bytes : List ℕ) (old : M) (number : ℕ) (rest : List ℕ) (made : M) (refused : Refusals C) : Type 0 where
+  pub refusals : List (RefusalFor C)
+  pub kept : AreRefused refused refusals
+  pub whole : (new : M) (more : List (RefusalFor C)) → AreTakenAfter Takes IsCause number rest made new more
+      → AreTakenAfter Takes IsCause 0 bytes old new (refusals ++ more)
+
+module _ {M C : Type 0} (Takes : ContentLine → M → M → Type 0) (IsCause : List ℕ → C → Type 0) (bytes : List ℕ)
+    (old : M) where
+  pub before_start : (refused : Refusals C) → AreRefused refused []
+      → AreTakenBefore Takes IsCause bytes old 0 bytes old refused
+  before_start refused none = record { refusals = []; kept = none; whole = λ new more h. h }
+
+  pub before_more : (number next : ℕ) (rest line text after : List ℕ) (made mid : M)
+      (refused refused_after : Refusals C)
+      → AreTakenBefore Takes IsCause bytes old number rest made refused → lines_of rest ≡ line ∷ lines_of after
+      → next ≡ number + 1 → IsContents line text
+      → AddsTaken Takes IsCause (record { number = next; text = text }) made mid refused refused_after
+      → AreTakenBefore Takes IsCause bytes old next after mid refused_after
+  before_more number next rest line text after made mid refused refused_after h cut is contents (one, taken, has) =
+      record {
+        refusals = h.refusals ++ one;
+        kept = more_refused refused refused_after h.refusals one h.kept has;
+        whole = λ new more (texts, are, later).
+            subst (AreTakenAfter Takes IsCause 0 bytes old new) (sym (append_assoc h.refusals one more))
+            (h.whole new (one ++ more) (
+              text ∷ texts,
+              subst (λ ls. AreContents ls (text ∷ texts)) (sym cut) (text, texts, refl, contents, are),
+              taken_cons Takes IsCause (number + 1) text texts made mid new one more
+                  (subst (λ n. AreTaken Takes IsCause n (text ∷ []) made mid one) is taken)
+                  (subst (λ n. AreTaken Takes IsCause (n + 1) texts mid new more) is later),
+            ));
+      }
+
+  pub before_end : (number : ℕ) (made : M) (refused : Refusals C)
+      → (h : AreTakenBefore Takes IsCause bytes old number [] made refused)
+      → AreTakenAfter Takes IsCause 0 bytes old made h.refusals
+  before_end number made refused h =
+      subst (AreTakenAfter Takes IsCause 0 bytes old made) (append-nil h.refusals)
+      (h.whole made [] ([], refl, (refl, refl)))
+
+-- ---- what the lines are
+
+module _ {T C : Type 0} (Is : ContentLine → T → Type 0) (IsCause : List ℕ → C → Type 0) where
+  -- if each line that is taken adds an item to those that a value has, the lines are these items
+  pub items_taken : {M : Type 0} (Takes : ContentLine → M → M → Type 0) (Has : M → List T → Type 0)
+      → ((line : ContentLine) (old new : M) → Takes line old new
+      → (item : T) × Is line item × ((items : List T) → Has old items → Has new (items ++ item ∷ [])))
+      → (number : ℕ) (texts : List (List ℕ)) (old new : M) (refused : List (RefusalFor C)) (before : List T)
+      → AreTaken Takes IsCause number texts old new refused → Has old before
+      → (items : List T) × AreItems Is IsCause number texts items refused × Has new (before ++ items)
+  items_taken Takes Has each number [] old new refused before (same, none) h =
+      ([], (refl, none), subst (Has new) (sym (append-nil before)) (subst (λ z. Has z before) (sym same) h))
+  items_taken Takes Has each number ([] ∷ texts) old new refused before taken h =
+      items_taken Takes Has each (number + 1) texts old new refused before taken h
+  items_taken Takes Has each number ((b ∷ text) ∷ texts) old new refused before (inl (mid, takes, taken)) h =
+      let (item, is, adds) = each (record { number = number; text = b ∷ text }) old mid takes in
+      let (items, are, has) = items_taken Takes Has each (number + 1) texts mid new refused (before ++ item ∷ []) taken
+      (adds before h) in (
+        item ∷ items,
+        inl (items, record { item = item; is = is; next = refl }, are),
+        subst (Has new) (append_assoc before (item ∷ []) items) has,
+      )
+  items_taken Takes Has each number ((b ∷ text) ∷ texts) old new refused before (inr (more, next, taken)) h =
+      let (items, are, has) = items_taken Takes Has each (number + 1) texts old new more before taken h in
+      (items, inr (more, next, are), has)
+
+  pub list_taken : {M : Type 0} (Takes : ContentLine → M → M → Type 0) (Has : M → List T → Type 0)
+      → ((line : ContentLine) (old new : M) → Takes line old new
+      → (item : T) × Is line item × ((items : List T) → Has old items → Has new (items ++ item ∷ [])))
+      → (bytes : List ℕ) (old new : M) (refused : List (RefusalFor C)) → Has old []
+      → IsTakenList Takes IsCause bytes old new refused
+      → (items : List T) × IsItemList Is IsCause bytes items refused × Has new items
+  list_taken Takes Has each bytes old new refused none (texts, contents, taken) =
+      let (items, are, has) = items_taken Takes Has each 1 texts old new refused [] taken none in
+      (items, (texts, contents, are), has)
+
+  -- each item is what some line is
+  pub items_all : (P : T → Type 0) → ((line : ContentLine) (item : T) → Is line item → P item)
+      → (number : ℕ) (texts : List (List ℕ)) (items : List T) (refused : List (RefusalFor C))
+      → AreItems Is IsCause number texts items refused → All P items
+  items_all P each number [] items refused h = subst (All P) (sym h.0) (All-nil P)
+  items_all P each number ([] ∷ texts) items refused h = items_all P each (number + 1) texts items refused h
+  items_all P each number ((b ∷ text) ∷ texts) items refused (inl (more, next, h)) =
       subst (All P) (sym next.next)
-      (All-cons P next.item more (each l.text next.item next.is) (items_all P each lines more refused h))
-  items_all P each (l ∷ lines) items refused (inr (more, next, h)) = items_all P each lines items more h
+      (All-cons P next.item more (each (record { number = number; text = b ∷ text }) next.item next.is)
+      (items_all P each (number + 1) texts more refused h))
+  items_all P each number ((b ∷ text) ∷ texts) items refused (inr (more, next, h)) =
+      items_all P each (number + 1) texts items more h
 
--- the items as other values
-pub items_map : {V T C : Type 0} (f : V → T) (Is : List ℕ → T → Type 0) (IsCause : List ℕ → C → Type 0)
-    (lines : List ContentLine) (items : List V) (refused : List (RefusedContent C))
-    → AreItems (λ text v. Is text (f v)) IsCause lines items refused
-    → AreItems Is IsCause lines (map f items) refused
-items_map f Is IsCause [] items refused h = (ap (map f) h.0, h.1)
-items_map f Is IsCause (l ∷ lines) items refused (inl (more, next, h)) =
-    inl (
-      map f more,
-      record { item = f next.item; is = next.is; next = ap (map f) next.next },
-      items_map f Is IsCause lines more refused h,
-    )
-items_map f Is IsCause (l ∷ lines) items refused (inr (more, next, h)) =
-    inr (more, next, items_map f Is IsCause lines items more h)
-
--- by relations that say the same
-pub items_same : {T C : Type 0} (Is Other : List ℕ → T → Type 0) (IsCause OtherCause : List ℕ → C → Type 0)
-    → ((text : List ℕ) (item : T) → Is text item → Other text item)
-    → ((text : List ℕ) (cause : C) → IsCause text cause → OtherCause text cause)
-    → (lines : List ContentLine) (items : List T) (refused : List (RefusedContent C))
-    → AreItems Is IsCause lines items refused → AreItems Other OtherCause lines items refused
-items_same Is Other IsCause OtherCause f g [] items refused h = h
-items_same Is Other IsCause OtherCause f g (l ∷ lines) items refused (inl (more, next, h)) =
-    inl (
-      more,
-      record { item = next.item; is = f l.text next.item next.is; next = next.next },
-      items_same Is Other IsCause OtherCause f g lines more refused h,
-    )
-items_same Is Other IsCause OtherCause f g (l ∷ lines) items refused (inr (more, next, h)) =
-    inr (
-      more,
-      record { cause = next.cause; reported = g l.text next.cause next.reported; next = next.next },
-      items_same Is Other IsCause OtherCause f g lines items more h,
-    )
-
--- the values before the next index, and the one at it
-pub map_take_more : {V L : Type 0} (f : V → L) (xs : List V) (i : ℕ) (x : V) → i < length xs → x ≡ get_or xs i x
-    → map f (take (i + 1) xs) ≡ map f (take i xs) ++ f x ∷ []
-map_take_more f xs i x less is =
-    ap (map f) (take_more xs i x less ∙ ap (λ z. take i xs ++ z ∷ []) (sym is)) ∙ map_push f (take i xs) x
-
-pub read_next : {T C V : Type 0} (Is : List ℕ → T → Type 0) (IsCause : List ℕ → C → Type 0) (f : V → ContentLine)
-    (xs : List V) (i : ℕ) (d : V) (read : Result T C) (items items_after : List T)
-    (refused refused_after : List (RefusedContent C)) → i < length xs
-    → AreItems Is IsCause (map f (take i xs)) items refused → IfOk read (Is (f (get_or xs i d)).text)
-    → IfErr read (IsCause (f (get_or xs i d)).text)
-    → AddsRead (f (get_or xs i d)) read items items_after refused refused_after
-    → AreItems Is IsCause (map f (take (i + 1) xs)) items_after refused_after
-read_next Is IsCause f xs i d read items items_after refused refused_after less h is reported adds =
-    subst (λ z. AreItems Is IsCause z items_after refused_after)
-    (sym (ap (map f) (take_more xs i d less) ∙ map_push f (take i xs) (get_or xs i d)))
-    (read_last Is IsCause (map f (take i xs)) (f (get_or xs i d)) read items items_after refused refused_after h is
-    reported adds)
-
--- all lines were read
-pub read_all : {T C V : Type 0} (Is : List ℕ → T → Type 0) (IsCause : List ℕ → C → Type 0) (f : V → ContentLine)
-    (xs : List V) (i : ℕ) (items : List T) (refused : List (RefusedContent C)) → length xs ≤ i
-    → AreItems Is IsCause (map f (take i xs)) items refused → AreItems Is IsCause (map f xs) items refused
-read_all Is IsCause f xs i items refused past h =
-    subst (λ z. AreItems Is IsCause (map f z) items refused) (take_all i xs past) h
-
-pub no_refused : {X Y : Type 0} (f : X → Y) (xs : List X) → length xs ≡ 0 → map f xs ≡ []
-no_refused f [] none = refl
-no_refused f (x ∷ xs) none = absurd (omega (arith, none))
+  -- by relations that say the same
+  pub items_same : (Other : ContentLine → T → Type 0) (OtherCause : List ℕ → C → Type 0)
+      → ((line : ContentLine) (item : T) → Is line item → Other line item)
+      → ((text : List ℕ) (cause : C) → IsCause text cause → OtherCause text cause)
+      → (number : ℕ) (texts : List (List ℕ)) (items : List T) (refused : List (RefusalFor C))
+      → AreItems Is IsCause number texts items refused → AreItems Other OtherCause number texts items refused
+  items_same Other OtherCause f g number [] items refused h = h
+  items_same Other OtherCause f g number ([] ∷ texts) items refused h =
+      items_same Other OtherCause f g (number + 1) texts items refused h
+  items_same Other OtherCause f g number ((b ∷ text) ∷ texts) items refused (inl (more, next, h)) =
+      inl (
+        more,
+        record {
+          item = next.item;
+          is = f (record { number = number; text = b ∷ text }) next.item next.is;
+          next = next.next;
+        },
+        items_same Other OtherCause f g (number + 1) texts more refused h,
+      )
+  items_same Other OtherCause f g number ((b ∷ text) ∷ texts) items refused (inr (more, next, h)) =
+      inr (
+        more,
+        record { cause = next.cause; reported = g (b ∷ text) next.cause next.reported; next = next.next },
+        items_same Other OtherCause f g (number + 1) texts items more h,
+      )

@@ -24,3 +24,4 @@ pub mod WordTexts
 pub mod MadeLaws
 pub mod EndLaws
 pub mod SetLineLaws
+pub mod ReportLaws

@@ -1,8 +1,8 @@
 -- The refused lines that are kept, as more are added.
 use Rattle.std.proofs.Common.{◌≡◌, ℕ, zero, suc, ◌<◌, ◌≤◌, List, [], ◌∷◌, ◌++◌, length, take, refl, sym, ap}
-use Rattle.std.proofs.Common.{◌∙◌, arith}
+use Rattle.std.proofs.Common.{◌∙◌, ◌≢◌, arith}
 use Rattle.std.proofs.Common.{append_assoc, append-nil, take_all, length-append, add-zero}
-use Rattle.std.proofs.lemmas.List.{length-map, take-append-le}
+use Rattle.std.proofs.lemmas.List.{length-map, take-append-le, nil_from_length}
 use Rattle.ipnet_lists.specs.declared.refused.Refusals.{Refusals}
 use Rattle.ipnet_lists.specs.Lists.{RefusalFor}
 use Rattle.ipnet_lists.specs.RefusedLines.{AreRefused, HasMore, shown_refusals, refusal_of}
@@ -49,3 +49,12 @@ one_more old new r room e =
 pub no_room : {X : Type 0} (old : List X) (r : X) → length old ≡ 10 → old ≡ take 10 (old ++ r ∷ [])
 no_room old r full =
     sym (take-append-le 10 old (r ∷ []) (omega (arith, full)) ∙ take_all 10 old (omega (arith, full)))
+
+-- whether there are any
+pub none_refused : {C : Type 0} (lines : Refusals C) (refusals : List (RefusalFor C)) → AreRefused lines refusals
+    → lines.count ≡ 0 → refusals ≡ []
+none_refused lines refusals h none = nil_from_length refusals (sym h.count ∙ none)
+
+pub some_refused : {C : Type 0} (lines : Refusals C) (refusals : List (RefusalFor C)) → AreRefused lines refusals
+    → lines.count ≢ 0 → refusals ≢ []
+some_refused lines refusals h some none = some (h.count ∙ ap length none)

@@ -1,51 +1,82 @@
 -- The lines of a list that contain something, and what is read of each: an item, or why it is refused.
-use Rattle.std.specs.Prelude.{◌≡◌, ◌⊎◌, ℕ, ◌+◌, List, [], ◌∷◌}
+use Rattle.std.specs.Prelude.{◌≡◌, ◌≢◌, ◌⊎◌, ℕ, ◌+◌, List, [], ◌∷◌, Result, Ok, Err}
 use Rattle.ipnet.specs.Lines.{lines_of}
-use Rattle.ipnet_lists.specs.Lists.{AreContents, after_mark}
+use Rattle.ipnet_lists.specs.declared.refused.Refusals.{Refusals}
+use Rattle.ipnet_lists.specs.Lists.{AreContents, IsContents, RefusalFor, after_mark}
+use Rattle.ipnet_lists.specs.RefusedLines.{HasMore}
 
 -- A line that is not empty: its number, from 1, and its contents. Example: 3 and `::1` for `::1 # x` on line 3.
 pub record ContentLine : Type 0 where
   pub number : ℕ
   pub text : List ℕ
 
--- A refused line: its number, from 1, its contents, and why they are refused.
-pub record RefusedContent (C : Type 0) : Type 0 where
-  pub number : ℕ
-  pub text : List ℕ
-  pub cause : C
+-- The line is not empty, without its comment and blanks. Example: `\tx # y`, but not `# y`.
+abbrev pub IsSomeLine : List ℕ → Type 0
+IsSomeLine line = (text : List ℕ) × IsContents line text × (text ≢ [])
 
--- The contents that are not empty, with the numbers of their lines. The first line has this number.
-abbrev pub AreNumbered : ℕ → List (List ℕ) → List ContentLine → Type 0
-AreNumbered number [] lines = lines ≡ []
-AreNumbered number ([] ∷ texts) lines = AreNumbered (number + 1) texts lines
-AreNumbered number ((b ∷ text) ∷ texts) lines =
-    (more : List ContentLine) × (lines ≡ record { number = number; text = b ∷ text } ∷ more)
-    × AreNumbered (number + 1) texts more
-
--- The lines of the bytes that are not empty, without blanks, comments and a byte order mark, as in lists of entries.
--- Example: `10.0.0.0/8 # ours\n\n::1\n` has line 1, `10.0.0.0/8`, and line 3, `::1`.
-abbrev pub AreContentLines : List ℕ → List ContentLine → Type 0
-AreContentLines bytes lines = (texts : List (List ℕ)) × AreContents (lines_of (after_mark bytes)) texts
-    × AreNumbered 1 texts lines
-
--- The first of the items is what this text is, and `more` are the others.
-pub record IsNextItem {T : Type 0} (Is : List ℕ → T → Type 0) (text : List ℕ) (items more : List T) : Type 0 where
-  pub item : T
-  pub is : Is text item
-  pub next : items ≡ item ∷ more
+-- The line, refused for this cause. The index of its list is 0.
+abbrev pub refused_line : {C : Type 0} → ContentLine → C → RefusalFor C
+refused_line line cause = record { list = 0; number = line.number; text = line.text; cause = cause }
 
 -- The first of the refused lines is this one, for a cause that is true of it, and `more` are the others.
 pub record IsNextRefused {C : Type 0} (IsCause : List ℕ → C → Type 0) (line : ContentLine)
-    (refused more : List (RefusedContent C)) : Type 0 where
+    (refused more : List (RefusalFor C)) : Type 0 where
   pub cause : C
   pub reported : IsCause line.text cause
-  pub next : refused ≡ record { number = line.number; text = line.text; cause = cause } ∷ more
+  pub next : refused ≡ refused_line line cause ∷ more
 
--- Each of the lines is an item or is refused. These are the items and the refused lines, in order.
-abbrev pub AreItems : {T C : Type 0} → (List ℕ → T → Type 0) → (List ℕ → C → Type 0) → List ContentLine → List T
-    → List (RefusedContent C) → Type 0
-AreItems Is IsCause [] items refused = (items ≡ []) × (refused ≡ [])
-AreItems {T} {C} Is IsCause (line ∷ lines) items refused =
-    ((more : List T) × IsNextItem Is line.text items more × AreItems Is IsCause lines more refused)
-    ⊎ ((more : List (RefusedContent C)) × IsNextRefused IsCause line refused more
-    × AreItems Is IsCause lines items more)
+-- The first of the items is what this line is, and `more` are the others.
+pub record IsNextItem {T : Type 0} (Is : ContentLine → T → Type 0) (line : ContentLine) (items more : List T) : Type
+    0 where
+  pub item : T
+  pub is : Is line item
+  pub next : items ≡ item ∷ more
+
+-- Lines with these contents, the first with this number, are items or are refused. These are the items and the refused
+-- lines, in order. Empty lines are skipped.
+abbrev pub AreItems : {T C : Type 0} → (ContentLine → T → Type 0) → (List ℕ → C → Type 0) → ℕ → List (List ℕ) → List T
+    → List (RefusalFor C) → Type 0
+AreItems Is IsCause number [] items refused = (items ≡ []) × (refused ≡ [])
+AreItems Is IsCause number ([] ∷ texts) items refused = AreItems Is IsCause (number + 1) texts items refused
+AreItems {T} {C} Is IsCause number ((b ∷ text) ∷ texts) items refused =
+    ((more : List T) × IsNextItem Is (record { number = number; text = b ∷ text }) items more
+    × AreItems Is IsCause (number + 1) texts more refused)
+    ⊎ ((more : List (RefusalFor C)) × IsNextRefused IsCause (record { number = number; text = b ∷ text }) refused more
+    × AreItems Is IsCause (number + 1) texts items more)
+
+-- The bytes are a list with these items and refused lines. Blanks, comments and a byte order mark are as in lists of
+-- entries.
+-- Example: if only numbers are items, `7 # ours\n\nx\n` has the item 7 of line 1, and line 3, `x`, is refused.
+abbrev pub IsItemList : {T C : Type 0} → (ContentLine → T → Type 0) → (List ℕ → C → Type 0) → List ℕ → List T
+    → List (RefusalFor C) → Type 0
+IsItemList Is IsCause bytes items refused = (texts : List (List ℕ)) × AreContents (lines_of (after_mark bytes)) texts
+    × AreItems Is IsCause 1 texts items refused
+
+-- A line was taken, or refused for a cause that is true of it; then nothing changed.
+abbrev pub IsTaken : {U C : Type 0} → Type 0 → (C → Type 0) → Type 0 → Result U C → Type 0
+IsTaken Took IsCause Same (Ok _) = Took
+IsTaken Took IsCause Same (Err cause) = IsCause cause × Same
+
+-- Lines with these contents, the first with this number, make the value `new` of the value `old`, one after another.
+-- These lines are refused. Empty lines are skipped.
+abbrev pub AreTaken : {M C : Type 0} → (ContentLine → M → M → Type 0) → (List ℕ → C → Type 0) → ℕ → List (List ℕ)
+    → (old new : M) → List (RefusalFor C) → Type 0
+AreTaken Takes IsCause number [] old new refused = (new ≡ old) × (refused ≡ [])
+AreTaken Takes IsCause number ([] ∷ texts) old new refused = AreTaken Takes IsCause (number + 1) texts old new refused
+AreTaken {M} {C} Takes IsCause number ((b ∷ text) ∷ texts) old new refused =
+    ((mid : M) × Takes (record { number = number; text = b ∷ text }) old mid
+    × AreTaken Takes IsCause (number + 1) texts mid new refused)
+    ⊎ ((more : List (RefusalFor C)) × IsNextRefused IsCause (record { number = number; text = b ∷ text }) refused more
+    × AreTaken Takes IsCause (number + 1) texts old new more)
+
+-- The lines of the bytes make the value `new` of the value `old`, and these lines are refused.
+abbrev pub IsTakenList : {M C : Type 0} → (ContentLine → M → M → Type 0) → (List ℕ → C → Type 0) → List ℕ
+    → (old new : M) → List (RefusalFor C) → Type 0
+IsTakenList Takes IsCause bytes old new refused = (texts : List (List ℕ))
+    × AreContents (lines_of (after_mark bytes)) texts × AreTaken Takes IsCause 1 texts old new refused
+
+-- The line was taken or refused, and its refusal is added.
+abbrev pub AddsTaken : {M C : Type 0} → (ContentLine → M → M → Type 0) → (List ℕ → C → Type 0) → ContentLine
+    → (old new : M) → (refused refused_after : Refusals C) → Type 0
+AddsTaken {M} {C} Takes IsCause line old new refused refused_after = (refusals : List (RefusalFor C))
+    × AreTaken Takes IsCause line.number (line.text ∷ []) old new refusals × HasMore refused refused_after refusals

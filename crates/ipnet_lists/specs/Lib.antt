@@ -16,3 +16,8 @@ pub mod ListTexts
 pub mod ContentLines
 pub mod ContentLineOf
 pub mod SetLines
+pub mod Names
+pub mod CauseTexts
+pub mod Explanations
+pub mod Reports
+pub mod ReportParts

@@ -11,7 +11,6 @@ use crate::cause_words::{has_mask_word, has_two_entries};
 use crate::entry::read_entry;
 use ipnet::Grammar;
 use std::str;
-use thiserror::Error;
 
 /// Why a text is not an entry, if that can be named. The causes are tried in the order of the variants, and the first
 /// that is true of the text is its cause. In these sentences, addresses and entries may be those of the legacy grammar.
@@ -26,87 +25,61 @@ use thiserror::Error;
 /// 10/8                     NotFourNumbers
 /// 10.0.0.0/+33             none
 /// ```
-#[derive(Clone, Copy, Debug, PartialEq, Eq, Drop, Error)]
+#[derive(Clone, Copy, Debug, PartialEq, Eq, Drop)]
 pub enum Cause {
     /// The text has a byte 0.
-    #[error("a NUL byte: is the file UTF-16?")]
     NulByte,
     /// The bytes are not UTF-8.
-    #[error("not UTF-8")]
     NotUtf8,
     /// An entry of the legacy grammar that is not an entry of the strict grammar.
-    #[error("a leading zero, or a \"::\" that replaces no group: use --legacy to accept it")]
     LegacyAlone,
     /// An IPv4 address, "/" and only decimal digits, of a number above 32.
-    #[error("the prefix length is above 32")]
     LengthAbove32,
     /// An IPv6 address, "/" and only decimal digits, of a number above 128.
-    #[error("the prefix length is above 128")]
     LengthAbove128,
     /// Two addresses of one family joined by "-", the last of which comes before the first.
-    #[error("the range ends before it starts")]
     EndsBeforeStart,
     /// Two addresses joined by "-", one of each family.
-    #[error("the range has addresses of two families")]
     TwoFamilies,
     /// Two entries joined by "-", such as `10.0.0.0/8-10.1.0.0/16`.
-    #[error("a range of networks: write its first and its last address")]
     RangeOfNetworks,
     /// Two entries joined by U+2013, U+2014 or U+2212, such as `10.0.0.1–10.0.0.9`.
-    #[error("a dash other than -: write - between the first and the last address")]
     OtherDash,
     /// An entry and "-", such as `10.0.0.1 -`.
-    #[error("the range has no last address")]
     NoLastAddress,
     /// Two IPv4 addresses joined by "/", such as `10.0.0.0/0.0.0.255`.
-    #[error("a wildcard mask, or a mask with gaps: write a prefix length, as in 10.0.0.0/8")]
     WildcardMask,
     /// An IPv4 address, and a netmask or wildcard mask in the next word, such as `10.0.0.0 255.0.0.0`.
-    #[error("a mask in a second word: write a prefix length, as in 10.0.0.0/8")]
     MaskAfterBlank,
     /// The first two words are entries, such as `10.0.0.0/8, 10.1.0.0/16`. A word ends at a blank, "," or ";".
-    #[error("two entries in a line: write one a line, or # before a comment")]
     TwoEntries,
     /// An entry is before the first ",".
-    #[error("a comma after the entry: leave it out")]
     CommaFollows,
     /// An entry is before the first ";".
-    #[error("a semicolon after the entry: leave it out, or write a blank before it")]
     SemicolonFollows,
     /// An entry, a word end and other text, such as `10.0.0.0/8 web server` or `10.0.0.1 - 10.0.0.9 office`. The text
     /// does not begin with a dash and what may be meant as an address, such as `- 10.0.0.300`.
-    #[error("text after the entry: write # before it")]
     TextFollows,
     /// "[", an entry and "]" begin the text, such as `[::1]:80`.
-    #[error("brackets: leave them out")]
     InBrackets,
     /// A quotation mark, an entry and a quotation mark begin the text, such as `"10.0.0.0/8",`.
-    #[error("quotation marks: leave them out")]
     InQuotes,
     /// "!", and only an entry after it.
-    #[error("an exception: subtract it with netset difference")]
     Excluded,
     /// "-", and only an entry after it, such as `- 10.0.0.5`.
-    #[error("a - before the entry: leave it out, or apply the changes with netset apply")]
     DashFirst,
     /// An IPv6 address is before the first "%", such as `fe80::1%eth0`.
-    #[error("a zone: leave out % and what follows")]
     HasZone,
     /// An IPv4 address is before the first ":", such as `10.0.0.1:80`.
-    #[error("a port: leave out : and what follows")]
     HasPort,
     /// Up to the first "/" the text has only digits and dots, and is not an IPv4 address, such as `10/8`.
-    #[error("an IPv4 address has four numbers from 0 to 255, as in 10.0.0.0/8")]
     NotFourNumbers,
     /// The text has a "*".
-    #[error("a pattern with *: write a network, as in 10.0.0.0/8")]
     HasStar,
     /// A word for all addresses: `any`, `all` or `default`, in letters of any case.
-    #[error("all addresses: write 0.0.0.0/0 and ::/0")]
     AllAddresses,
     /// The text has only letters, digits, ".", "-" and "_", with a letter among them. Up to a "/" or a ":", it has only
     /// these, with a dot among them, such as `www.example.com:443`.
-    #[error("a host name: write its addresses")]
     HostName,
 }
 

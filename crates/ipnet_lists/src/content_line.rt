@@ -1,19 +1,19 @@
-//! The lines of a list that are not empty, and the lines that are refused.
-ghost use Rattle.std.specs.Prelude.{◌≡◌, ◌≢◌, ◌↔◌, List, [], IsTrue, IfOk, OnOk, map};
-ghost use Rattle.std.specs.Io.KnownBytes.{Keeps};
+//! The lines of a list that are not empty, taken one after another, and the lines that are refused.
+ghost use Rattle.std.specs.Prelude.{◌≡◌, ◌↔◌, List, ℕ, IsTrue, IfOk, OnOk, Any};
+ghost use Rattle.ipnet.specs.Lines.{lines_of};
 ghost use Rattle.ipnet_lists.specs.ContentLines as lists;
-ghost use Rattle.ipnet_lists.specs.ContentLines.{AreContentLines};
-ghost use Rattle.ipnet_lists.specs.ContentLineOf.{line_of, refused_of, AddsLine, AddsRead};
+ghost use Rattle.ipnet_lists.specs.ContentLines.{IsSomeLine, IsTaken, IsTakenList, AddsTaken};
+ghost use Rattle.ipnet_lists.specs.ContentLineOf.{line_of};
+ghost use Rattle.ipnet_lists.specs.Lists.{after_mark};
+ghost use Rattle.ipnet_lists.specs.RefusedLines.{AreRefused};
 ghost use Rattle.ipnet_lists.specs.declared.content_line.ListFailure.TheVariants.{Memory};
 
 use crate::comment::contents_of;
 use crate::mark::skip_mark;
 use crate::number::next_number;
 use crate::reader::first_line_of_bytes;
-use crate::refused::{LineCause, MOST_LINES, report_more};
+use crate::refused::{LineCause, Refusals, RefusedPart};
 use std::alloc::{AllocError, Global};
-use std::io;
-use std::io::Write;
 
 /// A line that is not empty.
 ///
@@ -28,26 +28,26 @@ pub struct ContentLine<'a> {
     pub text: &'a [u8],
 }
 
-/// A line that is refused.
-///
-/// ```text
-/// of "+ 10.0.0.0/8\n\n10.0.0.0/9 # x\n", read as changes: number 3, text "10.0.0.0/9", cause UnknownSign
-/// ```
-#[derive(Debug, Drop)]
-pub struct RefusedText<C> {
-    /// Its number, from 1.
-    pub number: usize,
-    /// Its contents, without a comment and blanks around them.
-    pub text: Vec<u8>,
-    /// Why it is refused.
-    pub cause: C,
+/// Takes the lines of a list, one after another, and makes a value of type `M` of them. It refuses a line with a cause
+/// of type `C`.
+pub trait LineHandler<'a, M, C> {
+    /// The line makes the second value of the first.
+    ghost takes: { Self → lists.ContentLine → M → M → Type 0 };
+
+    /// Why a line with these contents is refused.
+    ghost is_cause: { Self → List ℕ → C → Type 0 };
+
+    /// Takes the line, or returns why it is refused. Fails if memory runs out.
+    fn take(&self, made: &mut M, line: ContentLine<'a>) -> Result<Result<(), C>, AllocError>
+        ensures { IfOk result (IsTaken (takes self.now (line_of line.entry) made.old made.new)
+            (is_cause self.now line.entry.text.now) (made.new ≡ made.old)) };
 }
 
 /// Why a list has no answer.
 #[derive(Debug, Drop)]
 pub enum ListFailure<C> {
     /// These lines are refused.
-    Refused(Vec<RefusedText<C>>),
+    Refused(Refusals<C>),
     /// Memory ran out.
     Memory,
 }
@@ -60,127 +60,85 @@ impl<C: Drop> From<AllocError> for ListFailure<C> {
     }
 }
 
-impl<C: LineCause> ListFailure<C> {
-    /// Reports the failure on `faults`, and returns the exit status. `name` is the name of the list.
-    ///
-    /// ```text
-    /// Memory: 2, and faults gets "netset: out of memory\n"
-    /// ```
-    pub fn report<X: Write>(self, faults: &mut X, name: &str) -> u8
-        ensures { result ≡ 2 }
-    {
-        let _ = match self {
-            ListFailure::Refused(lines) => report_refused(faults, name, lines.as_slice()),
-            ListFailure::Memory => writeln!(faults, "netset: out of memory"),
-        };
-        2
+/// Returns whether a line of the bytes is not empty, without its comment and blanks.
+///
+/// ```text
+/// "# nothing\n\n": false; "x\n": true
+/// ```
+pub fn has_lines(bytes: &[u8]) -> bool
+    ensures { IsTrue result ↔ Any IsSomeLine (lines_of (after_mark bytes.now)) }
+{
+    let mut rest = skip_mark(bytes);
+    'lines: while !rest.is_empty() {
+        let (line, after) = first_line_of_bytes(rest);
+        if !contents_of(line).is_empty() {
+            return true;
+        }
+        rest = after;
     }
+    false
 }
 
-/// Appends the line, unless it is empty. Fails if memory runs out.
-fn push_some<'a>(
-    lines: &mut Vec<ContentLine<'a>>,
-    number: usize,
-    text: &'a [u8],
+/// Hands the line over, unless it is empty, and keeps it if it is refused. Fails if memory runs out, or if there are
+/// more lines than a `usize` counts.
+fn take_line<'a, M, C: Drop, H: LineHandler<'a, M, C>>(
+    alloc: Global,
+    handler: &H,
+    made: &mut M,
+    refused: &mut Refusals<C>,
+    line: ContentLine<'a>,
 ) -> Result<(), AllocError>
-    ensures { OnOk result
-        (AddsLine number text.now (map line_of lines.old.items) (map line_of lines.new.items)) }
+    ensures { OnOk result (AddsTaken (H.takes handler.now) (H.is_cause handler.now) (line_of line.entry) made.old
+        made.new refused.old refused.new) }
 {
-    if text.is_empty() {
+    if line.text.is_empty() {
         return Ok(());
     }
-    lines.push(ContentLine { number, text })?;
-    Ok(())
+    match handler.take(made, line)? {
+        Ok(()) => Ok(()),
+        Err(cause) => {
+            let part = RefusedPart {
+                list: 0,
+                number: line.number,
+                text: line.text,
+                cause,
+            };
+            refused.push(alloc, part)
+        }
+    }
 }
 
-/// Returns the lines of the bytes that are not empty, without comments and blanks around their contents. A byte order
-/// mark at the start is skipped. Fails if memory runs out.
+/// Hands over the lines of the bytes that are not empty, without comments and blanks around their contents, and returns
+/// the refused lines. A byte order mark at the start is skipped. Fails if memory runs out.
 ///
 /// ```text
 /// "10.0.0.0/8 # ours\n\n::1\n": line 1, "10.0.0.0/8", and line 3, "::1"
 /// ```
-pub fn content_lines<'a>(alloc: Global, bytes: &'a [u8]) -> Result<Vec<ContentLine<'a>>, AllocError>
-    ensures { IfOk result (λ lines. AreContentLines bytes.now (map line_of lines.items)) }
+pub fn read_lines<'a, M, C: Drop, H: LineHandler<'a, M, C>>(
+    alloc: Global,
+    bytes: &'a [u8],
+    handler: &H,
+    made: &mut M,
+) -> Result<Refusals<C>, AllocError>
+    ensures { IfOk result (λ refused. (refusals : _)
+        × IsTakenList (H.takes handler.now) (H.is_cause handler.now) bytes.now made.old made.new refusals
+        × AreRefused refused refusals) }
 {
-    let mut lines = Vec::new(alloc);
+    let mut refused = Refusals::new(alloc);
     let mut number: usize = 0;
     let mut rest = skip_mark(bytes);
     'lines: while !rest.is_empty() {
         let (line, after) = first_line_of_bytes(rest);
         number = next_number(number)?;
-        push_some(&mut lines, number, contents_of(line))?;
+        let text = contents_of(line);
+        take_line(
+            alloc,
+            handler,
+            made,
+            &mut refused,
+            ContentLine { number, text },
+        )?;
         rest = after;
     }
-    Ok(lines)
-}
-
-/// Returns whether a line of the bytes is not empty, without comments and blanks. Fails if memory runs out.
-///
-/// ```text
-/// "# nothing\n\n": false; "x\n": true
-/// ```
-pub fn has_lines(alloc: Global, bytes: &[u8]) -> Result<bool, AllocError>
-    ensures { IfOk result (λ has. (lines : List lists.ContentLine) × AreContentLines bytes.now lines
-        × (IsTrue has ↔ (lines ≢ []))) }
-{
-    let lines = content_lines(alloc, bytes)?;
-    Ok(!lines.is_empty())
-}
-
-/// Appends what was read of the line: an item to `items`, or the line and why it is refused to `refused`. Fails if
-/// memory runs out.
-///
-/// ```text
-/// line 2, "x", and Err(None): RefusedText with number 2, text "x" and no cause
-/// ```
-pub fn keep_read<T: Drop, C: Drop>(
-    alloc: Global,
-    items: &mut Vec<T>,
-    refused: &mut Vec<RefusedText<C>>,
-    line: ContentLine<'_>,
-    read: Result<T, C>,
-) -> Result<(), AllocError>
-    ensures { OnOk result (AddsRead (line_of line.entry) read items.old.items items.new.items
-        (map refused_of refused.old.items) (map refused_of refused.new.items)) }
-{
-    match read {
-        Ok(item) => {
-            items.push(item)?;
-            Ok(())
-        }
-        Err(cause) => {
-            let text = line.text.to_vec(alloc)?;
-            let number = line.number;
-            refused.push(RefusedText {
-                number,
-                text,
-                cause,
-            })?;
-            Ok(())
-        }
-    }
-}
-
-/// Reports the first refused lines of the list with this name, and the number of the others. If there are none, nothing
-/// is printed.
-///
-/// ```text
-/// twelve lines: ten lines, and "netset: and 2 more"
-/// ```
-pub fn report_refused<X: Write, C: LineCause>(
-    faults: &mut X,
-    name: &str,
-    lines: &[RefusedText<C>],
-) -> io::Result<()>
-    ensures { lines.now ≡ [] → Keeps (X.contents faults.old) (X.contents faults.new) }
-{
-    if lines.is_empty() {
-        return Ok(());
-    }
-    let shown = lines.len().min(MOST_LINES);
-    for line in &lines[..shown] {
-        line.cause
-            .report(faults, name, line.number, line.text.as_slice())?;
-    }
-    report_more(faults, lines.len() - shown)
+    Ok(refused)
 }

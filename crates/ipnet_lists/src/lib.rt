@@ -6,6 +6,7 @@ pub mod cause;
 mod cause_bytes;
 mod cause_follows;
 mod cause_parts;
+mod cause_text;
 mod cause_words;
 mod comment;
 pub mod content_line;
@@ -18,7 +19,7 @@ mod number;
 mod reader;
 pub mod reading;
 pub mod refused;
-mod report;
+pub mod report;
 mod set_lines;
 mod word;
 
@@ -28,9 +29,7 @@ pub use cause_bytes::has_byte;
 pub use cause_parts::{are_digits, is_entry};
 pub use cause_words::{has_mask_word, is_netmask};
 pub use comment::{comment_start, contents_of};
-pub use content_line::{
-    ContentLine, ListFailure, RefusedText, content_lines, has_lines, keep_read, report_refused,
-};
+pub use content_line::{ContentLine, LineHandler, ListFailure, has_lines, read_lines};
 pub use entry::{Entry, parse_address, read_entry};
 pub use list::read_set;
 pub use list_text::{ListText, read_list_text};
@@ -39,9 +38,11 @@ pub use number::next_number;
 pub use reader::{Collector, FoundEntry, LineReader, first_line_of_bytes, read_text};
 pub use reading::{ReadFailure, Reading, read_bytes};
 pub use refused::{
-    LineCause, MOST_LINES, Refusals, Refused, RefusedLine, RefusedLines, RefusedPart, report_more,
-    report_since,
+    Explanation, LineCause, Refusals, Refused, RefusedLine, RefusedLines, RefusedPart,
 };
-pub use report::{NO_ENTRY, report_text};
+pub use report::{
+    NO_ENTRY, Part, explain_cause, name_of, report_line, report_more, report_refused, report_since,
+    write_parts,
+};
 pub use set_lines::{network_lines, range_lines};
 pub use word::{cut_word, first_blank};

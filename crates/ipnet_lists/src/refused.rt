@@ -1,26 +1,35 @@
 //! The lines of lists that are refused.
-ghost use Rattle.std.specs.Prelude.{◌≡◌, ◌≤◌, [], ◌∷◌, ◌++◌, length, take, OnOk};
-ghost use Rattle.std.specs.Io.KnownBytes.{Keeps};
+ghost use Rattle.std.specs.Prelude.{◌≡◌, ◌≤◌, ℕ, List, [], ◌∷◌, ◌++◌, length, take, Option, OnOk};
+ghost use Rattle.ipnet_lists.specs.Explanations.{words_of};
 
 use crate::cause::NotEntry;
 use crate::number::next_number;
 use std::alloc::{AllocError, Global};
-use std::io;
-use std::io::Write;
 
 /// At most this many refused lines are reported.
-pub const MOST_LINES: usize = 10;
+const MOST_LINES: usize = 10;
+
+/// The words of a report for a refused text: what it is not, and why.
+///
+/// ```text
+/// of 10.0.0.0/33: what "not a network, an address or a range", why "the prefix length is above 32"
+/// ```
+#[derive(Clone, Copy, Debug)]
+pub struct Explanation {
+    /// The words for what the text is not.
+    pub what: &'static str,
+    /// Why, if that can be named.
+    pub why: Option<&'static str>,
+}
 
 /// Why a line is refused.
 pub trait LineCause: Drop {
-    /// Reports that the line with this number of the list with this name is refused. `text` is the refused part.
-    fn report<X: Write>(
-        &self,
-        faults: &mut X,
-        name: &str,
-        number: usize,
-        text: &[u8],
-    ) -> io::Result<()>;
+    /// The relation of a cause, the text that is refused for it, what the text is not, and the reason.
+    ghost explains: { Self → List ℕ → List ℕ → Option (List ℕ) → Type 0 };
+
+    /// Returns what this text is not, and why. The text is refused for this cause.
+    fn explain(&self, text: &[u8]) -> Explanation
+        ensures { explains self.now text.now result.what.now (words_of result.why) };
 }
 
 /// A line that is refused, or the part of it that is.
@@ -111,43 +120,4 @@ impl<C: Drop> Refusals<C> {
         })?;
         Ok(())
     }
-}
-
-/// Reports the refused lines that are kept, and the number of the others. `before` is how many of them are reported
-/// already, first of those that are kept, and then of all. Nothing is printed if these are all.
-///
-/// ```text
-/// twelve lines of a list, before (0, 0): ten lines, and "netset: and 2 more"
-/// ```
-pub fn report_since<X: Write, C: LineCause>(
-    faults: &mut X,
-    names: &[&str],
-    lines: &Refusals<C>,
-    before: (usize, usize),
-) -> io::Result<()>
-    ensures { lines.now.count ≡ before.1 → Keeps (X.contents faults.old) (X.contents faults.new) }
-{
-    let (shown, count) = before;
-    if lines.count == count {
-        return Ok(());
-    }
-    for index in shown..lines.shown.len() {
-        let line = &lines.shown[index];
-        let name = names.get(line.list).copied().unwrap_or("list");
-        line.cause
-            .report(faults, name, line.number, line.text.as_slice())?;
-    }
-    let new = lines.count.saturating_sub(count);
-    report_more(
-        faults,
-        new.saturating_sub(lines.shown.len().saturating_sub(shown)),
-    )
-}
-
-/// Reports the number of the refused lines that are not shown. Nothing is printed if all are.
-pub fn report_more<X: Write>(faults: &mut X, more: usize) -> io::Result<()> {
-    if more == 0 {
-        return Ok(());
-    }
-    writeln!(faults, "netset: and {more} more")
 }

@@ -13,6 +13,7 @@ mod addresses;
 mod bytes;
 mod constructors;
 mod errors;
+mod info;
 mod json;
 mod lists;
 mod networks;
@@ -80,6 +81,7 @@ fn answer(alloc: Global, question: Question<'_>) -> Answer {
         "Ipv6Subnets" => walks::ask_ipv6(alloc, question),
         "IpSubnets" => walks::ask_ip(alloc, question),
         "Text" => texts::ask(alloc, question),
+        "Info" => info::ask(alloc, question),
         "Error" => errors::ask(alloc, question),
         "IpSet" => sets::ask(alloc, question.call, question.first, question.second),
         "PrefixList" => { prefix_lists::ask(alloc, question.call, question.first, question.second) }

@@ -12,6 +12,7 @@ pub mod ChunkLaws
 pub mod RouteMapLaws
 pub mod RouteMapChanges
 pub mod ClimbLaws
+pub mod KnownLengthLaws
 pub mod RouteMapParts
 pub mod RouteMapMatches
 pub mod BucketLaws
@@ -20,7 +21,4 @@ pub mod TableImageLaws
 pub mod TableCheckLaws
 pub mod TableOnceLaws
 pub mod TableRestoredLaws
-pub mod ByteTableLaws
-pub mod ByteTableWrittenLaws
-pub mod ByteTableOnceLaws
-pub mod ByteTableCheckLaws
+pub mod TableValueLaws

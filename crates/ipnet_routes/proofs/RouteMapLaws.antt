@@ -24,6 +24,7 @@ use Rattle.ipnet_routes.specs.RouteSteps.{IsTable, IsPlaceAfter}
 use Rattle.ipnet_routes.specs.RouteMapSteps.{Chunk, all_of, AreFilled, first_network, firsts_of, chunk_at}
 use Rattle.ipnet_routes.specs.RouteMapSteps.{position_of, IsLastUpTo}
 use Rattle.ipnet_routes.proofs.RouteLaws.{not_back, ascending_of, table_of, read_at, found_network}
+use Rattle.ipnet_routes.proofs.RouteLaws.{place_start, place_down, place_up, place_end}
 use Rattle.ipnet_routes.proofs.ChunkLaws.{pairs_left, pairs_right, pairs_across, all_left, all_right, member_of_either}
 use Rattle.ipnet_routes.proofs.ChunkLaws.{chunk_split, read_in_chunk}
 
@@ -219,6 +220,33 @@ module _ {V : Type 0} (cs : List (Chunk V)) (t : IsTable (ip_networks (all_of cs
       (after.up_to (first_network c.items) chunk_first lt))
   not_at_start n place after lt (suc j) mid = omega arith
 
+-- a place between two routes of a chunk, the first of which is up to n, and the second after it
+pub place_between : {V : Type 0} (cs : List (Chunk V)) → IsTable (ip_networks (all_of cs)) → (i : ℕ) (c : Chunk V)
+    → i < length cs → get_or cs i c ≡ c → (n : Network) (j : ℕ) → 0 < j → j < length c.items → (r s : IpNet × V)
+    → r ≡ get_or c.items (j - 1) r → s ≡ get_or c.items j s → IsBeforeOrEqual (ip_network r.0) n
+    → IsBefore n (ip_network s.0) → IsPlaceAfter (ip_networks (all_of cs)) n (position_of cs i j)
+place_between {V} cs t i c l e n j some inside r s at_r at_s up_to above =
+    let networks : List Network = ip_networks (all_of cs) in
+    let first = read_at (λ z. ip_network z.0) (all_of cs) (position_of cs i (j - 1)) r
+    (bound (j - 1) (omega (arith, inside)))
+    (at_r ∙ sym (read_in_chunk (items {V = V}) cs i c l e (j - 1) r (omega (arith, inside)))) in
+    let second = read_at (λ z. ip_network z.0) (all_of cs) (position_of cs i j) s (bound j inside)
+    (at_s ∙ sym (read_in_chunk (items {V = V}) cs i c l e j s inside)) in
+    subst (IsPlaceAfter networks n) (omega (arith, some))
+    (place_end networks n (position_of cs i (j - 1) + 1) (position_of cs i j) (omega (arith, some))
+    (place_up networks t n 0 (position_of cs i j) (ip_network r.0) first (omega (arith, some)) up_to
+    (place_down networks t n 0 (length networks) (ip_network s.0) second (omega arith) second.1 above
+    (place_start networks n (length networks) refl))))
+  where
+    bound : (k : ℕ) → k < length c.items → position_of cs i k < length (all_of cs)
+    bound k m = omega (
+      arith,
+      m,
+      ap length (chunk_split (items {V = V}) cs i c l e),
+      length-append (all_of (take i cs)) (c.items ++ all_of (drop (suc i) cs)),
+      length-append c.items (all_of (drop (suc i) cs)),
+    )
+
 -- the route before the place after a network is the last route up to it
 last_before_place : {V : Type 0} (list : List (IpNet × V)) → IsTable (ip_networks list) → (n : Network) (place : ℕ)
     → IsPlaceAfter (ip_networks list) n place → (q : ℕ) → place ≡ suc q → (r : IpNet × V) → r ≡ get_or list q r
@@ -258,19 +286,14 @@ chunk_inside {V} cs i l = elim (cases_lt i (length cs)) [
       absurd (omega (arith, l, ap length none))
 ]
 
--- the last route up to a network, by the chunk that it is in and its place there
+-- the route before the place after a network, by the chunk that it is in and its place there
 module _ {V : Type 0} (cs : List (Chunk V)) (t : IsTable (ip_networks (all_of cs))) (filled : AreFilled cs) (i : ℕ)
     (c : Chunk V) (l : i < length cs) (e : get_or cs i c ≡ c) (n : Network) where
-  pub last_in_chunk : (place : ℕ) → IsPlaceAfter (firsts_of cs) n place → i ≡ place - 1 → i < place → (j : ℕ)
-      → IsPlaceAfter (ip_networks c.items) n j → (r : IpNet × V) → r ≡ get_or c.items (j - 1) r
-      → IsLastUpTo (all_of cs) n (ip_network r.0, r.1)
-  last_in_chunk place after is lt j mid r at =
-      let some : 0 < j = not_at_start cs t filled i c l e n place after lt j mid in
-      let inside : j - 1 < length c.items
-      = omega (arith, some, mid.within, length-map c.items (λ z. ip_network z.0)) in
-      last_before_place (all_of cs) t n (position_of cs i j) (place_in_chunk cs t filled i c l e n place after is j mid)
-      (position_of cs i (j - 1)) (omega (arith, some)) r
-      (at ∙ sym (read_in_chunk (items {V = V}) cs i c l e (j - 1) r inside))
+  pub last_behind : (j : ℕ) → 0 < j → j ≤ length c.items → IsPlaceAfter (ip_networks (all_of cs)) n (position_of cs i j)
+      → (r : IpNet × V) → r ≡ get_or c.items (j - 1) r → IsLastUpTo (all_of cs) n (ip_network r.0, r.1)
+  last_behind j some le after r at =
+      last_before_place (all_of cs) t n (position_of cs i j) after (position_of cs i (j - 1)) (omega (arith, some)) r
+      (at ∙ sym (read_in_chunk (items {V = V}) cs i c l e (j - 1) r (omega (arith, some, le))))
 
   -- whether the route before the place after n is the one of n
   pub behind_is : (j : ℕ) → 0 < j → j ≤ length c.items → IsPlaceAfter (ip_networks (all_of cs)) n (position_of cs i j)

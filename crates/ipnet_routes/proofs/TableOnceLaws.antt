@@ -42,7 +42,7 @@ same_in (suc w) a b at p q e i le lt = elim (cases_order at i) [
 ]
 
 -- the bytes before the place are the same
-abbrev pub AreSameTo : List ℕ → List ℕ → ℕ → Type 0
+abbrev AreSameTo : List ℕ → List ℕ → ℕ → Type 0
 AreSameTo a b place = (i : ℕ) → i < place → get_or a i 0 ≡ get_or b i 0
 
 -- the place of a network is one

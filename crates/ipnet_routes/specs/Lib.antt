@@ -7,7 +7,7 @@ pub mod MatchesLeft
 pub mod RouteMaps
 pub mod RouteLends
 pub mod RouteMapSteps
+pub mod RouteLengths
 pub mod RouteMapsOf
 pub mod RouteMapsLeft
 pub mod TableImages
-pub mod ByteTableImages

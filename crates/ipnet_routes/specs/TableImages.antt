@@ -14,9 +14,10 @@
 -- The link is one more than the index of the smallest network that encloses the network, or 0. The index divides the
 -- networks into buckets by the first bits of their numbers, and has the index of the first route of each bucket. Each
 -- table of fewer than 2^32 routes has exactly one image.
-use Rattle.std.specs.Prelude.{◌≡◌, ℕ, zero, ◌+◌, ◌-◌, ◌*◌, ◌^◌, ◌<◌, ◌≤◌, ◌↔◌, List, ◌++◌, length, get_or}
+use Rattle.std.specs.Prelude.{◌≡◌, ℕ, zero, ◌+◌, ◌-◌, ◌*◌, ◌^◌, ◌<◌, ◌≤◌, ◌↔◌, ◌⊎◌, List, ◌++◌, length, get_or}
 use Rattle.std.specs.Prelude.{Contains, All, Option, Some}
 use Rattle.std.specs.Prelude.{nat_le, if◌then◌else◌}
+use Rattle.std.specs.List.{zip}
 use Rattle.ipnet_base.specs.Address.{Family, IPv4, IPv6}
 use Rattle.ipnet_base.specs.Network.{Network, IsNetwork, IsTruncated, IsBefore, IsSubnetOf}
 use Rattle.ipnet_base.specs.Stack.{IsBeforeOrEqual}
@@ -164,6 +165,11 @@ pub record IsStoredRoute (bytes : List ℕ) (route : Route ℕ) : Type 0 where
   pub link : ℕ
   pub row : IsRouteAt bytes place route.0 route.1 link
 
+-- The bytes hold the route with the index `i`, with some link. Nothing is said of the other bytes, which may be any.
+-- Example: the image of 10.0.0.0/8 with 7 holds this route with the index 0.
+abbrev pub HasRouteAt : List ℕ → ℕ → Route ℕ → Type 0
+HasRouteAt bytes i route = (link : ℕ) × IsRouteAt bytes i route.0 route.1 link
+
 -- ---- images
 
 -- The bytes hold the routes of a table, as many as the header states, and their index.
@@ -198,7 +204,37 @@ IsTableRefusal Routes bytes = HasTableHeader bytes × ¬ (HasRoutes bytes)
 IsTableRefusal Index bytes = HasTableHeader bytes × HasRoutes bytes × ¬ (IsTableImage bytes)
 IsTableRefusal Memory bytes = IsTableImage bytes
 
+-- ---- other values
+
+-- The new bytes are the old ones, but the value of each route is the value at its index. So the image of a table has
+-- become the image of the table with the same networks and these values.
+-- Example: the image of 10.0.0.0/8 with 7 has become the image of 10.0.0.0/8 with 9, if the values are the list of 9.
+pub record HasOtherValues (old values new : List ℕ) : Type 0 where
+  pub as_long : length new ≡ length old
+  pub header : HasTableHeader old → HasTableHeader new
+  pub routes : (i : ℕ) (n : Network) (value link : ℕ) → i < route_count old → IsRouteAt old i n value link
+      → IsRouteAt new i n (get_or values i 0) link
+  pub table : (t : List (Route ℕ)) → IsTableImageOf old t → IsTableImageOf new (zip (networks_of t) values)
+
 -- ---- private steps
+
+-- The byte at which the value of the route at an index begins, if the first `m` routes are IPv4 routes.
+-- Example: with one IPv4 route, the values begin at 40, 68, 100.
+unfoldable pub value_place : ℕ → ℕ → ℕ
+value_place m i = if nat_le m i then 52 + m * 16 + (i - m) * 32 else 40 + i * 16
+
+-- The number is written into four bytes from byte `at` on, and the other bytes are the old ones.
+pub record IsNumberWritten (at number : ℕ) (old new : List ℕ) : Type 0 where
+  pub as_long : length new ≡ length old
+  pub number_is : number_from 4 new at ≡ number
+  pub others : (k : ℕ) → (k < at) ⊎ (at + 4 ≤ k) → get_or new k 0 ≡ get_or old k 0
+
+-- The first `count` values are written over the values of the routes, and the other bytes are the old ones.
+pub record AreValuesWritten (m count : ℕ) (values old new : List ℕ) : Type 0 where
+  pub as_long : length new ≡ length old
+  pub written : (i : ℕ) → i < count → number_from 4 new (value_place m i) ≡ get_or values i 0
+  pub others : (k : ℕ) → ((i : ℕ) → i < count → (k < value_place m i) ⊎ (value_place m i + 4 ≤ k))
+      → get_or new k 0 ≡ get_or old k 0
 
 -- The network lies in the bucket: it is the first network of the bucket or comes after it, and comes before the first
 -- network of the next bucket.

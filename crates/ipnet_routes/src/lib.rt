@@ -6,5 +6,4 @@ pub mod routes;
 
 pub use route_map::RouteMap;
 pub use routes::RouteTable;
-pub use routes::image::byte_table::{ByteTableImage, ByteTableImageError, ByteTableRef};
 pub use routes::image::{RouteTableImage, RouteTableRef, TableImageError};

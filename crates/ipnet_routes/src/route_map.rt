@@ -1,9 +1,9 @@
 //! Maps of routes: tables that can be changed, with the longest match for an address.
-ghost use Rattle.std.specs.Prelude.{◌≡◌, ◌<◌, ◌↔◌, length, [], IsTrue, IsOk, IfOk, OnOk, OnErr, IsNone, IfSome, All};
-ghost use Rattle.std.specs.Prelude.{Contains};
+ghost use Rattle.std.specs.Prelude.{◌≡◌, ◌<◌, ◌≤◌, ◌↔◌, length, [], IsTrue, IsOk, IfOk, OnOk, OnErr, IsNone, IfSome};
+ghost use Rattle.std.specs.Prelude.{All, Contains};
 ghost use Rattle.std.specs.Borrow.{sem};
 ghost use Rattle.ipnet_base.specs.Address.{ip_address};
-ghost use Rattle.ipnet_base.specs.Network.{Network, IsSubnetOf, IsTruncated, truncation};
+ghost use Rattle.ipnet_base.specs.Network.{Network, IsSubnetOf, IsTruncated, IsTruncationOf, truncation};
 ghost use Rattle.ipnet_base.specs.Blocks.{IsCoveredBy, IsAscending};
 ghost use Rattle.ipnet.specs.NetworkOf.{ip_network};
 ghost use Rattle.ipnet_routes.specs.Routes.{Route, networks_of, ip_routes, ip_networks, IsLongestMatch};
@@ -11,57 +11,33 @@ ghost use Rattle.ipnet_routes.specs.Routes.{IsLongestHolder, AreMatches, AreWith
 ghost use Rattle.ipnet_routes.specs.RouteSteps.{IsTable};
 ghost use Rattle.ipnet_routes.specs.RouteMaps.{IsWithRoute, IsWithoutRoute};
 ghost use Rattle.ipnet_routes.specs.RouteMapSteps.{all_of, AreFilled};
+ghost use Rattle.ipnet_routes.specs.RouteLengths.{AreKnown};
 
 use crate::routes::{RouteTable, is_same};
 use chunks::Chunk;
+use covering::covering_in;
 use index::ChunkIndex;
 use ipnet::{IpAddr, IpNet};
-use ipnet_sets::common_supernet;
+use lengths::KnownLengths;
 use matches::MapMatches;
 use routes::MapRoutes;
 use std::alloc::{AllocError, Global};
 
 mod changes;
 mod chunks;
+mod covering;
 mod index;
 pub mod laws;
+mod lengths;
 pub mod matches;
 pub mod routes;
 mod values;
 
-/// The route of the longest network in the chunks that contains the network's whole block.
-fn covering_in<'a, V>(
-    chunks: &'a [Chunk<V>],
-    index: &ChunkIndex,
-    network: &IpNet,
-) -> Option<&'a (IpNet, V)>
-    requires table { IsTable (ip_networks (all_of chunks.now)) }
-    requires filled { AreFilled chunks.now }
-    ensures none { IsNone result ↔ ((k : Network) → Contains (networks_of (ip_routes (all_of chunks.now))) k
-        → ¬ (IsSubnetOf (ip_network network.now) k)) }
-    ensures some { IfSome result (λ route. IsLongestHolder (ip_routes (all_of chunks.now)) (ip_network network.now)
-        (ip_network route.now.0, route.now.1)) }
-{
-    let mut wanted = network.trunc();
-    loop {
-        let bucket = index.bucket(&wanted, chunks.len());
-        let Some(route) = chunks::last_up_to(chunks, bucket, &wanted) else {
-            return None;
-        };
-        if route.0.contains(network) {
-            return Some(route);
-        }
-        let Some(common) = common_supernet(&wanted, &route.0) else {
-            return None;
-        };
-        wanted = common;
-    }
-}
-
 /// A table of routes that can be changed: networks of both families, each once, with a value each.
 ///
-/// The routes are kept in order, in chunks of at most 128, so that a change moves only the routes of one chunk. With 32
-/// chunks or more there is an index of the first bits, as a table has it.
+/// The routes are kept in order, in chunks of at most 128, so that a change moves only the routes of one chunk. A
+/// search finds its place by an index of numbers, and looks only for networks of the lengths that routes have in its
+/// region.
 ///
 /// ```text
 /// of 0.0.0.0/0, 10.0.0.0/8 and 10.1.0.0/16: 10.1.2.3 is in 10.1.0.0/16, 10.2.0.1 in 10.0.0.0/8, 11.0.0.1 in 0.0.0.0/0
@@ -71,9 +47,11 @@ pub struct RouteMap<V> {
     alloc: Global,
     chunks: Vec<Chunk<V>>,
     index: ChunkIndex,
+    lengths: KnownLengths,
     count: usize,
     ghost table: { IsTable (ip_networks (all_of chunks.items)) },
     ghost filled: { AreFilled chunks.items },
+    ghost known: { AreKnown lengths.masks.items lengths.width (ip_networks (all_of chunks.items)) },
     ghost size: { count ≡ length (all_of chunks.items) },
 }
 
@@ -91,6 +69,7 @@ impl<V> RouteMap<V> {
             alloc,
             chunks: Vec::new(alloc),
             index: ChunkIndex::new(alloc),
+            lengths: KnownLengths::new(alloc),
             count: 0,
         }
     }
@@ -103,14 +82,27 @@ impl<V> RouteMap<V> {
     {
         let count = table.len();
         let chunks = chunks::chunks_of(alloc, table.into_routes())?;
+        Ok(RouteMap::from_chunks(alloc, chunks, count))
+    }
+
+    /// Returns the map of the chunks, with its index and its lengths.
+    fn from_chunks(alloc: Global, chunks: Vec<Chunk<V>>, count: usize) -> RouteMap<V>
+        requires table { IsTable (ip_networks (all_of chunks.items)) }
+        requires filled { AreFilled chunks.items }
+        requires size { count ≡ length (all_of chunks.items) }
+        ensures { result.chunks ≡ chunks }
+    {
         let mut index = ChunkIndex::new(alloc);
         index.fill(chunks.as_slice());
-        Ok(RouteMap {
+        let mut lengths = KnownLengths::new(alloc);
+        lengths.fill(chunks.as_slice(), count);
+        RouteMap {
             alloc,
             chunks,
             index,
+            lengths,
             count,
-        })
+        }
     }
 
     /// Returns the table of the routes of the map. Fails only if memory runs out.
@@ -123,9 +115,11 @@ impl<V> RouteMap<V> {
             alloc,
             chunks,
             index,
+            lengths,
             count,
         } = self;
         drop(index);
+        drop(lengths);
         let routes = chunks::joined(alloc, chunks, count)?;
         RouteTable::from_routes(alloc, routes)
     }
@@ -167,16 +161,18 @@ impl<V> RouteMap<V> {
             return Err(AllocError);
         }
         let chunks = self.chunks.as_slice();
-        let bucket = self.index.bucket(&network, chunks.len());
-        let place = chunks::place_after_all(chunks, bucket, &network);
+        let hint = self.index.hint(&network);
+        let place = chunks::place_after_all(chunks, hint, &network);
         if chunks::is_behind(chunks, place, &network) {
             let old = changes::exchange(&mut self.chunks, place, &network, value);
             return Ok(Some(old));
         }
-        let before = ChunkIndex::before(chunks, place);
+        let count = chunks.len();
+        self.lengths.add(&network);
         changes::put_route(self.alloc, &mut self.chunks, place, (network, value))?;
         self.count += 1;
-        self.index.follow(self.chunks.as_slice(), before);
+        self.index.follow_put(self.chunks.as_slice(), count, place);
+        self.lengths.count(self.chunks.as_slice(), self.count);
         Ok(None)
     }
 
@@ -196,15 +192,15 @@ impl<V> RouteMap<V> {
     {
         let network = network.trunc();
         let chunks = self.chunks.as_slice();
-        let bucket = self.index.bucket(&network, chunks.len());
-        let place = chunks::place_after_all(chunks, bucket, &network);
+        let hint = self.index.hint(&network);
+        let place = chunks::place_after_all(chunks, hint, &network);
         if !chunks::is_behind(chunks, place, &network) {
             return None;
         }
-        let before = ChunkIndex::before(chunks, place);
+        let count = chunks.len();
         let value = changes::take_out(&mut self.chunks, place, &network);
         self.count -= 1;
-        self.index.follow(self.chunks.as_slice(), before);
+        self.index.follow_take(self.chunks.as_slice(), count, place);
         Some(value)
     }
 
@@ -222,8 +218,8 @@ impl<V> RouteMap<V> {
     {
         let network = network.trunc();
         let chunks = self.chunks.as_slice();
-        let bucket = self.index.bucket(&network, chunks.len());
-        let Some(route) = chunks::last_up_to(chunks, bucket, &network) else {
+        let hint = self.index.hint(&network);
+        let Some(route) = chunks::last_up_to(chunks, hint, &network) else {
             return None;
         };
         if !is_same(&route.0, &network) {
@@ -248,8 +244,8 @@ impl<V> RouteMap<V> {
     {
         let network = network.trunc();
         let chunks = self.chunks.as_slice();
-        let bucket = self.index.bucket(&network, chunks.len());
-        let place = chunks::place_after_all(chunks, bucket, &network);
+        let hint = self.index.hint(&network);
+        let place = chunks::place_after_all(chunks, hint, &network);
         if !chunks::is_behind(chunks, place, &network) {
             return None;
         }
@@ -285,7 +281,7 @@ impl<V> RouteMap<V> {
         ensures some { IfSome result (λ route. IsLongestHolder (map_routes self.now) (ip_network network.now)
             (ip_network route.now.0, route.now.1)) }
     {
-        covering_in(self.chunks.as_slice(), &self.index, network)
+        covering_in(self.chunks.as_slice(), &self.index, &self.lengths, network)
     }
     /// Returns the routes whose networks contain the address, the longest first. Allocates nothing; each route takes as
     /// long as `longest_match`.
@@ -301,6 +297,7 @@ impl<V> RouteMap<V> {
         MapMatches {
             chunks,
             index: &self.index,
+            lengths: &self.lengths,
             wanted: Some(host),
         }
     }
@@ -336,8 +333,8 @@ impl<V> RouteMap<V> {
         let chunks = self.chunks.as_slice();
         let first = network.trunc();
         let last = IpNet::from(network.broadcast());
-        let start = chunks::place_of_all(chunks, self.index.bucket(&first, chunks.len()), &first);
-        let end = chunks::place_after_all(chunks, self.index.bucket(&last, chunks.len()), &last);
+        let start = chunks::place_of_all(chunks, self.index.hint(&first), &first);
+        let end = chunks::place_after_all(chunks, self.index.hint(&last), &last);
         MapRoutes::from_places(chunks, start, end)
     }
 }

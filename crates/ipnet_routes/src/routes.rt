@@ -109,7 +109,7 @@ fn latest<V: Drop>(alloc: Global, routes: Vec<(IpNet, V)>) -> Result<Vec<(IpNet,
     ensures members { IfOk result (λ kept. (route : Route V)
         → Contains (ip_routes kept.items) route ↔ IsLatest (ip_routes routes.items) route) }
 {
-    let mut kept: Vec<(IpNet, V)> = Vec::new(alloc);
+    let mut kept: Vec<(IpNet, V)> = Vec::with_capacity(alloc, routes.len())?;
     for route in routes {
         drop_last(&mut kept, &route.0);
         kept.push(route)?;

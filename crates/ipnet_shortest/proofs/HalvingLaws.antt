@@ -1,12 +1,18 @@
 -- The parts of the blocks in both halves of a network.
+use Rattle.std.proofs.Common.{◌≤◌, inl, inr}
+use Rattle.std.proofs.lemmas.Bool.{cases_lt}
+use Rattle.ipnet_shortest.specs.Plans.{AreHalvesOf, IsOrderly}
+use Rattle.ipnet_shortest.proofs.OrderLaws.{halves_of, orderly_wider}
 use Rattle.std.proofs.Common.{◌≡◌, ◌≢◌, ℕ, ◌<◌, List, length, map, get_or, take, drop}
 use Rattle.std.proofs.Common.{Contains, Result, Ok, Err, IfOk, Option, Some, None, IfSome, IfNone, refl, sym}
 use Rattle.std.proofs.Common.{ap, ◌∙◌, subst, arith}
-use Rattle.std.proofs.lemmas.List.{get_or-map, length-map, take-map, drop-map}
+use Rattle.std.proofs.Common.{◌++◌, All, ap₂}
+use Rattle.std.proofs.lemmas.List.{get_or-map, length-map, take-map, drop-map, map-append, take-append-drop}
+use Rattle.std.proofs.lemmas.List.Elements.{Contains-append_left, Contains-append_right}
 use Rattle.ipnet_base.specs.Address.{width}
 use Rattle.ipnet_base.specs.Network.{Network, IsNetwork, IsSubnetOf, host_bits}
 use Rattle.ipnet_base.proofs.BlockLaws.{own, own_in}
-use Rattle.ipnet_base.proofs.ListLaws.{all_at, All-read}
+use Rattle.ipnet_base.proofs.ListLaws.{all_at, all_from_members, All-read, pair_at}
 use Rattle.ipnet.specs.declared.net.IpNet.{IpNet}
 use Rattle.ipnet.specs.NetLaws.{ip_valid}
 use Rattle.ipnet.specs.NetworkOf.{ip_network}
@@ -17,6 +23,16 @@ use Rattle.ipnet_shortest.specs.Parts.{IsPartOf, AreJoined}
 use Rattle.ipnet_shortest.proofs.PartLaws.{each_smaller, halves_disjoint, around_halves}
 use Rattle.ipnet_shortest.proofs.RoomLaws.{parts_of_lists}
 use Rattle.ipnet_shortest.proofs.SplitLaws.{AreHalved, halved, all_leading}
+
+zero_of : (n : ℕ) → n ≤ 0 → n ≡ 0
+zero_of n le = omega (arith, le)
+
+-- the plan of a part is in order in each network that contains the block
+pub order_within : {E : Type 0} (r : Result (Option Part) E) (n m : Network) → IsSubnetOf n m
+    → IfOk r (λ o. IfSome o (λ p. IsOrderly p.plan n)) → IfOk r (λ o. IfSome o (λ p. IsOrderly p.plan m))
+order_within (Ok (Some p)) n m sub h = orderly_wider p.plan n m sub h
+order_within (Ok None) n m sub h = h
+order_within (Err e) n m sub h = h
 
 -- the network around a part is in each network that contains the block
 pub around_within : {E : Type 0} (r : Result (Option Part) E) (block around : Network) → IsSubnetOf block around
@@ -39,6 +55,28 @@ pub half_bits : (around block half : Network) → IsNetwork half → IsHalfWith 
     → host_bits half < host_bits around
 half_bits around block half u h =
     omega (arith, h.shorter, u.prefix_fits, ap width (h.within (own half) (own_in half)).same_family)
+
+-- ---- what is true of each block
+
+pub all_front : {X : Type 0} (P : X → Type 0) (xs ys : List X) → All P (xs ++ ys) → All P xs
+all_front P xs ys h = all_from_members P xs (λ x c. all_at P (xs ++ ys) h x (Contains-append_left xs ys x c))
+
+pub all_back : {X : Type 0} (P : X → Type 0) (xs ys : List X) → All P (xs ++ ys) → All P ys
+all_back P xs ys h = all_from_members P ys (λ y c. all_at P (xs ++ ys) h y (Contains-append_right xs ys y c))
+
+pub block_at : (P : Network → Type 0) (blocks : List IpNet) → All P (map ip_network blocks) → (i : ℕ) (a : IpNet)
+    → a ≡ get_or blocks i a → i < length blocks → P (ip_network a)
+block_at P blocks h i a e lt = all_at P (map ip_network blocks) h (ip_network a) (
+  i,
+  omega (arith, lt, length-map blocks ip_network),
+  get_or-map ip_network blocks i a (ip_network a) lt ∙ ap ip_network (sym e),
+)
+
+pub cut_both : (blocks : List IpNet) (count : ℕ) (front back : List IpNet) → front ≡ take count blocks
+    → back ≡ drop count blocks → map ip_network front ++ map ip_network back ≡ map ip_network blocks
+cut_both blocks count front back e g =
+    sym (map-append ip_network front back)
+    ∙ ap (map ip_network) (ap₂ (λ x y. x ++ y) e g ∙ take-append-drop count blocks)
 
 module _ (around : IpNet) (blocks : List IpNet) (h : AreBlocksIn (map ip_network blocks) (ip_network around)) where
   place_of : (i : ℕ) (a : IpNet) → a ≡ get_or blocks i a → i < length blocks
@@ -88,6 +126,22 @@ module _ (around : IpNet) (blocks : List IpNet) (h : AreBlocksIn (map ip_network
     out : ¬ (IsSubnetOf (ip_network k) (ip_network l))
     out sub = lead.next (ip_network k) (omega (arith, less, length-map blocks ip_network))
         (subst (λ m. IsSubnetOf m (ip_network l)) (sym (place_of count k next less)) sub)
+
+    pub are_ordered : AreHalvesOf (ip_network l) (ip_network r) (ip_network around)
+    unfolding block_in
+    are_ordered = halves_of (ip_network around) (ip_network l) (ip_network r) (ip_network a) (ip_network k)
+        (ip_valid around) (ip_valid l) (ip_valid r) h.truncated of_a of_k out
+        (pair_at (λ n m. n.number ≤ m.number) (map ip_network blocks) h.ascending (ip_network a) (ip_network k)
+        (block_in 0 a first (omega (arith, two))) (block_in count k next less) some_lead)
+      where
+        some_lead : 0 < count
+        some_lead = elim (cases_lt 0 count) [
+          | inl lt ↦ lt
+          | inr le ↦ absurd (lead.next (ip_network a) (omega (arith, less, length-map blocks ip_network))
+              (subst (λ m. IsSubnetOf m (ip_network l))
+              (sym (ap (λ i. get_or (map ip_network blocks) i (ip_network a)) (zero_of count le)
+              ∙ place_of 0 a first (omega (arith, two)))) of_a.holds))
+        ]
 
     pub are_joined : (terms : Terms) (one two_part : Part) (front back : List Network) → IsPartOf front terms one
         → IsPartOf back terms two_part → IsSubnetOf (ip_network one.around) (ip_network l)

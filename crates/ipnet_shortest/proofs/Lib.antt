@@ -10,5 +10,6 @@ pub mod SplitLaws
 pub mod RoomLaws
 pub mod AnswerLaws
 pub mod PartOfLaws
+pub mod OrderLaws
 pub mod HalvingLaws
 pub mod FamilyLaws

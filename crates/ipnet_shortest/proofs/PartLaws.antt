@@ -112,16 +112,16 @@ module _ (around l r n k : Network) (u : IsNetwork around) (v : IsNetwork l) (w 
   above_l : IsSupernetOf around l
   above_l = record { network = u; truncated = t; shorter = of_n.shorter; contains = of_n.within }
 
-  family_l : l.family ≡ around.family
+  pub family_l : l.family ≡ around.family
   family_l = (of_n.within (own l) (own_in l)).same_family
 
-  family_r : r.family ≡ around.family
+  pub family_r : r.family ≡ around.family
   family_r = (of_k.within (own r) (own_in r)).same_family
 
   bits_l : host_bits around ≡ host_bits l + 1
   bits_l = omega (arith, of_n.shorter, ap width family_l, v.prefix_fits)
 
-  bits_r : host_bits r ≡ host_bits l
+  pub bits_r : host_bits r ≡ host_bits l
   bits_r = omega (arith, of_n.shorter, of_k.shorter, ap width family_l, ap width family_r)
 
   pub are_halves : AreHalves l r

@@ -10,7 +10,7 @@ use Rattle.ipnet_base.proofs.CoverLaws.{cover_append}
 use Rattle.ipnet_base.proofs.DecidedLaws.{IsDecided}
 use Rattle.ipnet_sets.specs.Members.{IsCountOf}
 use Rattle.ipnet_shortest.specs.Covers.{IsAdded}
-use Rattle.ipnet_shortest.specs.Halves.{IsFirstLeast}
+use Rattle.ipnet_shortest.specs.Halves.{IsFirstWithin}
 use Rattle.ipnet_shortest.specs.PartCovers.{IsLacking, IsAddedIn, AddsAtLeast, IsPartCover}
 use Rattle.ipnet_shortest.specs.PartCovers.{AreParts, IsSolved, HaveRoom, IsAroundBoth, IsBestOf}
 use Rattle.ipnet_shortest.proofs.CountLaws.{no_more, joined_count, block_counted, part_counted}
@@ -71,12 +71,9 @@ parts_of_lists front back l r b halfl halfr in_l in_r apart l_in r_in around = r
 
 -- ---- the answer
 
-module _ (S May : Address → Type 0) (decided : IsDecided S) (limit lacking fewest : ℕ) (b : Network) (costs : List ℕ)
-    (lists : ℕ → List Network) (h : IsSolved S May limit b lacking fewest costs lists) (index : ℕ)
-    (first : IsFirstLeast costs index) where
-  last : ℕ
-  last = length costs - 1
-
+module _ (S May : Address → Type 0) (decided : IsDecided S) (limit spare lacking fewest : ℕ) (b : Network)
+    (costs : List ℕ) (lists : ℕ → List Network) (h : IsSolved S May limit b lacking fewest costs lists) (index : ℕ)
+    (first : IsFirstWithin costs spare index) where
   -- at most as many addresses are added in the block as in all
   adds_in : (others : List Network) (added more : ℕ) → AddsAtLeast S b added others → IsCountOf (IsAdded S others) more
       → added ≤ more
@@ -88,19 +85,27 @@ module _ (S May : Address → Type 0) (decided : IsDecided S) (limit lacking few
         no_more (IsAddedIn S b others) (IsAdded S others) inner.0 more (λ x a. a.1) inner.1 count,
       )
 
-  pub best_of : IsBestOf S May limit (lists index)
+  in_most : (more : ℕ) → (more ≤ spare) ⊎ (more ≤ get_or costs index 0) → more ≤ first.most
+  in_most more (inl le) = omega (arith, le, first.spared)
+  in_most more (inr le) = omega (arith, le, first.within)
+
+  pub best_of : IsBestOf S May limit spare (lists index)
   best_of = record {
     cover = c.cover;
     few = omega (arith, c.few, first.in_range, h.are_costs.short);
     added = get_or costs index 0;
     are_added = c.are_added;
-    fewest_added = λ others more cover few count. omega (
-      arith,
-      first.least,
-      adds_in others (get_or costs (length costs - 1) 0) more
-          (h.are_costs.last (length costs - 1) (omega (arith, h.are_costs.some)) others cover few) count,
-    );
-    fewest_networks = λ others cover few count. elim (cases_lt (length others) (length (lists index))) [
+    within = elim first.one_of [
+      | inl last ↦ inr (λ others more cover few count. omega (
+        arith,
+        first.within,
+        last,
+        adds_in others (get_or costs (length costs - 1) 0) more
+            (h.are_costs.last (length costs - 1) (omega (arith, h.are_costs.some)) others cover few) count,
+      ))
+      | inr spared ↦ inl (omega (arith, first.within, spared))
+    ];
+    fewest_networks = λ others more cover few count small. elim (cases_lt (length others) (length (lists index))) [
       | inr le ↦ le
       | inl lt ↦
           let i : ℕ = length others - fewest in
@@ -109,11 +114,13 @@ module _ (S May : Address → Type 0) (decided : IsDecided S) (limit lacking few
           absurd (omega (
             arith,
             first.first i before,
-            first.least,
-            adds_in others (get_or costs i 0) (get_or costs index 0)
+            in_most more small,
+            adds_in others (get_or costs i 0) more
                 (h.are_costs.least i (omega (arith, before, first.in_range)) others cover (omega (arith, none))) count,
           ))
     ];
+    fewest_added = λ others more cover short count. adds_in others (get_or costs index 0) more
+        (h.are_costs.least index first.in_range others cover (omega (arith, short, c.few))) count;
   }
     where
       c : IsPartCover S May b (fewest + index) (get_or costs index 0) (lists index)

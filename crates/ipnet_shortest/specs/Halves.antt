@@ -1,5 +1,5 @@
 -- Halves of networks, and the blocks of a list that are in one. Only private contracts cite these.
-use Rattle.std.specs.Prelude.{◌≡◌, ℕ, ◌+◌, ◌-◌, ◌<◌, ◌≤◌, List, length, get_or, All, AllPairs}
+use Rattle.std.specs.Prelude.{◌≡◌, ◌⊎◌, ℕ, ◌+◌, ◌-◌, ◌<◌, ◌≤◌, List, length, get_or, All, AllPairs}
 use Rattle.ipnet_base.specs.Network.{Network, IsSubnetOf, IsTruncated}
 use Rattle.ipnet_base.specs.Blocks.{ArePairwiseDisjoint}
 
@@ -30,8 +30,12 @@ pub record IsWholeFamily (network whole : Network) : Type 0 where
   pub same_family : whole.family ≡ network.family
   pub all : whole.prefix_len ≡ 0
 
--- The first index whose cost is at most the last cost.
-pub record IsFirstLeast (costs : List ℕ) (index : ℕ) : Type 0 where
+-- The first index whose cost is at most `spare`, or at most the last cost.
+pub record IsFirstWithin (costs : List ℕ) (spare index : ℕ) : Type 0 where
   pub in_range : index < length costs
-  pub least : get_or costs index 0 ≤ get_or costs (length costs - 1) 0
-  pub first : (i : ℕ) → i < index → get_or costs (length costs - 1) 0 < get_or costs i 0
+  pub most : ℕ
+  pub last : get_or costs (length costs - 1) 0 ≤ most
+  pub spared : spare ≤ most
+  pub one_of : (most ≡ get_or costs (length costs - 1) 0) ⊎ (most ≡ spare)
+  pub within : get_or costs index 0 ≤ most
+  pub first : (i : ℕ) → i < index → most < get_or costs i 0

@@ -94,13 +94,17 @@ pub record IsSolved (InSet IsAllowed : Address → Type 0) (limit : ℕ) (block 
   pub whole : ((x : Address) → InBlock block x → IsAllowed x) → fewest ≡ 1
   pub are_costs : AreCosts InSet IsAllowed limit block fewest costs lists
 
--- A cover within the limit, such that none adds fewer addresses, and none that adds as few has fewer networks.
-pub record IsBestOf (InSet IsAllowed : Address → Type 0) (limit : ℕ) (networks : List Network) : Type 0 where
+-- A cover within the limit that adds at most `spare` addresses, or no more than any other cover within the limit. No
+-- cover within the limit that adds so few has fewer networks. None with as few networks adds fewer addresses.
+pub record IsBestOf (InSet IsAllowed : Address → Type 0) (limit spare : ℕ) (networks : List Network) : Type 0 where
   pub cover : IsAllowedCover InSet IsAllowed networks
   pub few : length networks ≤ limit
   pub added : ℕ
   pub are_added : IsCountOf (IsAdded InSet networks) added
-  pub fewest_added : (others : List Network) (more : ℕ) → IsAllowedCover InSet IsAllowed others → length others ≤ limit
-      → IsCountOf (IsAdded InSet others) more → added ≤ more
-  pub fewest_networks : (others : List Network) → IsAllowedCover InSet IsAllowed others → length others ≤ limit
-      → IsCountOf (IsAdded InSet others) added → length networks ≤ length others
+  pub within : (added ≤ spare) ⊎ ((others : List Network) (more : ℕ) → IsAllowedCover InSet IsAllowed others
+      → length others ≤ limit → IsCountOf (IsAdded InSet others) more → added ≤ more)
+  pub fewest_networks : (others : List Network) (more : ℕ) → IsAllowedCover InSet IsAllowed others
+      → length others ≤ limit → IsCountOf (IsAdded InSet others) more → (more ≤ spare) ⊎ (more ≤ added)
+      → length networks ≤ length others
+  pub fewest_added : (others : List Network) (more : ℕ) → IsAllowedCover InSet IsAllowed others
+      → length others ≤ length networks → IsCountOf (IsAdded InSet others) more → added ≤ more

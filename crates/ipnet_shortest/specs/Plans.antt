@@ -1,6 +1,7 @@
 -- The networks of a plan. Only private contracts cite these.
-use Rattle.std.specs.Prelude.{ℕ, zero, suc, ⊤, ◌+◌, ◌-◌, ◌<◌, ◌≤◌, List, [], ◌∷◌, ◌++◌, length, get_or}
-use Rattle.ipnet_base.specs.Network.{Network}
+use Rattle.std.specs.Prelude.{◌≡◌, ℕ, zero, suc, ⊤, ◌+◌, ◌-◌, ◌<◌, ◌≤◌, List, [], ◌∷◌, ◌++◌, length, get_or}
+use Rattle.ipnet_base.specs.Address.{Address}
+use Rattle.ipnet_base.specs.Network.{Network, InBlock, IsSubnetOf, IsTruncated}
 use Rattle.ipnet.specs.NetworkOf.{ip_network}
 use Rattle.ipnet_shortest.specs.declared.plan.Plan.{Plan}
 use Rattle.ipnet_shortest.specs.declared.plan.Plan.TheVariants.{One, OneOr', Both'}
@@ -31,3 +32,21 @@ IsSound (One network) = ⊤
 IsSound (OneOr' network at rest) = IsSound rest
 IsSound (Both' shares at first on second) =
     IsSound first × IsSound second × AreShares shares.items (size_of first) (size_of second)
+
+-- Each address of the first network is before each address of the second, in the same family.
+abbrev pub IsLeftOf : Network → Network → Type 0
+IsLeftOf n k = (x y : Address) → InBlock n x → InBlock k y → (x.family ≡ y.family) × (x.number < y.number)
+
+-- Two networks in another network, one before the other.
+pub record AreHalvesOf (first second around : Network) : Type 0 where
+  pub first_within : IsSubnetOf first around
+  pub second_within : IsSubnetOf second around
+  pub left : IsLeftOf first second
+
+-- The networks of the plan are in the network, without host bits and in order.
+abbrev pub IsOrderly : Plan → Network → Type 0
+IsOrderly (One network) around = IsTruncated (ip_network network) × IsSubnetOf (ip_network network) around
+IsOrderly (OneOr' network at rest) around =
+    IsTruncated (ip_network network) × IsSubnetOf (ip_network network) around × IsOrderly rest around
+IsOrderly (Both' shares at first on second) around = (l : Network) × (r : Network) × AreHalvesOf l r around
+    × IsOrderly first l × IsOrderly second r

@@ -1,4 +1,4 @@
-//! Lists of networks within a limit that cover a set of addresses, and add as few other addresses as possible.
+//! Lists of networks that cover a set of addresses, within a limit of networks or of other addresses.
 #![tactic(auto)]
 
 pub mod cover;
@@ -7,4 +7,6 @@ mod part;
 mod plan;
 mod shares;
 
-pub use cover::{shortest_ipv4_cover, shortest_ipv6_cover};
+pub use cover::{
+    fewest_ipv4_networks, fewest_ipv6_networks, shortest_ipv4_cover, shortest_ipv6_cover,
+};

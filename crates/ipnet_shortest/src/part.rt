@@ -1,7 +1,8 @@
 //! The costs and the networks of a part of a list, and how they are found, half by half.
-ghost use Rattle.std.specs.Prelude.{◌≡◌, ◌+◌, ◌<◌, ◌≤◌, ◌^◌, ◌++◌, [], ◌∷◌, map, List, length, IfOk, IfSome, IfNone};
+ghost use Rattle.std.specs.Prelude.{◌≡◌, ◌+◌, ◌<◌, ◌≤◌, ◌^◌, ◌++◌, [], ◌∷◌, map, List, length, All};
+ghost use Rattle.std.specs.Prelude.{IfOk, IfSome, IfNone};
 ghost use Rattle.ipnet_base.specs.Address.{Address};
-ghost use Rattle.ipnet_base.specs.Network.{Network, InBlock, IsSubnetOf, host_bits};
+ghost use Rattle.ipnet_base.specs.Network.{Network, InBlock, IsSubnetOf, IsTruncated, host_bits};
 ghost use Rattle.ipnet.specs.NetworkOf.{ip_network};
 ghost use Rattle.ipnet_sets.specs.Members.{IsMember};
 ghost use Rattle.ipnet_shortest.specs.Halves.{AreBlocksIn};
@@ -50,6 +51,7 @@ fn lacking_in(around: &IpNet, first: &Part, second: &Part) -> u128
 }
 
 impl Terms {
+    ghost use Rattle.ipnet_shortest.specs.Plans.{AreHalvesOf, IsOrderly};
     ghost use Rattle.ipnet_shortest.specs.Parts.{IsPartOf, HasNoCover, IsLimit, CanBeJoined, AreJoined, IsCostCount};
 
     /// Returns the part of one block, or `None` if it may not be covered.
@@ -59,6 +61,8 @@ impl Terms {
         ensures within { IfOk result (λ o. IfSome o (λ p.
             IsSubnetOf (ip_network p.around) (ip_network block.now))) }
         ensures none { IfOk result (λ o. IfNone o (HasNoCover (ip_network block.now ∷ []) self.now)) }
+        ensures order { IsTruncated (ip_network block.now)
+            → IfOk result (λ o. IfSome o (λ p. IsOrderly p.plan (ip_network block.now))) }
     {
         if !self.allowed.covers(block) {
             return Ok(None);
@@ -105,6 +109,9 @@ impl Terms {
             → AreJoined front back self.now first second (ip_network around.now)
             → IfOk result (IsPartOf (front ++ back) self.now) }
         ensures within { IfOk result (λ p. IsSubnetOf (ip_network p.around) (ip_network around.now)) }
+        ensures order { (l r : Network) → IsTruncated (ip_network around.now)
+            → AreHalvesOf l r (ip_network around.now) → IsOrderly first.plan l → IsOrderly second.plan r
+            → IfOk result (λ p. IsOrderly p.plan (ip_network around.now)) }
     {
         let lacking = lacking_in(around, &first, &second);
         let count = self.cost_count(&first, &second);
@@ -146,6 +153,9 @@ impl Terms {
         ensures none { (front back : List Network)
             → AreJoined front back self.now first second (ip_network around.now)
             → IfOk result (λ o. IfNone o (HasNoCover (front ++ back) self.now)) }
+        ensures order { (l r : Network) → AreHalvesOf l r (ip_network around.now) → IsOrderly first.plan l
+            → IsOrderly second.plan r
+            → IfOk result (λ o. IfSome o (λ p. IsOrderly p.plan (ip_network around.now))) }
     {
         let lacking = lacking_in(around, &first, &second);
         let count = self.cost_count(&first, &second);
@@ -181,6 +191,8 @@ impl Terms {
         ensures within { IfOk result (λ o. IfSome o (λ p.
             IsSubnetOf (ip_network p.around) (ip_network around.now))) }
         ensures none { IfOk result (λ o. IfNone o (HasNoCover (map ip_network blocks.now) self.now)) }
+        ensures order { All IsTruncated (map ip_network blocks.now)
+            → IfOk result (λ o. IfSome o (λ p. IsOrderly p.plan (ip_network around.now))) }
     {
         if blocks.len() == 1 {
             return self.single(alloc, &blocks[0]);

@@ -3,7 +3,7 @@
 //! The costs of a part are the numbers of addresses that it adds: `costs[more]` is for its fewest networks and `more`.
 ghost use Rattle.std.specs.Prelude.{◌≡◌, ◌+◌, ◌<◌, ◌≤◌, ◌++◌, length, IfOk, OnOk};
 ghost use Rattle.ipnet_shortest.specs.PartCovers.{IsBestShare, AreBestShares, HaveRoom, costs_from};
-ghost use Rattle.ipnet_shortest.specs.Halves.{IsFirstLeast};
+ghost use Rattle.ipnet_shortest.specs.Halves.{IsFirstWithin};
 
 use std::alloc::{AllocError, Global};
 
@@ -68,14 +68,15 @@ pub(crate) fn push_costs(
     Ok(())
 }
 
-/// Returns the first index whose cost is at most the last one.
-pub(crate) fn first_least(costs: &[u128]) -> usize
+/// Returns the first index whose cost is at most `spare`, or at most the last cost if no cost is.
+pub(crate) fn first_within(costs: &[u128], spare: u128) -> usize
     requires { 0 < length costs.now }
-    ensures { IsFirstLeast costs.now result }
+    ensures { IsFirstWithin costs.now spare result }
 {
     let last = costs.len() - 1;
+    let most = costs[last].max(spare);
     for index in 0..last {
-        if costs[index] <= costs[last] {
+        if costs[index] <= most {
             return index;
         }
     }

@@ -1,5 +1,4 @@
 //! Memory that runs out. A sanitizer refuses no memory, so only a test that is proved can be run without memory.
-mod byte_images;
 mod helpers;
 mod images;
 mod pools;

@@ -1,10 +1,16 @@
 -- The words of a command line: its flags, and the names of its lists.
 use Rattle.std.specs.Prelude.{◌≡◌, ◌≤◌, ◌<◌, ◌⊎◌, ◌↔◌, ℕ, Bool, true, false, List, [], ◌∷◌, ◌++◌, length, codes}
-use Rattle.std.specs.Prelude.{Some, None, option_map, unwrap_or}
+use Rattle.std.specs.Prelude.{Some, None, option_map, unwrap_or, count_by}
+use Rattle.std.specs.Char.{is_ascii_control}
+use Rattle.std.specs.List.{list_any}
+use Rattle.std.specs.Str.{bytes_eq}
 use Rattle.clap.specs.declared.parser.matches.ArgMatches.{ArgMatches}
 use Rattle.clap.specs.Matches.{found_of, first_value, matched_of, one_text, raw_values}
 use Rattle.ipnet_rules.specs.declared.rules.Action.{Action}
 use Rattle.ipnet_rules.specs.declared.rules.Action.TheVariants.{Permit}
+use Rattle.netset_commands.specs.declared.lists.Empties.{Empties}
+use Rattle.netset_commands.specs.declared.lists.Empties.TheVariants.{Report, Allow, Refuse}
+use Rattle.ipnet_lists.specs.Names.{Names}
 use Rattle.netset_lib.specs.declared.command.Work.{Work}
 use Rattle.netset_lib.specs.declared.command.Work.TheVariants.{Combine, Ask}
 use Rattle.netset_lib.specs.declared.query.Query.TheVariants.{Count, Compare, Filter, Route}
@@ -23,6 +29,31 @@ pub record IsFlag (matches : ArgMatches) (id : List ℕ) (flag : Bool) : Type 0 
   pub set : one_text (found_of matches) id ≡ Some (codes "true") → flag ≡ true
   pub unset : one_text (found_of matches) id ≡ Some (codes "false") → flag ≡ false
   pub absent : one_text (found_of matches) id ≡ None → flag ≡ false
+
+-- The name of the list with this id: what was given, or `-` for standard input.
+-- Example: of `changes a b` it is `a` for the id `first`, and `b` for the id `others`.
+abbrev pub list_name : ArgMatches → List ℕ → List ℕ
+list_name matches id = unwrap_or (first_value (found_of matches) id) standard_input
+
+-- The names of any number of lists: those that are given, or `-` for standard input.
+abbrev pub any_names : ArgMatches → List (List ℕ)
+any_names matches =
+    unwrap_or (option_map raw_values (matched_of (found_of matches) (codes "first"))) (standard_input ∷ [])
+
+-- The choice for files without an entry, by the flags `--no-empty` and `--allow-empty`. Without a flag they are
+-- reported.
+abbrev pub empties_of : Bool → Bool → Empties
+empties_of true allows = Refuse
+empties_of false true = Allow
+empties_of false false = Report
+
+-- How many of the names are `-`, the name of standard input.
+abbrev pub input_count : Names → ℕ
+input_count names = count_by (λ name. bytes_eq name.now standard_input) names
+
+-- Whether one of the names has a control character, such as a tab.
+abbrev pub have_control : Names → Bool
+have_control names = list_any (λ name. list_any is_ascii_control name.now) names
 
 -- The greatest number of named lists with which the work also reads standard input: none, and one list of a filter or a
 -- route.

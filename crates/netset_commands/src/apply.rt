@@ -1,35 +1,44 @@
 //! The command `apply`: its arguments, and its run.
-use crate::arguments::{
-    ArgumentFailure, FIRST, OTHERS, command_of, first, flag, other, reads_input_twice,
-    report_argument_failure,
-};
-use crate::input::STANDARD_INPUT;
+ghost use Rattle.std.specs.Prelude.{◌≡◌, ◌≤◌, IfErr};
+
+use crate::arguments::{FIRST_LIST, OTHERS, RANGES_FLAG, SHARED, two_or_report};
 use crate::lists::{Empties, Reports};
 use crate::output::Writers;
 use crate::reading::{bytes_of, reading_work, session_of, whole_of};
-use clap::{ArgMatches, Command};
+use crate::table::{ARGUMENT, Argument, Form, Subcommand};
+use clap::ArgMatches;
 use netset_lib::{ApplyCommand, run_text};
-use std::alloc::{AllocError, Global};
 
 /// The name of the command.
 pub const APPLY: &str = "apply";
 
 /// The command `apply`.
-#[inline(never)]
-pub fn apply_command<'a>(alloc: Global) -> Result<Command<'a>, AllocError> {
-    let about = "The addresses of OLD after the changes of CHANGES, which netset changes prints";
-    let old = first(alloc, "OLD", "The list before, - for standard input");
-    let help = "The changes, one a line: + or - and a network; standard input if it is omitted";
-    let changes = other(alloc, help).value_name("CHANGES").required(false);
-    let ranges = "Print the fewest ranges, such as 10.0.0.0-10.0.0.5, instead of networks";
-    command_of(alloc, APPLY, about)?
-        .arg(flag(alloc, "ranges", ranges))?
-        .arg(old)?
-        .arg(changes)
-}
+pub const APPLY_COMMAND: Subcommand = Subcommand {
+    name: APPLY,
+    about: "The addresses of OLD after the changes of CHANGES, which netset changes prints",
+    arguments: &[
+        SHARED,
+        &[
+            RANGES_FLAG,
+            Argument {
+                form: Form::Word("OLD"),
+                help: "The list before, - for standard input",
+                ..FIRST_LIST
+            },
+            Argument {
+                id: OTHERS,
+                form: Form::Word("CHANGES"),
+                help: "The changes, one a line: + or - and a network; standard input if it is omitted",
+                ..ARGUMENT
+            },
+        ],
+    ],
+};
 
 /// Reads the bytes of the changes of this name. Without --no-empty, a file without a change is like any other.
-fn changes_of(rt: &HostRuntime, name: &str, reports: Reports) -> Result<Vec<u8>, u8> {
+fn changes_of(rt: &HostRuntime, name: &str, reports: Reports) -> Result<Vec<u8>, u8>
+    ensures { IfErr result (λ status. status ≡ 2) }
+{
     if reports.empties == Empties::Refuse {
         bytes_of(rt, name, "changes", reports)
     } else {
@@ -39,21 +48,19 @@ fn changes_of(rt: &HostRuntime, name: &str, reports: Reports) -> Result<Vec<u8>,
 
 /// Reads the arguments, the list and the changes, prints the answer, and returns the exit status.
 #[inline(never)]
-pub fn applied(rt: &HostRuntime, matches: &ArgMatches, writers: &mut Writers<'_>) -> u8 {
-    let Some(old) = matches.get_str(FIRST) else {
-        return report_argument_failure(rt, ArgumentFailure::NoCommand);
+pub fn apply_changes(rt: &HostRuntime, matches: &ArgMatches, writers: &mut Writers<'_>) -> u8
+    ensures { result ≤ 2 }
+{
+    let names = match two_or_report(rt, matches) {
+        Ok(names) => names.in_order(),
+        Err(status) => return status,
     };
-    let changes = matches.get_str(OTHERS).unwrap_or(STANDARD_INPUT);
-    if reads_input_twice(&[old, changes]) {
-        return report_argument_failure(rt, ArgumentFailure::InputTwice);
-    }
-    let session = match session_of(rt, reading_work(matches), &[old], writers.reports) {
+    let session = match session_of(rt, reading_work(matches), &names[..1], writers.reports) {
         Ok(session) => session,
         Err(status) => return status,
     };
-    match changes_of(rt, changes, writers.reports) {
+    match changes_of(rt, names[1], writers.reports) {
         Ok(bytes) => {
-            let names = [old, changes];
             let changes = bytes.as_slice();
             let (out, faults) = (&mut writers.answer, &mut writers.faults);
             run_text(ApplyCommand { session, changes }, &names, out, faults)

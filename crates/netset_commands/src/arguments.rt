@@ -1,11 +1,20 @@
 //! The command line: the lists to read, and what to do with them.
-ghost use Rattle.std.specs.Prelude.{◌≡◌, ◌≤◌, ◌↔◌, ◌++◌, map, codes, IsTrue, IfOk, OnOk};
-ghost use Rattle.netset_commands.specs.Arguments.{values_of, IsFlag, AreListNames, most_before_input};
+ghost use Rattle.std.specs.Prelude.{◌≡◌, ◌≤◌, ◌<◌, ◌↔◌, ◌∷◌, ◌++◌, [], Bool, map, codes, IsTrue, IfOk, IfErr, IsErr};
+ghost use Rattle.std.specs.Prelude.{OnOk, IsOk, length};
+ghost use Rattle.std.specs.Char.{is_ascii_control};
+ghost use Rattle.std.specs.List.{list_any};
+ghost use Rattle.netset_commands.specs.Arguments.{values_of, list_name, standard_input, IsFlag};
+ghost use Rattle.netset_commands.specs.Arguments.{AreListNames, empties_of, input_count, have_control};
+ghost use Rattle.netset_commands.specs.Arguments.{most_before_input};
+ghost use Rattle.netset_commands.specs.Calls.{IsCall, IsCallFailure, IsNameFailure, AreGoodNames, PrintsNames};
+ghost use Rattle.netset_commands.specs.Calls.{AreFlags, AreTwoNames};
+ghost use Rattle.netset_commands.specs.declared.arguments.ArgumentFailure.TheVariants.{InputTwice};
 
 use crate::input::STANDARD_INPUT;
 use crate::lists::{Empties, Reports};
-use clap::{Arg, ArgAction, ArgMatches, Command};
-use netset_lib::{Flags, Query, Work};
+use crate::table::{ARGUMENT, Argument, Form};
+use clap::ArgMatches;
+use netset_lib::{Flags, ListCommand, Query, Work};
 use std::alloc::{AllocError, Global};
 use std::env;
 use std::env::Env;
@@ -24,6 +33,88 @@ pub const NO_EMPTY: &str = "no-empty";
 
 /// The id of the lists after the first.
 pub const OTHERS: &str = "others";
+
+/// The flag for the grammar.
+pub const LEGACY_FLAG: Argument = Argument {
+    id: "legacy",
+    form: Form::Flag("legacy"),
+    help: "Accept leading zeros (numbers stay decimal), and a :: that replaces no group",
+    ..ARGUMENT
+};
+
+/// The option for the file that the answer replaces.
+pub const OUTPUT_OPTION: Argument = Argument {
+    id: OUTPUT,
+    form: Form::Value(OUTPUT, "FILE"),
+    letter: Some('o'),
+    help: "Replace FILE by the answer as a whole; at status 2, FILE stays as it is",
+    ..ARGUMENT
+};
+
+/// The arguments of each command that reads lists.
+pub const SHARED: &[Argument] = &[
+    LEGACY_FLAG,
+    Argument {
+        id: "progress",
+        form: Form::Flag("progress"),
+        help: "Print the number of bytes read from each list to standard error",
+        ..ARGUMENT
+    },
+    Argument {
+        id: ALLOW_EMPTY,
+        form: Form::Flag(ALLOW_EMPTY),
+        help: "Do not report files without an entry",
+        ..ARGUMENT
+    },
+    Argument {
+        id: NO_EMPTY,
+        form: Form::Flag(NO_EMPTY),
+        help: "Fail if a file has no entry: status 2, and nothing is written",
+        conflicts: &[ALLOW_EMPTY],
+        ..ARGUMENT
+    },
+    OUTPUT_OPTION,
+];
+
+/// The flag for ranges.
+pub const RANGES_FLAG: Argument = Argument {
+    id: "ranges",
+    form: Form::Flag("ranges"),
+    help: "Print the fewest ranges, such as 10.0.0.0-10.0.0.5, instead of networks",
+    ..ARGUMENT
+};
+
+/// The first of several lists.
+pub const FIRST_LIST: Argument = Argument {
+    id: FIRST,
+    form: Form::Word("FILE"),
+    help: "A list, - for standard input",
+    is_required: true,
+    ..ARGUMENT
+};
+
+/// The only list; standard input, if it is omitted.
+pub const ONE_LIST: Argument = Argument {
+    id: FIRST,
+    form: Form::Word("FILE"),
+    help: "A list, - for standard input; standard input if it is omitted",
+    ..ARGUMENT
+};
+
+/// Any number of lists; standard input, if all are omitted.
+pub const ANY_LISTS: Argument = Argument {
+    form: Form::Words("FILE"),
+    ..ONE_LIST
+};
+
+/// The list after the first.
+pub const OTHER_LIST: Argument = Argument {
+    id: OTHERS,
+    form: Form::Word("FILE"),
+    help: "The other list",
+    is_required: true,
+    ..ARGUMENT
+};
 
 /// The most bytes that the system lets an argument have, with the zero byte at its end.
 const MOST_ARGUMENT: usize = 131_072;
@@ -60,7 +151,9 @@ pub enum ArgumentFailure {
 }
 
 /// Prints why the arguments cannot be used, and returns the status, even if it cannot be printed.
-pub fn report_argument_failure(rt: &HostRuntime, failure: ArgumentFailure) -> u8 {
+pub fn report_argument_failure(rt: &HostRuntime, failure: ArgumentFailure) -> u8
+    ensures { result ≡ 2 }
+{
     let _ = writeln!(rt.stderr(), "netset: {failure}");
     2
 }
@@ -68,11 +161,14 @@ pub fn report_argument_failure(rt: &HostRuntime, failure: ArgumentFailure) -> u8
 /// The words of the command line, with the program's own name first. If they cannot be read, that is reported, and the
 /// error is the exit status.
 #[inline(never)]
-pub fn words(rt: &HostRuntime) -> Result<Vec<String>, u8> {
+pub fn words(rt: &HostRuntime) -> Result<Vec<String>, u8>
+    ensures { IfErr result (λ status. status ≡ 2) }
+{
     match env::args(rt) {
-        Ok(args) => args
-            .collect::<Vec<String>>(rt.alloc())
-            .map_err(|_| report_argument_failure(rt, ArgumentFailure::Memory)),
+        Ok(args) => match args.collect::<Vec<String>>(rt.alloc()) {
+            Ok(words) => Ok(words),
+            Err(_) => Err(report_argument_failure(rt, ArgumentFailure::Memory)),
+        },
         Err(error) if error.kind() == ErrorKind::OutOfMemory => {
             Err(report_argument_failure(rt, ArgumentFailure::Memory))
         }
@@ -82,7 +178,9 @@ pub fn words(rt: &HostRuntime) -> Result<Vec<String>, u8> {
 
 /// Reports the first argument that is not UTF-8, and returns the status. Only the front of a long argument is reported.
 #[inline(never)]
-fn report_not_utf8(rt: &HostRuntime) -> u8 {
+fn report_not_utf8(rt: &HostRuntime) -> u8
+    ensures { result ≡ 2 }
+{
     let mut buffer = Vec::new(rt.alloc());
     if buffer.resize(MOST_ARGUMENT, 0u8).is_err() {
         return report_argument_failure(rt, ArgumentFailure::Memory);
@@ -107,7 +205,9 @@ fn report_not_utf8(rt: &HostRuntime) -> u8 {
 
 /// Returns the words, each with the bytes escaped that are not printable ASCII, so that a message about a word cannot
 /// move the terminal's cursor, or look like another message.
-pub fn escaped(alloc: Global, words: &[String]) -> Result<Vec<String>, AllocError> {
+pub fn escaped(alloc: Global, words: &[String]) -> Result<Vec<String>, AllocError>
+    ensures { IfOk result (λ shown. length shown.items ≡ length words.now) }
+{
     let mut shown = Vec::new(alloc);
     for word in words {
         let mut text = String::new(alloc);
@@ -117,115 +217,54 @@ pub fn escaped(alloc: Global, words: &[String]) -> Result<Vec<String>, AllocErro
     Ok(shown)
 }
 
-/// The flag with this name and help text.
-pub fn flag<'a>(alloc: Global, name: &'a str, help: &'a str) -> Arg<'a> {
-    Arg::new(alloc, name)
-        .long(name)
-        .action(ArgAction::SetTrue)
-        .help(help)
+/// Whether the flag with this id is set. A flag that the command does not have is not set.
+pub fn is_set(matches: &ArgMatches, id: &str) -> bool
+    ensures { IsFlag matches.now id.now result }
+{
+    matches.get_flag(id)
 }
 
-/// The option for the file that the answer replaces.
-pub fn output_option<'a>(alloc: Global) -> Arg<'a> {
-    Arg::new(alloc, OUTPUT)
-        .short('o')
-        .long(OUTPUT)
-        .value_name("FILE")
-        .help("Replace FILE by the answer as a whole; at status 2, FILE stays as it is")
+/// The choice for files without an entry: whether they are refused, and otherwise whether they are allowed.
+fn chosen_empties(refuses: bool, allows: bool) -> Empties
+    ensures { result ≡ empties_of refuses allows }
+{
+    match (refuses, allows) {
+        (true, _) => Empties::Refuse,
+        (false, true) => Empties::Allow,
+        (false, false) => Empties::Report,
+    }
 }
 
 /// Reads what to report of the lists.
 #[inline(never)]
-pub fn reports_of(matches: &ArgMatches) -> Reports {
-    let empties = if matches.get_flag(NO_EMPTY) {
-        Empties::Refuse
-    } else if matches.get_flag(ALLOW_EMPTY) {
-        Empties::Allow
-    } else {
-        Empties::Report
-    };
+pub fn reports_of(matches: &ArgMatches) -> Reports
+    ensures progress { IsFlag matches.now (codes "progress") result.progress }
+    ensures empties { (refuses : Bool) × (allows : Bool) × IsFlag matches.now (codes "no-empty") refuses
+        × IsFlag matches.now (codes "allow-empty") allows × (result.empties ≡ empties_of refuses allows) }
+{
+    let refuses = is_set(matches, NO_EMPTY);
+    let allows = is_set(matches, ALLOW_EMPTY);
     Reports {
-        progress: matches.get_flag("progress"),
-        empties,
+        progress: is_set(matches, "progress"),
+        empties: chosen_empties(refuses, allows),
     }
-}
-
-/// The first list.
-pub fn first<'a>(alloc: Global, name: &'a str, help: &'a str) -> Arg<'a> {
-    Arg::new(alloc, FIRST)
-        .value_name(name)
-        .required(true)
-        .help(help)
-}
-
-/// The only list; standard input, if it is omitted.
-pub fn one_file<'a>(alloc: Global) -> Arg<'a> {
-    let help = "A list, - for standard input; standard input if it is omitted";
-    first(alloc, "FILE", help).required(false)
-}
-
-/// Any number of lists; standard input, if all are omitted.
-pub fn any_files<'a>(alloc: Global) -> Arg<'a> {
-    one_file(alloc).num_args(1..).action(ArgAction::Append)
-}
-
-/// The list after the first.
-pub fn other<'a>(alloc: Global, help: &'a str) -> Arg<'a> {
-    Arg::new(alloc, OTHERS)
-        .value_name("FILE")
-        .required(true)
-        .help(help)
-}
-
-/// Adds the flags for files without an entry, and the option for the output.
-#[inline(never)]
-fn with_files<'a>(alloc: Global, command: Command<'a>) -> Result<Command<'a>, AllocError> {
-    let allow_empty = "Do not report files without an entry";
-    let no_empty = "Fail if a file has no entry: status 2, and nothing is written";
-    let no_empty = flag(alloc, NO_EMPTY, no_empty).conflicts_with(ALLOW_EMPTY)?;
-    command
-        .arg(flag(alloc, ALLOW_EMPTY, allow_empty))?
-        .arg(no_empty)?
-        .arg(output_option(alloc))
-}
-
-/// Adds the flags for the grammar and for the progress.
-#[inline(never)]
-fn with_flags<'a>(alloc: Global, command: Command<'a>) -> Result<Command<'a>, AllocError> {
-    let legacy = "Accept leading zeros (numbers stay decimal), and a :: that replaces no group";
-    let progress = "Print the number of bytes read from each list to standard error";
-    command
-        .arg(flag(alloc, "legacy", legacy))?
-        .arg(flag(alloc, "progress", progress))
-}
-
-/// A command with the flags that all commands have.
-#[inline(never)]
-pub fn command_of<'a>(
-    alloc: Global,
-    name: &'a str,
-    about: &'a str,
-) -> Result<Command<'a>, AllocError> {
-    with_files(
-        alloc,
-        with_flags(alloc, Command::new(alloc, name).about(about))?,
-    )
 }
 
 /// The flags that are set. A flag that the command does not have is not set.
 pub fn flags_of(matches: &ArgMatches) -> Flags
-    ensures legacy { IsFlag matches.now (codes "legacy") result.legacy }
-    ensures ranges { IsFlag matches.now (codes "ranges") result.ranges }
-    ensures ipv4 { IsFlag matches.now (codes "ipv4") result.ipv4 }
-    ensures ipv6 { IsFlag matches.now (codes "ipv6") result.ipv6 }
-    ensures outside { IsFlag matches.now (codes "outside") result.outside }
+    ensures { AreFlags matches.now result }
 {
+    let legacy = is_set(matches, "legacy");
+    let ranges = is_set(matches, "ranges");
+    let ipv4 = is_set(matches, "ipv4");
+    let ipv6 = is_set(matches, "ipv6");
+    let outside = is_set(matches, "outside");
     Flags {
-        legacy: matches.get_flag("legacy"),
-        ranges: matches.get_flag("ranges"),
-        ipv4: matches.get_flag("ipv4"),
-        ipv6: matches.get_flag("ipv6"),
-        outside: matches.get_flag("outside"),
+        legacy,
+        ranges,
+        ipv4,
+        ipv6,
+        outside,
     }
 }
 
@@ -246,7 +285,7 @@ fn push_values<'a>(
 
 /// Whether the work also reads standard input if this number of lists is named: if none is, and if only the first list
 /// of a filter or a route is.
-fn reads_input(work: Work, named: usize) -> bool
+fn reads_more(work: Work, named: usize) -> bool
     ensures { IsTrue result ↔ (named ≤ most_before_input work) }
 {
     match work {
@@ -269,16 +308,118 @@ fn names_of<'a>(
     let mut names = Vec::new(alloc);
     push_values(&mut names, matches, FIRST)?;
     push_values(&mut names, matches, OTHERS)?;
-    if reads_input(work, names.len()) {
+    if reads_more(work, names.len()) {
         names.push(STANDARD_INPUT)?;
     }
     Ok(names)
 }
 
+/// The name of the list with this id, or "-" for standard input if the list is not named.
+pub fn name_of_list<'a>(matches: &ArgMatches<'a>, id: &str) -> &'a str
+    ensures { result.now ≡ list_name matches.now id.now }
+{
+    match matches.get_str(id) {
+        Some(name) => name,
+        None => STANDARD_INPUT,
+    }
+}
+
+/// The names of the two lists of a command.
+#[derive(Clone, Copy)]
+pub struct TwoNames<'a> {
+    /// The list that is named first.
+    pub first: &'a str,
+    /// The list after it.
+    pub other: &'a str,
+}
+
+impl<'a> TwoNames<'a> {
+    /// The names, in order.
+    pub fn in_order(self) -> [&'a str; 2]
+        ensures { result ≡ self.entry.first ∷ self.entry.other ∷ [] }
+    {
+        [self.first, self.other]
+    }
+}
+
+/// The names of the two lists of a command. They cannot both be standard input.
+fn names_of_two<'a>(matches: &ArgMatches<'a>) -> Result<TwoNames<'a>, ArgumentFailure>
+    ensures named { IfOk result (AreTwoNames matches.now) }
+    ensures twice { IsErr result ↔ ((list_name matches.now (codes "first") ≡ standard_input)
+        × (list_name matches.now (codes "others") ≡ standard_input)) }
+    ensures failed { IfErr result (λ failure. failure ≡ InputTwice) }
+{
+    let first = name_of_list(matches, FIRST);
+    let other = name_of_list(matches, OTHERS);
+    if first == STANDARD_INPUT && other == STANDARD_INPUT {
+        return Err(ArgumentFailure::InputTwice);
+    }
+    Ok(TwoNames { first, other })
+}
+
+/// Returns what `names_of_two` does. If that fails, it is reported, and the error is the exit status.
+pub fn two_or_report<'a>(rt: &HostRuntime, matches: &ArgMatches<'a>) -> Result<TwoNames<'a>, u8>
+    ensures named { IfOk result (AreTwoNames matches.now) }
+    ensures failed { IfErr result (λ status. status ≡ 2) }
+{
+    match names_of_two(matches) {
+        Ok(names) => Ok(names),
+        Err(failure) => Err(report_argument_failure(rt, failure)),
+    }
+}
+
+/// Whether one of the lists is standard input.
+pub fn reads_input(names: &[&str]) -> bool
+    ensures { IsTrue result ↔ (0 < input_count names.now) }
+{
+    let inputs = names.iter().filter(|name| **name == STANDARD_INPUT);
+    inputs.count() > 0
+}
+
 /// Whether more than one of the lists is standard input.
-pub fn reads_input_twice(names: &[&str]) -> bool {
+pub fn reads_input_twice(names: &[&str]) -> bool
+    ensures { IsTrue result ↔ (1 < input_count names.now) }
+{
     let inputs = names.iter().filter(|name| **name == STANDARD_INPUT);
     inputs.count() > 1
+}
+
+/// Whether the name has a control character.
+fn has_control(name: &str) -> bool
+    ensures { result ≡ list_any is_ascii_control name.now }
+{
+    name.bytes().any(|byte| byte.is_ascii_control())
+}
+
+/// Whether one of the names has a control character.
+fn have_control(names: &[&str]) -> bool
+    ensures { result ≡ have_control names.now }
+{
+    names.iter().any(|name| has_control(name))
+}
+
+/// Whether the answer has the names of the lists.
+fn prints_names(work: Work) -> bool
+    ensures { IsTrue result ↔ PrintsNames work }
+{
+    match work {
+        Work::Ask(Query::Count, _) => true,
+        _ => false,
+    }
+}
+
+/// Refuses these names of the lists if two are standard input, or if one would break a line of the answer.
+fn check_names(work: Work, names: &[&str]) -> Result<(), ArgumentFailure>
+    ensures good { IsOk result ↔ AreGoodNames work names.now }
+    ensures failed { IfErr result (IsNameFailure work names.now) }
+{
+    if reads_input_twice(names) {
+        return Err(ArgumentFailure::InputTwice);
+    }
+    if prints_names(work) && have_control(names) {
+        return Err(ArgumentFailure::ControlCharacter);
+    }
+    Ok(())
 }
 
 /// Reads the arguments of the command of this name: the work, and the names of the lists.
@@ -287,28 +428,21 @@ pub fn call_of<'a>(
     alloc: Global,
     name: &str,
     matches: &ArgMatches<'a>,
-) -> Result<Call<'a>, ArgumentFailure> {
-    let Some(command) = netset_lib::ListCommand::from_name(name) else {
+) -> Result<Call<'a>, ArgumentFailure>
+    ensures called { IfOk result (IsCall name.now matches.now) }
+    ensures failed { IfErr result (IsCallFailure name.now matches.now) }
+{
+    let Some(command) = ListCommand::from_name(name) else {
         return Err(ArgumentFailure::NoCommand);
     };
     let work = command.work(flags_of(matches));
     let Ok(names) = names_of(alloc, work, matches) else {
         return Err(ArgumentFailure::Memory);
     };
-    if reads_input_twice(names.as_slice()) {
-        return Err(ArgumentFailure::InputTwice);
-    }
-    let counts = matches!(work, Work::Ask(Query::Count, _));
-    if counts
-        && names
-            .iter()
-            .any(|name| name.bytes().any(|byte| byte.is_ascii_control()))
-    {
-        return Err(ArgumentFailure::ControlCharacter);
-    }
+    check_names(work, names.as_slice())?;
     Ok(Call {
         work,
         names,
-        is_streamed: matches.get_flag("stream"),
+        is_streamed: is_set(matches, "stream"),
     })
 }

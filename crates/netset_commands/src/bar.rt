@@ -1,21 +1,29 @@
 //! The command `bar` and the options of bars: their arguments, and their runs.
+ghost use Rattle.std.specs.Prelude.{◌≡◌, ◌≤◌, ◌↔◌, Bool, Some, None, codes, length, IsTrue, IfOk, IfErr};
+ghost use Rattle.clap.specs.Matches.{found_of, first_value};
+ghost use Rattle.ipnet_bars.specs.declared.marks.RowWidth.{RowWidth};
+ghost use Rattle.ipnet_bars.specs.declared.marks.RowWidth.TheVariants.{ThirtyTwo};
+ghost use Rattle.netset_commands.specs.Arguments.{IsFlag};
+ghost use Rattle.netset_commands.specs.Words.{IsFrameOf, IsPicturedWork, mark_choice};
+ghost use Rattle.netset_pictures.specs.BarAnswers.{width_text};
+
 use crate::arguments::{
-    ArgumentFailure, FIRST, any_files, command_of, flag, flags_of, reads_input_twice,
+    ANY_LISTS, ArgumentFailure, FIRST, SHARED, flags_of, is_set, reads_input_twice,
     report_argument_failure,
 };
 use crate::input::STANDARD_INPUT;
 use crate::listing::network_or_report;
 use crate::lists::Reports;
 use crate::output::Writers;
-use crate::reading::{reading_work, session_of};
-use clap::{Arg, ArgMatches, Command};
+use crate::reading::{comparing_work, reading_work, session_of};
+use crate::table::{ARGUMENT, Argument, Form, Subcommand};
+use clap::ArgMatches;
 use ipnet_bars::{BarForm, Frame, Marks, RowWidth};
 use netset_lib::{Session, Work, run_text};
 use netset_pictures::{
     BarCommand, BarRequest, ComparisonBarCommand, LocaleValues, MarkChoice, chosen_marks,
     read_row_width,
 };
-use std::alloc::{AllocError, Global};
 use std::env;
 use std::env::VarError;
 use std::io::Write;
@@ -40,78 +48,93 @@ const WIDTH: &str = "width";
 /// The values of `--width`.
 const WIDTHS: &[&str] = &["4", "8", "16", "32", "64"];
 
-/// Adds the flags for the marks of a bar. Each of them needs these other flags.
-#[inline(never)]
-fn with_marks<'a>(
-    alloc: Global,
-    command: Command<'a>,
-    needed: &[&'a str],
-) -> Result<Command<'a>, AllocError> {
-    let ascii = "Draw the marks .:ox# even on a terminal with a UTF-8 locale";
-    let utf8 = "Draw the marks \u{b7}\u{2591}\u{2592}\u{2593}\u{2588} even in a file or a pipe";
-    let ascii = flag(alloc, ASCII, ascii).requires_all(needed)?;
-    let utf8 = flag(alloc, UTF8, utf8)
-        .conflicts_with(ASCII)?
-        .requires_all(needed)?;
-    command.arg(ascii)?.arg(utf8)
-}
+/// The flags for the marks of a bar.
+const ASCII_FLAG: Argument = Argument {
+    id: ASCII,
+    form: Form::Flag(ASCII),
+    help: "Draw the marks .:ox# even on a terminal with a UTF-8 locale",
+    ..ARGUMENT
+};
 
-/// Adds the options for the form of a bar. Each of them needs these other flags.
-#[inline(never)]
-fn with_form<'a>(
-    alloc: Global,
-    command: Command<'a>,
-    needed: &[&'a str],
-) -> Result<Command<'a>, AllocError> {
-    let width = Arg::new(alloc, WIDTH)
-        .long(WIDTH)
-        .value_name("N")
-        .value_parser(WIDTHS)
-        .help("Draw at most N marks in a row; by default 32")
-        .requires_all(needed)?;
-    with_marks(alloc, command, needed)?.arg(width)
-}
+const UTF8_FLAG: Argument = Argument {
+    id: UTF8,
+    form: Form::Flag(UTF8),
+    help: "Draw the marks \u{b7}\u{2591}\u{2592}\u{2593}\u{2588} even in a file or a pipe",
+    conflicts: &[ASCII],
+    ..ARGUMENT
+};
 
-/// Adds the flag `--bar` and the options that need it.
-#[inline(never)]
-pub fn with_plan_bar<'a>(alloc: Global, command: Command<'a>) -> Result<Command<'a>, AllocError> {
-    let bar = "Draw a bar instead of the networks: which addresses are not free after the plan";
-    with_form(alloc, command.arg(flag(alloc, BAR, bar))?, &[BAR])
-}
+/// The option for the number of marks in a row.
+const WIDTH_OPTION: Argument = Argument {
+    id: WIDTH,
+    form: Form::Choice(WIDTH, "N", WIDTHS),
+    help: "Draw at most N marks in a row; by default 32",
+    ..ARGUMENT
+};
 
-/// Adds the options for the network that is drawn.
-#[inline(never)]
-pub fn with_frame<'a>(alloc: Global, command: Command<'a>) -> Result<Command<'a>, AllocError> {
-    let network = Arg::new(alloc, IN).long(IN).value_name("NETWORK").help(
-        "Draw NETWORK; by default, the smallest network that contains all addresses of one family",
-    );
-    let ipv6 = "Draw the IPv6 addresses; by default, the IPv4 addresses if there are any";
-    let ipv6 = flag(alloc, IPV6, ipv6).conflicts_with(IN)?;
-    command.arg(network)?.arg(ipv6)
-}
+/// The flag `--bar`, and the arguments that need it.
+pub const PLAN_BAR: &[Argument] = &[
+    Argument {
+        id: BAR,
+        form: Form::Flag(BAR),
+        help: "Draw a bar instead of the networks: which addresses are not free after the plan",
+        ..ARGUMENT
+    },
+    Argument {
+        needs: &[BAR],
+        ..ASCII_FLAG
+    },
+    Argument {
+        needs: &[BAR],
+        ..UTF8_FLAG
+    },
+    Argument {
+        needs: &[BAR],
+        ..WIDTH_OPTION
+    },
+];
+
+/// The arguments for the network that is drawn.
+pub const FRAME: &[Argument] = &[
+    Argument {
+        id: IN,
+        form: Form::Value(IN, "NETWORK"),
+        help: "Draw NETWORK; by default, the smallest network that contains all addresses of one family",
+        ..ARGUMENT
+    },
+    Argument {
+        id: IPV6,
+        form: Form::Flag(IPV6),
+        help: "Draw the IPv6 addresses; by default, the IPv4 addresses if there are any",
+        conflicts: &[IN],
+        ..ARGUMENT
+    },
+];
+
+/// The flag that compares two lists.
+const COMPARE_FLAG: Argument = Argument {
+    id: COMPARE,
+    form: Form::Flag(COMPARE),
+    help: "Compare two lists: - only in the first, + only in the second, = in both; status 1 if they differ",
+    ..ARGUMENT
+};
 
 /// The command `bar`.
-#[inline(never)]
-pub fn bar_command<'a>(alloc: Global) -> Result<Command<'a>, AllocError> {
-    let about =
-        "A network in at most 16 rows of marks: how full it is, and where its largest free block is";
-    let bar = with_frame(alloc, command_of(alloc, BAR, about)?)?;
-    with_lists(alloc, with_form(alloc, bar, &[])?)
-}
-
-/// Adds the flag `--compare` and the lists of `bar`.
-#[inline(never)]
-fn with_lists<'a>(alloc: Global, command: Command<'a>) -> Result<Command<'a>, AllocError> {
-    let compare =
-        "Compare two lists: - only in the first, + only in the second, = in both; status 1 if they differ";
-    command
-        .arg(flag(alloc, COMPARE, compare))?
-        .arg(any_files(alloc))
-}
+pub const BAR_COMMAND: Subcommand = Subcommand {
+    name: BAR,
+    about: "A network in at most 16 rows of marks: how full it is, and where its largest free block is",
+    arguments: &[
+        SHARED,
+        FRAME,
+        &[ASCII_FLAG, UTF8_FLAG, WIDTH_OPTION, COMPARE_FLAG, ANY_LISTS],
+    ],
+};
 
 /// The value of the variable, which is empty if it is not set. A value that is not UTF-8 is "?", since it is not empty,
 /// and no name of a locale. If memory runs out, it is reported, and the error is the exit status.
-fn variable(rt: &HostRuntime, name: &str) -> Result<String, u8> {
+fn variable(rt: &HostRuntime, name: &str) -> Result<String, u8>
+    ensures { IfErr result (λ status. status ≡ 2) }
+{
     match env::var(rt, name) {
         Ok(value) => Ok(value),
         Err(VarError::NotPresent) => Ok(String::new(rt.alloc())),
@@ -123,22 +146,33 @@ fn variable(rt: &HostRuntime, name: &str) -> Result<String, u8> {
     }
 }
 
-/// The flag or the output that decides on the marks.
-fn choice_of(matches: &ArgMatches, writers: &Writers<'_>) -> MarkChoice {
-    if matches.get_flag(ASCII) {
-        MarkChoice::Ascii
-    } else if matches.get_flag(UTF8) {
-        MarkChoice::Utf8
-    } else if writers.answer.is_terminal() {
-        MarkChoice::Terminal
-    } else {
-        MarkChoice::File
+/// The choice of the marks, by the flags and the output.
+fn mark_choice(ascii: bool, utf8: bool, is_terminal: bool) -> MarkChoice
+    ensures { result ≡ mark_choice ascii utf8 is_terminal }
+{
+    match (ascii, utf8, is_terminal) {
+        (true, _, _) => MarkChoice::Ascii,
+        (false, true, _) => MarkChoice::Utf8,
+        (false, false, true) => MarkChoice::Terminal,
+        (false, false, false) => MarkChoice::File,
     }
+}
+
+/// The flag or the output that decides on the marks, under these arguments.
+fn choice_of(matches: &ArgMatches, is_terminal: bool) -> MarkChoice
+    ensures { (ascii : Bool) × (utf8 : Bool) × IsFlag matches.now (codes "ascii") ascii
+        × IsFlag matches.now (codes "utf8") utf8 × (result ≡ mark_choice ascii utf8 is_terminal) }
+{
+    let ascii = is_set(matches, ASCII);
+    let utf8 = is_set(matches, UTF8);
+    mark_choice(ascii, utf8, is_terminal)
 }
 
 /// The characters of the marks: as the flags say, or as the terminal and the locale do. If memory runs out, it is
 /// reported, and the error is the exit status.
-fn marks_of(rt: &HostRuntime, matches: &ArgMatches, writers: &Writers<'_>) -> Result<Marks, u8> {
+fn marks_of(rt: &HostRuntime, matches: &ArgMatches, writers: &Writers<'_>) -> Result<Marks, u8>
+    ensures { IfErr result (λ status. status ≡ 2) }
+{
     let lc_all = variable(rt, "LC_ALL")?;
     let lc_ctype = variable(rt, "LC_CTYPE")?;
     let lang = variable(rt, "LANG")?;
@@ -147,7 +181,21 @@ fn marks_of(rt: &HostRuntime, matches: &ArgMatches, writers: &Writers<'_>) -> Re
         lc_ctype: lc_ctype.as_str(),
         lang: lang.as_str(),
     };
-    Ok(chosen_marks(choice_of(matches, writers), values))
+    let choice = choice_of(matches, writers.answer.is_terminal());
+    Ok(chosen_marks(choice, values))
+}
+
+/// The number of marks in a row: what `--width` says, or 32.
+fn row_width_of(matches: &ArgMatches) -> RowWidth
+    ensures given { (width : RowWidth)
+        → first_value (found_of matches.now) (codes "width") ≡ Some (width_text width) → result ≡ width }
+    ensures absent { first_value (found_of matches.now) (codes "width") ≡ None → result ≡ ThirtyTwo }
+{
+    match matches.get_str(WIDTH) {
+        // the value is one of WIDTHS
+        Some(word) => read_row_width(word).unwrap_or(RowWidth::ThirtyTwo),
+        None => RowWidth::ThirtyTwo,
+    }
 }
 
 /// Reads the form of a bar. If memory runs out, it is reported, and the error is the exit status.
@@ -155,22 +203,27 @@ pub fn bar_form_of(
     rt: &HostRuntime,
     matches: &ArgMatches,
     writers: &Writers<'_>,
-) -> Result<BarForm, u8> {
-    // the value is one of WIDTHS, if there is one
-    let width = matches.get_str(WIDTH).and_then(read_row_width);
-    let row_width = width.unwrap_or(RowWidth::ThirtyTwo);
+) -> Result<BarForm, u8>
+    ensures { IfErr result (λ status. status ≡ 2) }
+{
     let marks = marks_of(rt, matches, writers)?;
-    Ok(BarForm { row_width, marks })
+    Ok(BarForm {
+        row_width: row_width_of(matches),
+        marks,
+    })
 }
 
 /// Reads the network to draw. If the word is not a network, it is reported, and the error is the exit status.
-pub fn frame_of(rt: &HostRuntime, matches: &ArgMatches) -> Result<Frame, u8> {
+pub fn frame_of(rt: &HostRuntime, matches: &ArgMatches) -> Result<Frame, u8>
+    ensures frame { IfOk result (IsFrameOf matches.now) }
+    ensures failed { IfErr result (λ status. status ≡ 2) }
+{
     match matches.get_str(IN) {
         Some(word) => match network_or_report(rt, word, flags_of(matches).grammar()) {
             Some(network) => Ok(Frame::Named(network)),
             None => Err(2),
         },
-        None if matches.get_flag(IPV6) => Ok(Frame::Ipv6),
+        None if is_set(matches, IPV6) => Ok(Frame::Ipv6),
         None => Ok(Frame::FirstFamily),
     }
 }
@@ -180,14 +233,18 @@ fn request_of(
     rt: &HostRuntime,
     matches: &ArgMatches,
     writers: &Writers<'_>,
-) -> Result<BarRequest, u8> {
+) -> Result<BarRequest, u8>
+    ensures { IfErr result (λ status. status ≡ 2) }
+{
     let frame = frame_of(rt, matches)?;
     let form = bar_form_of(rt, matches, writers)?;
     Ok(BarRequest { frame, form })
 }
 
 /// Whether the lists are two. If not, it is reported.
-fn are_two(rt: &HostRuntime, names: &[&str]) -> bool {
+fn are_two(rt: &HostRuntime, names: &[&str]) -> bool
+    ensures { IsTrue result ↔ (length names.now ≡ 2) }
+{
     let count = names.len();
     if count != 2 {
         let _ = writeln!(
@@ -200,17 +257,20 @@ fn are_two(rt: &HostRuntime, names: &[&str]) -> bool {
 
 /// What a picture of the lists asks for: all their addresses, or what changed between two of them. If standard input is
 /// named twice, or if the lists to compare are not two, it is reported, and the error is the exit status.
-pub fn pictured_work(rt: &HostRuntime, matches: &ArgMatches, names: &[&str]) -> Result<Work, u8> {
+pub fn pictured_work(rt: &HostRuntime, matches: &ArgMatches, names: &[&str]) -> Result<Work, u8>
+    ensures work { IfOk result (IsPicturedWork matches.now names.now) }
+    ensures failed { IfErr result (λ status. status ≡ 2) }
+{
     if reads_input_twice(names) {
         return Err(report_argument_failure(rt, ArgumentFailure::InputTwice));
     }
-    if !matches.get_flag(COMPARE) {
+    if !is_set(matches, COMPARE) {
         return Ok(reading_work(matches));
     }
     if !are_two(rt, names) {
         return Err(2);
     }
-    Ok(netset_lib::ListCommand::Compare.work(flags_of(matches)))
+    Ok(comparing_work(matches))
 }
 
 /// Reads the lists of these names for a bar. If that fails, it is reported, and the error is the exit status.
@@ -219,14 +279,18 @@ fn read_pictured(
     matches: &ArgMatches,
     names: &[&str],
     reports: Reports,
-) -> Result<Session, u8> {
+) -> Result<Session, u8>
+    ensures { IfErr result (λ status. status ≡ 2) }
+{
     let work = pictured_work(rt, matches, names)?;
     session_of(rt, work, names, reports)
 }
 
 /// Reads the arguments and the lists, prints the bar, and returns the exit status.
 #[inline(never)]
-pub fn drawn(rt: &HostRuntime, matches: &ArgMatches, writers: &mut Writers<'_>) -> u8 {
+pub fn draw_bar(rt: &HostRuntime, matches: &ArgMatches, writers: &mut Writers<'_>) -> u8
+    ensures { result ≤ 2 }
+{
     let request = match request_of(rt, matches, writers) {
         Ok(request) => request,
         Err(status) => return status,

@@ -1,39 +1,47 @@
 //! The command `changes`: its arguments, and its run.
-use crate::arguments::{
-    ArgumentFailure, FIRST, OTHERS, command_of, first, flags_of, other, reads_input_twice,
-    report_argument_failure,
-};
+ghost use Rattle.std.specs.Prelude.{◌≤◌};
+
+use crate::arguments::{FIRST_LIST, OTHER_LIST, SHARED, two_or_report};
 use crate::output::Writers;
-use crate::reading::session_of;
-use clap::{ArgMatches, Command};
+use crate::reading::{comparing_work, session_of};
+use crate::table::{Argument, Form, Subcommand};
+use clap::ArgMatches;
 use netset_lib::{ChangesCommand, run_text};
-use std::alloc::{AllocError, Global};
 
 /// The name of the command.
 pub const CHANGES: &str = "changes";
 
 /// The command `changes`.
-#[inline(never)]
-pub fn changes_command<'a>(alloc: Global) -> Result<Command<'a>, AllocError> {
-    let about =
-        "The networks to add (+) and to remove (-) that turn OLD into NEW; status 1 if there are any";
-    let old = first(alloc, "OLD", "The list before, - for standard input");
-    let new = other(alloc, "The list after").value_name("NEW");
-    command_of(alloc, CHANGES, about)?.arg(old)?.arg(new)
-}
+pub const CHANGES_COMMAND: Subcommand = Subcommand {
+    name: CHANGES,
+    about: "The networks to add (+) and to remove (-) that turn OLD into NEW; status 1 if there are any",
+    arguments: &[
+        SHARED,
+        &[
+            Argument {
+                form: Form::Word("OLD"),
+                help: "The list before, - for standard input",
+                ..FIRST_LIST
+            },
+            Argument {
+                form: Form::Word("NEW"),
+                help: "The list after",
+                ..OTHER_LIST
+            },
+        ],
+    ],
+};
 
 /// Reads the arguments and the lists, prints the changes, and returns the exit status.
 #[inline(never)]
-pub fn changed(rt: &HostRuntime, matches: &ArgMatches, writers: &mut Writers<'_>) -> u8 {
-    let (Some(old), Some(new)) = (matches.get_str(FIRST), matches.get_str(OTHERS)) else {
-        return report_argument_failure(rt, ArgumentFailure::NoCommand);
+pub fn print_changes(rt: &HostRuntime, matches: &ArgMatches, writers: &mut Writers<'_>) -> u8
+    ensures { result ≤ 2 }
+{
+    let names = match two_or_report(rt, matches) {
+        Ok(names) => names.in_order(),
+        Err(status) => return status,
     };
-    let names = [old, new];
-    if reads_input_twice(&names) {
-        return report_argument_failure(rt, ArgumentFailure::InputTwice);
-    }
-    let work = netset_lib::ListCommand::Compare.work(flags_of(matches));
-    match session_of(rt, work, &names, writers.reports) {
+    match session_of(rt, comparing_work(matches), &names, writers.reports) {
         Ok(session) => {
             let (out, faults) = (&mut writers.answer, &mut writers.faults);
             run_text(ChangesCommand { session }, &names, out, faults)

@@ -1,20 +1,27 @@
 //! The commands of the program, in the order in which help lists them.
+ghost use Rattle.std.specs.Prelude.{◌≡◌, ◌++◌, IfOk};
+ghost use Rattle.clap.specs.Built.{IsParsedFrom};
+ghost use Rattle.clap.specs.declared.builder.command.Command.{Command};
+ghost use Rattle.netset_commands.specs.CommandLines.{all_commands, command_names, names_in};
+ghost use Rattle.netset_commands.specs.CommandLines.{entry_names, operation_names, query_names, space_names};
 
-use crate::apply::apply_command;
-use crate::arguments::{NO_EMPTY, any_files, command_of, first, flag, one_file, other};
-use crate::bar::bar_command;
-use crate::changes::changes_command;
-use crate::entries::{overlaps_command, redundant_command, supernet_command};
-use crate::extract::extract_command;
-use crate::forms::operation_command;
-use crate::lines::with_lines;
-use crate::listing::{hosts_command, split_command};
-use crate::map::map_command;
-use crate::plan::plan_command;
-use crate::prefixes::prefix_command;
-use crate::rules::{permitted_command, unreached_command};
-use crate::texts::text_flag;
-use clap::{Arg, ArgAction, ArgMatches, Command, Error};
+use crate::apply::APPLY_COMMAND;
+use crate::arguments::{ANY_LISTS, FIRST_LIST, NO_EMPTY, ONE_LIST, OTHER_LIST, OTHERS, SHARED};
+use crate::bar::BAR_COMMAND;
+use crate::changes::CHANGES_COMMAND;
+use crate::entries::{OVERLAPS_COMMAND, REDUNDANT_COMMAND, SUPERNET_COMMAND};
+use crate::extract::EXTRACT_COMMAND;
+use crate::fit::FIT_COMMAND;
+use crate::forms::ANSWER_FORM;
+use crate::listing::{HOSTS_COMMAND, SPLIT_COMMAND};
+use crate::map::MAP_COMMAND;
+use crate::plan::PLAN_COMMAND;
+use crate::prefixes::PREFIX_COMMAND;
+use crate::rules::{PERMITTED_COMMAND, UNREACHED_COMMAND};
+use crate::table::{ARGUMENT, Argument, Form, Subcommand, command_of};
+use crate::texts::TEXT_FLAG;
+use crate::whole_lines::LINE_FLAGS;
+use clap::{ArgMatches, Command, Error};
 use std::alloc::{AllocError, Global};
 
 /// The names of the operations and queries.
@@ -36,192 +43,222 @@ pub const FILTER: &str = "filter";
 
 pub const ROUTE: &str = "route";
 
-/// The first of several lists.
-//
-// The time of a proof grows faster than the number of the steps that can fail, so each function here has few. Each
-// command is made by a function of its own, which is not put into its caller, and is added afterwards. So the stack has
-// the values of few commands at once, and the program runs on 48 KiB of it.
-fn first_file<'a>(alloc: Global) -> Arg<'a> {
-    first(alloc, "FILE", "A list, - for standard input")
-}
+/// The arguments of an operation on at least two lists.
+const TWO_AND_MORE: &[&[Argument]] = &[
+    SHARED,
+    ANSWER_FORM,
+    &[
+        FIRST_LIST,
+        Argument {
+            form: Form::Words("FILE"),
+            help: "The other lists",
+            ..OTHER_LIST
+        },
+    ],
+];
 
-/// The lists after the first, at least one.
-fn others<'a>(alloc: Global) -> Arg<'a> {
-    other(alloc, "The other lists")
-        .num_args(1..)
-        .action(ArgAction::Append)
-}
-
-/// The command of an operation on at least two lists.
-#[inline(never)]
-fn on_two_and_more<'a>(
-    alloc: Global,
-    name: &'a str,
-    about: &'a str,
-) -> Result<Command<'a>, AllocError> {
-    operation_command(alloc, name, about)?
-        .arg(first_file(alloc))?
-        .arg(others(alloc))
-}
-
-/// The command `complement`.
-#[inline(never)]
-fn complement_command<'a>(alloc: Global) -> Result<Command<'a>, AllocError> {
-    let about = "The addresses that are not in the list, for each address family that occurs in it";
-    let ipv4 = "The complement in IPv4, whatever families the list has";
-    let ipv6 = "The complement in IPv6, whatever families the list has";
-    operation_command(alloc, COMPLEMENT, about)?
-        .arg(flag(alloc, "ipv4", ipv4))?
-        .arg(flag(alloc, "ipv6", ipv6))?
-        .arg(one_file(alloc))
-}
-
-/// The command `union`.
-#[inline(never)]
-fn union_command<'a>(alloc: Global) -> Result<Command<'a>, AllocError> {
-    operation_command(alloc, UNION, "The addresses of all lists")?.arg(any_files(alloc))
-}
-
-/// The command `symmetric-difference`.
-#[inline(never)]
-fn symmetric_command<'a>(alloc: Global) -> Result<Command<'a>, AllocError> {
-    let about = "The addresses that are in exactly one of two lists";
-    operation_command(alloc, SYMMETRIC_DIFFERENCE, about)?
-        .arg(first_file(alloc))?
-        .arg(other(alloc, "The other list"))
-}
+/// The flags for the families of a complement, and its list.
+const COMPLEMENT_ARGUMENTS: &[Argument] = &[
+    Argument {
+        id: "ipv4",
+        form: Form::Flag("ipv4"),
+        help: "The complement in IPv4, whatever families the list has",
+        ..ARGUMENT
+    },
+    Argument {
+        id: "ipv6",
+        form: Form::Flag("ipv6"),
+        help: "The complement in IPv6, whatever families the list has",
+        ..ARGUMENT
+    },
+    ONE_LIST,
+];
 
 /// The flag by which the answers are written while the list is read.
+const STREAM_FLAG: Argument = Argument {
+    id: "stream",
+    form: Form::Flag("stream"),
+    help: "Print each line as soon as it is known; a bad line is reported and left out, with status 2",
+    conflicts: &[NO_EMPTY],
+    ..ARGUMENT
+};
+
+/// The side of a filter, its stream, and its lists.
+const FILTER_ARGUMENTS: &[Argument] = &[
+    Argument {
+        id: "outside",
+        form: Form::Flag("outside"),
+        help: "Choose by entries that lie entirely outside SET instead",
+        ..ARGUMENT
+    },
+    STREAM_FLAG,
+    Argument {
+        form: Form::Word("SET"),
+        help: "The list of the addresses to filter by",
+        ..FIRST_LIST
+    },
+    Argument {
+        id: OTHERS,
+        form: Form::Word("FILE"),
+        help: "The list to filter; standard input if it is omitted",
+        ..ARGUMENT
+    },
+];
+
+/// The stream of a route, its texts, and its lists.
+const ROUTE_ARGUMENTS: &[Argument] = &[
+    STREAM_FLAG,
+    TEXT_FLAG,
+    Argument {
+        form: Form::Word("TABLE"),
+        help: "The list of networks to choose from",
+        ..FIRST_LIST
+    },
+    Argument {
+        id: OTHERS,
+        form: Form::Word("FILE"),
+        help: "The list of entries to look up; standard input if it is omitted",
+        ..ARGUMENT
+    },
+];
+
+/// The commands that combine lists into a set.
+const OPERATIONS: &[Subcommand] = &[
+    Subcommand {
+        name: UNION,
+        about: "The addresses of all lists",
+        arguments: &[SHARED, ANSWER_FORM, &[ANY_LISTS]],
+    },
+    Subcommand {
+        name: INTERSECTION,
+        about: "The addresses that are in every list",
+        arguments: TWO_AND_MORE,
+    },
+    Subcommand {
+        name: DIFFERENCE,
+        about: "The addresses of the first list that are in none of the others",
+        arguments: TWO_AND_MORE,
+    },
+    Subcommand {
+        name: SYMMETRIC_DIFFERENCE,
+        about: "The addresses that are in exactly one of two lists",
+        arguments: &[SHARED, ANSWER_FORM, &[FIRST_LIST, OTHER_LIST]],
+    },
+    Subcommand {
+        name: COMPLEMENT,
+        about: "The addresses that are not in the list, for each address family that occurs in it",
+        arguments: &[SHARED, ANSWER_FORM, COMPLEMENT_ARGUMENTS],
+    },
+];
+
+/// The commands that ask about lists.
+const QUERIES: &[Subcommand] = &[
+    Subcommand {
+        name: COUNT,
+        about: "For each list its name, and how many IPv4 and IPv6 addresses it has, with tabs between; then the total",
+        arguments: &[SHARED, &[ANY_LISTS]],
+    },
+    Subcommand {
+        name: COMPARE,
+        about: "The number of addresses that are in only one of two lists; status 1 if there are any",
+        arguments: &[SHARED, &[FIRST_LIST, OTHER_LIST]],
+    },
+    CHANGES_COMMAND,
+    APPLY_COMMAND,
+    EXTRACT_COMMAND,
+    Subcommand {
+        name: FILTER,
+        about: "The entries of FILE that lie entirely inside SET, as written; status 1 if there are none",
+        arguments: &[SHARED, LINE_FLAGS, FILTER_ARGUMENTS],
+    },
+    Subcommand {
+        name: ROUTE,
+        about: "For each entry of FILE, the most specific network of TABLE that contains it, or - and status 1",
+        arguments: &[SHARED, ROUTE_ARGUMENTS],
+    },
+];
+
+/// The commands about free space, pictures and limits.
+const SPACE_COMMANDS: &[Subcommand] = &[
+    PLAN_COMMAND,
+    BAR_COMMAND,
+    MAP_COMMAND,
+    SUPERNET_COMMAND,
+    FIT_COMMAND,
+];
+
+/// The commands about entries, networks and rules.
+const ENTRY_COMMANDS: &[Subcommand] = &[
+    REDUNDANT_COMMAND,
+    OVERLAPS_COMMAND,
+    SPLIT_COMMAND,
+    HOSTS_COMMAND,
+    PERMITTED_COMMAND,
+    UNREACHED_COMMAND,
+    PREFIX_COMMAND,
+];
+
+/// The operations.
 #[inline(never)]
-fn stream_flag<'a>(alloc: Global) -> Result<Arg<'a>, AllocError> {
-    let help =
-        "Print each line as soon as it is known; a bad line is reported and left out, with status 2";
-    flag(alloc, "stream", help).conflicts_with(NO_EMPTY)
+fn operations() -> &'static [Subcommand]
+    ensures { names_in result.now ≡ operation_names }
+{
+    OPERATIONS
 }
 
-/// The command `filter`.
+/// The commands that ask about lists.
 #[inline(never)]
-fn filter_command<'a>(alloc: Global) -> Result<Command<'a>, AllocError> {
-    let about =
-        "The entries of FILE that lie entirely inside SET, as written; status 1 if there are none";
-    let outside = "Choose by entries that lie entirely outside SET instead";
-    let command = with_lines(alloc, command_of(alloc, FILTER, about)?)?;
-    with_set(alloc, command.arg(flag(alloc, "outside", outside))?)
+fn queries() -> &'static [Subcommand]
+    ensures { names_in result.now ≡ query_names }
+{
+    QUERIES
 }
 
-/// Adds the flag `--stream` and the lists of `filter`.
+/// The commands about free space, pictures and limits.
 #[inline(never)]
-fn with_set<'a>(alloc: Global, command: Command<'a>) -> Result<Command<'a>, AllocError> {
-    command
-        .arg(stream_flag(alloc)?)?
-        .arg(first(alloc, "SET", "The list of the addresses to filter by"))?
-        .arg(other(alloc, "The list to filter; standard input if it is omitted").required(false))
+fn space_commands() -> &'static [Subcommand]
+    ensures { names_in result.now ≡ space_names }
+{
+    SPACE_COMMANDS
 }
 
-/// The command `count`.
+/// The commands about entries, networks and rules.
 #[inline(never)]
-fn count_command<'a>(alloc: Global) -> Result<Command<'a>, AllocError> {
-    let about =
-        "For each list its name, and how many IPv4 and IPv6 addresses it has, with tabs between; then the total";
-    command_of(alloc, COUNT, about)?.arg(any_files(alloc))
+fn entry_commands() -> &'static [Subcommand]
+    ensures { names_in result.now ≡ entry_names }
+{
+    ENTRY_COMMANDS
 }
 
-/// The command `compare`.
+/// The program with these commands too.
 #[inline(never)]
-fn compare_command<'a>(alloc: Global) -> Result<Command<'a>, AllocError> {
-    let about =
-        "The number of addresses that are in only one of two lists; status 1 if there are any";
-    command_of(alloc, COMPARE, about)?
-        .arg(first_file(alloc))?
-        .arg(other(alloc, "The other list"))
-}
-
-/// The command `route`.
-#[inline(never)]
-fn route_command<'a>(alloc: Global) -> Result<Command<'a>, AllocError> {
-    let about =
-        "For each entry of FILE, the most specific network of TABLE that contains it, or - and status 1";
-    let command = command_of(alloc, ROUTE, about)?
-        .arg(stream_flag(alloc)?)?
-        .arg(text_flag(alloc)?)?;
-    with_table(alloc, command)
-}
-
-/// Adds the lists of `route`.
-#[inline(never)]
-fn with_table<'a>(alloc: Global, command: Command<'a>) -> Result<Command<'a>, AllocError> {
-    let asked = "The list of entries to look up; standard input if it is omitted";
-    command
-        .arg(first(alloc, "TABLE", "The list of networks to choose from"))?
-        .arg(other(alloc, asked).required(false))
-}
-
-/// The command at this place of help, if it is one of the first.
-#[inline(never)]
-fn early_command<'a>(alloc: Global, place: usize) -> Result<Command<'a>, AllocError> {
-    let intersection = "The addresses that are in every list";
-    let difference = "The addresses of the first list that are in none of the others";
-    match place {
-        0 => union_command(alloc),
-        1 => on_two_and_more(alloc, INTERSECTION, intersection),
-        2 => on_two_and_more(alloc, DIFFERENCE, difference),
-        3 => symmetric_command(alloc),
-        4 => complement_command(alloc),
-        5 => count_command(alloc),
-        6 => compare_command(alloc),
-        7 => changes_command(alloc),
-        8 => apply_command(alloc),
-        9 => extract_command(alloc),
-        10 => filter_command(alloc),
-        _ => route_command(alloc),
+fn with_commands<'a>(
+    alloc: Global,
+    mut command: Command<'a>,
+    rows: &[Subcommand],
+) -> Result<Command<'a>, AllocError>
+    ensures { IfOk result (λ r. command_names r ≡ command_names command.entry ++ names_in rows.now) }
+{
+    for row in rows {
+        command = command.subcommand(command_of(alloc, row)?)?;
     }
-}
-
-/// The number of the places of `early_command`, and of all places.
-const EARLY_PLACES: usize = 12;
-
-const PLACES: usize = 23;
-
-/// The command at this place of help, if it is one of the last.
-#[inline(never)]
-fn late_command<'a>(alloc: Global, place: usize) -> Result<Command<'a>, AllocError> {
-    match place {
-        12 => plan_command(alloc),
-        13 => bar_command(alloc),
-        14 => map_command(alloc),
-        15 => supernet_command(alloc),
-        16 => redundant_command(alloc),
-        17 => overlaps_command(alloc),
-        18 => split_command(alloc),
-        19 => hosts_command(alloc),
-        20 => permitted_command(alloc),
-        21 => unreached_command(alloc),
-        _ => prefix_command(alloc),
-    }
-}
-
-/// The command at this place of help.
-#[inline(never)]
-fn command_at<'a>(alloc: Global, place: usize) -> Result<Command<'a>, AllocError> {
-    if place < EARLY_PLACES {
-        early_command(alloc, place)
-    } else {
-        late_command(alloc, place)
-    }
+    Ok(command)
 }
 
 /// The command line of the program with this version, with its commands in the order in which help lists them.
 #[inline(never)]
-fn command<'a>(alloc: Global, version: &'a str) -> Result<Command<'a>, AllocError> {
-    let mut command = Command::new(alloc, "netset")
+fn command<'a>(alloc: Global, version: &'a str) -> Result<Command<'a>, AllocError>
+    ensures { IfOk result (λ r. command_names r ≡ all_commands) }
+{
+    let command = Command::new(alloc, "netset")
         .version(version)
         .about("Combines and compares lists of networks, addresses and ranges")
         .subcommand_required(true)
         .arg_required_else_help(true);
-    for place in 0..PLACES {
-        command = command.subcommand(command_at(alloc, place)?)?;
-    }
-    Ok(command)
+    let command = with_commands(alloc, command, operations())?;
+    let command = with_commands(alloc, command, queries())?;
+    let command = with_commands(alloc, command, space_commands())?;
+    with_commands(alloc, command, entry_commands())
 }
 
 /// Parses the command line. The error is the text to print: help, the version, or what is wrong.
@@ -230,6 +267,9 @@ pub fn matches_of<'a>(
     alloc: Global,
     words: &'a [String],
     version: &'a str,
-) -> Result<ArgMatches<'a>, Error> {
+) -> Result<ArgMatches<'a>, Error>
+    ensures { IfOk result (λ matches. (c : Command) × IsParsedFrom c matches
+        × (command_names c ≡ all_commands)) }
+{
     command(alloc, version)?.try_get_matches_from(words)
 }

@@ -1,15 +1,15 @@
 //! The commands about the entries of lists: their arguments, and their runs.
+ghost use Rattle.std.specs.Prelude.{◌≤◌};
+
 use crate::arguments::{
-    ArgumentFailure, FIRST, OTHERS, command_of, flags_of, one_file, other, reads_input_twice,
-    report_argument_failure,
+    FIRST, ONE_LIST, OTHER_LIST, OTHERS, SHARED, flags_of, name_of_list, two_or_report,
 };
-use crate::input::STANDARD_INPUT;
 use crate::output::Writers;
 use crate::reading::{bytes_of, reading_work, session_of};
-use clap::{ArgMatches, Command};
+use crate::table::{Argument, Subcommand};
+use clap::ArgMatches;
 use netset_entries::{OverlapsCommand, RedundantCommand, SupernetCommand};
 use netset_lib::{run, run_text};
-use std::alloc::{AllocError, Global};
 
 /// The names of the commands.
 pub const SUPERNET: &str = "supernet";
@@ -18,37 +18,43 @@ pub const REDUNDANT: &str = "redundant";
 
 pub const OVERLAPS: &str = "overlaps";
 
-/// The command `overlaps`.
-#[inline(never)]
-pub fn overlaps_command<'a>(alloc: Global) -> Result<Command<'a>, AllocError> {
-    let about =
-        "The pairs of entries that share an address; of two lists, of an entry of each; status 1 if there are any";
-    let help = "The other list; the pairs are then of an entry of each";
-    command_of(alloc, OVERLAPS, about)?
-        .arg(one_file(alloc))?
-        .arg(other(alloc, help).required(false))
-}
-
 /// The command `supernet`.
-#[inline(never)]
-pub fn supernet_command<'a>(alloc: Global) -> Result<Command<'a>, AllocError> {
-    let about =
-        "The smallest network that contains all addresses of the list, for each address family that occurs in it";
-    command_of(alloc, SUPERNET, about)?.arg(one_file(alloc))
-}
+pub const SUPERNET_COMMAND: Subcommand = Subcommand {
+    name: SUPERNET,
+    about: "The smallest network that contains all addresses of the list, for each address family that occurs in it",
+    arguments: &[SHARED, &[ONE_LIST]],
+};
 
 /// The command `redundant`.
-#[inline(never)]
-pub fn redundant_command<'a>(alloc: Global) -> Result<Command<'a>, AllocError> {
-    let about =
-        "The entries that the others make unnecessary, and the fewest that cover each; status 1 if there are any";
-    command_of(alloc, REDUNDANT, about)?.arg(one_file(alloc))
-}
+pub const REDUNDANT_COMMAND: Subcommand = Subcommand {
+    name: REDUNDANT,
+    about: "The entries that the others make unnecessary, and the fewest that cover each; status 1 if there are any",
+    arguments: &[SHARED, &[ONE_LIST]],
+};
+
+/// The command `overlaps`.
+pub const OVERLAPS_COMMAND: Subcommand = Subcommand {
+    name: OVERLAPS,
+    about: "The pairs of entries that share an address; of two lists, of an entry of each; status 1 if there are any",
+    arguments: &[
+        SHARED,
+        &[
+            ONE_LIST,
+            Argument {
+                help: "The other list; the pairs are then of an entry of each",
+                is_required: false,
+                ..OTHER_LIST
+            },
+        ],
+    ],
+};
 
 /// Reads the list, and prints the smallest networks around its addresses.
 #[inline(never)]
-pub fn supernet(rt: &HostRuntime, matches: &ArgMatches, writers: &mut Writers<'_>) -> u8 {
-    let names = [matches.get_str(FIRST).unwrap_or(STANDARD_INPUT)];
+pub fn print_supernet(rt: &HostRuntime, matches: &ArgMatches, writers: &mut Writers<'_>) -> u8
+    ensures { result ≤ 2 }
+{
+    let names = [name_of_list(matches, FIRST)];
     match session_of(rt, reading_work(matches), &names, writers.reports) {
         Ok(session) => {
             let (out, faults) = (&mut writers.answer, &mut writers.faults);
@@ -60,8 +66,10 @@ pub fn supernet(rt: &HostRuntime, matches: &ArgMatches, writers: &mut Writers<'_
 
 /// Reads the list, and prints the entries that the others make unnecessary.
 #[inline(never)]
-pub fn redundant(rt: &HostRuntime, matches: &ArgMatches, writers: &mut Writers<'_>) -> u8 {
-    let name = matches.get_str(FIRST).unwrap_or(STANDARD_INPUT);
+pub fn print_redundant(rt: &HostRuntime, matches: &ArgMatches, writers: &mut Writers<'_>) -> u8
+    ensures { result ≤ 2 }
+{
+    let name = name_of_list(matches, FIRST);
     match bytes_of(rt, name, "entries", writers.reports) {
         Ok(bytes) => {
             let command = RedundantCommand {
@@ -76,20 +84,18 @@ pub fn redundant(rt: &HostRuntime, matches: &ArgMatches, writers: &mut Writers<'
 }
 
 /// Reads the lists, and prints the pairs of an entry of each that share addresses.
-fn overlaps_of_two(
-    rt: &HostRuntime,
-    matches: &ArgMatches,
-    (name, other): (&str, &str),
-    writers: &mut Writers<'_>,
-) -> u8 {
-    if reads_input_twice(&[name, other]) {
-        return report_argument_failure(rt, ArgumentFailure::InputTwice);
-    }
-    let bytes = match bytes_of(rt, name, "entries", writers.reports) {
+fn print_overlaps_of_two(rt: &HostRuntime, matches: &ArgMatches, writers: &mut Writers<'_>) -> u8
+    ensures { result ≤ 2 }
+{
+    let names = match two_or_report(rt, matches) {
+        Ok(names) => names.in_order(),
+        Err(status) => return status,
+    };
+    let bytes = match bytes_of(rt, names[0], "entries", writers.reports) {
         Ok(bytes) => bytes,
         Err(status) => return status,
     };
-    let others = match bytes_of(rt, other, "entries", writers.reports) {
+    let others = match bytes_of(rt, names[1], "entries", writers.reports) {
         Ok(bytes) => bytes,
         Err(status) => return status,
     };
@@ -100,16 +106,18 @@ fn overlaps_of_two(
         grammar: flags_of(matches).grammar(),
     };
     let (out, faults) = (&mut writers.answer, &mut writers.faults);
-    run(command, &[name, other], out, faults)
+    run(command, &names, out, faults)
 }
 
 /// Reads the list, or two lists, and prints the pairs of entries that share addresses.
 #[inline(never)]
-pub fn overlaps(rt: &HostRuntime, matches: &ArgMatches, writers: &mut Writers<'_>) -> u8 {
-    let name = matches.get_str(FIRST).unwrap_or(STANDARD_INPUT);
-    if let Some(other) = matches.get_str(OTHERS) {
-        return overlaps_of_two(rt, matches, (name, other), writers);
+pub fn print_overlaps(rt: &HostRuntime, matches: &ArgMatches, writers: &mut Writers<'_>) -> u8
+    ensures { result ≤ 2 }
+{
+    if matches.get_str(OTHERS).is_some() {
+        return print_overlaps_of_two(rt, matches, writers);
     }
+    let name = name_of_list(matches, FIRST);
     match bytes_of(rt, name, "entries", writers.reports) {
         Ok(bytes) => {
             let command = OverlapsCommand {

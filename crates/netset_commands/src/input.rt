@@ -1,8 +1,11 @@
 //! The bytes of a list, from a file or from standard input.
-ghost use Rattle.std.specs.Prelude.{◌≡◌, ◌↔◌, ◌≤◌, length};
+ghost use Rattle.std.specs.Prelude.{◌≡◌, ◌↔◌, ◌≤◌, ◌⊎◌, length, take, false, pos, Some, IsTrue, IsErr, IfErr};
+ghost use Rattle.std.specs.Prelude.{IsOkAnd};
+ghost use Rattle.std.specs.Fs.{IsDir, file_type};
 ghost use Rattle.std.specs.IoError.{raw_os_error};
 ghost use Rattle.netset_commands.specs.Files.{IsOutOfMemory};
-ghost use Rattle.ipnet_lists.specs.declared.reading.ReadFailure.TheVariants.{Memory};
+ghost use Rattle.netset_commands.specs.Logs.{is_one_null, alternate, has_utf16_mark, begins_utf16};
+ghost use Rattle.ipnet_lists.specs.declared.reading.ReadFailure.TheVariants.{Memory, Unreadable};
 
 use ipnet_lists::{ReadFailure, is_entry};
 use std::fs::{File, Metadata};
@@ -61,7 +64,10 @@ impl Read for Input {
 
 impl Input {
     /// Why it was not read to its end.
-    pub fn unread(&self, failure: ReadFailure) -> Unread {
+    pub fn unread(&self, failure: ReadFailure) -> Unread
+        ensures failure { result.failure ≡ failure }
+        ensures code { result.code ≡ self.now.code }
+    {
         Unread {
             failure,
             code: self.code,
@@ -86,7 +92,11 @@ fn unopened(error: &io::Error) -> Unread
 }
 
 /// Refuses a folder. The system opens one like a file, and only refuses to read it.
-fn check_kind(found: io::Result<Metadata>) -> Result<(), Unread> {
+fn check_kind(found: io::Result<Metadata>) -> Result<(), Unread>
+    ensures folder { IsErr result ↔ IsOkAnd found (λ metadata. IsDir (file_type metadata)) }
+    ensures failure { IfErr result (λ unread. unread.failure ≡ Unreadable) }
+    ensures code { IfErr result (λ unread. unread.code ≡ Some (pos 21)) }
+{
     match found {
         Ok(found) if found.is_dir() => Err(Unread {
             failure: ReadFailure::Unreadable,
@@ -145,30 +155,60 @@ pub struct Log {
     ghost given_fits: { given ≤ seen },
 }
 
+/// Whether one of the two bytes is NUL, and the other is not.
+fn is_one_null(byte: u8, next: u8) -> bool
+    ensures { result ≡ is_one_null byte next }
+{
+    if byte == 0 { next != 0 } else { next == 0 }
+}
+
 /// Whether of any two neighbours one is NUL, and the other is not. So it is in ASCII as UTF-16.
-fn alternates(bytes: &[u8]) -> bool {
-    let next = bytes.iter().skip(1);
-    bytes
-        .iter()
-        .zip(next)
-        .all(|(byte, next)| (*byte == 0) != (*next == 0))
+fn alternates(bytes: &[u8]) -> bool
+    ensures { result ≡ alternate bytes.now }
+{
+    match bytes {
+        [] => true,
+        [byte, rest @ ..] => match rest {
+            [] => true,
+            [next, ..] => is_one_null(*byte, *next) && alternates(rest),
+        },
+    }
+}
+
+/// Whether the bytes begin with the byte order mark of UTF-16.
+fn has_mark(bytes: &[u8]) -> bool
+    ensures { result ≡ has_utf16_mark bytes.now }
+{
+    bytes.starts_with(&[0xff, 0xfe]) || bytes.starts_with(&[0xfe, 0xff])
+}
+
+/// Whether these first bytes show that a text is UTF-16: by its byte order mark, or by two ASCII characters of it.
+fn begins_utf16(front: &[u8]) -> bool
+    ensures { result ≡ begins_utf16 front.now }
+{
+    has_mark(front) || front.len() == FRONT && alternates(front)
 }
 
 impl Log {
     /// The first bytes of the log that were read.
-    fn front(&self) -> &[u8] {
+    fn front(&self) -> &[u8]
+        ensures { result.now ≡ take self.now.seen self.now.front }
+    {
         &self.front[..self.seen]
     }
 
     /// Whether the log begins with the byte order mark of UTF-16, or with two ASCII characters of it.
-    pub fn is_utf16(&self) -> bool {
-        let front = self.front();
-        let is_marked = front.starts_with(&[0xff, 0xfe]) || front.starts_with(&[0xfe, 0xff]);
-        is_marked || front.len() == FRONT && alternates(front)
+    pub fn is_utf16(&self) -> bool
+        ensures { result ≡ begins_utf16 (take self.now.seen self.now.front) }
+    {
+        begins_utf16(self.front())
     }
 
     /// Whether no more bytes can change that.
-    fn is_decided(&self) -> bool {
+    fn is_decided(&self) -> bool
+        ensures { IsTrue result ↔ (IsTrue self.now.ended ⊎ (self.now.seen ≡ 4)
+            ⊎ (alternate (take self.now.seen self.now.front) ≡ false)) }
+    {
         self.ended || self.seen == FRONT || !alternates(self.front())
     }
 

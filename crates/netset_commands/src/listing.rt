@@ -1,10 +1,15 @@
 //! The commands `split` and `hosts`: their arguments, and their runs.
-use crate::arguments::{FIRST, OTHERS, first, flag, flags_of, output_option};
+ghost use Rattle.std.specs.Prelude.{◌≡◌, ◌≤◌, codes, IfSome};
+ghost use Rattle.ipnet.specs.NetworkOf.{ip_network};
+ghost use Rattle.ipnet_lists.specs.Entries.{IsNetworkOrMasked};
+ghost use Rattle.netset_commands.specs.Words.{word_of, IsNetworkGiven};
+
+use crate::arguments::{FIRST, LEGACY_FLAG, OTHERS, OUTPUT_OPTION, flags_of};
 use crate::output::Writers;
-use clap::{Arg, ArgMatches, Command};
+use crate::table::{ARGUMENT, Argument, Form, Subcommand};
+use clap::ArgMatches;
 use ipnet::{Grammar, IpNet};
 use netset_lib::{ArgumentCause, read_length, read_network_argument, run_hosts, run_split};
-use std::alloc::{AllocError, Global};
 use std::io::Write;
 
 /// The names of the two commands.
@@ -12,47 +17,50 @@ pub const SPLIT: &str = "split";
 
 pub const HOSTS: &str = "hosts";
 
-/// The network that is listed.
-fn network<'a>(alloc: Global) -> Arg<'a> {
-    first(
-        alloc,
-        "NETWORK",
-        "A network, such as 10.0.0.0/24; host bits do not matter",
-    )
-}
-
-/// A command that lists what a network contains.
-#[inline(never)]
-fn listing_command<'a>(
-    alloc: Global,
-    name: &'a str,
-    about: &'a str,
-) -> Result<Command<'a>, AllocError> {
-    let legacy = "Accept leading zeros (numbers stay decimal), and a :: that replaces no group";
-    Command::new(alloc, name)
-        .about(about)
-        .arg(flag(alloc, "legacy", legacy))?
-        .arg(output_option(alloc))?
-        .arg(network(alloc))
-}
+/// The arguments of both.
+const LISTING: &[Argument] = &[
+    LEGACY_FLAG,
+    OUTPUT_OPTION,
+    Argument {
+        id: FIRST,
+        form: Form::Word("NETWORK"),
+        help: "A network, such as 10.0.0.0/24; host bits do not matter",
+        is_required: true,
+        ..ARGUMENT
+    },
+];
 
 /// The command `split`.
-#[inline(never)]
-pub fn split_command<'a>(alloc: Global) -> Result<Command<'a>, AllocError> {
-    let about = "The subnets of a network that have this prefix length";
-    let length = Arg::new(alloc, OTHERS)
-        .value_name("LEN")
-        .required(true)
-        .help("The prefix length of the subnets, such as 26 or /26");
-    listing_command(alloc, SPLIT, about)?.arg(length)
-}
+pub const SPLIT_COMMAND: Subcommand = Subcommand {
+    name: SPLIT,
+    about: "The subnets of a network that have this prefix length",
+    arguments: &[
+        LISTING,
+        &[Argument {
+            id: OTHERS,
+            form: Form::Word("LEN"),
+            help: "The prefix length of the subnets, such as 26 or /26",
+            is_required: true,
+            ..ARGUMENT
+        }],
+    ],
+};
 
 /// The command `hosts`.
-#[inline(never)]
-pub fn hosts_command<'a>(alloc: Global) -> Result<Command<'a>, AllocError> {
-    let about =
-        "The hosts of a network: its addresses, without both ends if it is IPv4 and larger than /31";
-    listing_command(alloc, HOSTS, about)
+pub const HOSTS_COMMAND: Subcommand = Subcommand {
+    name: HOSTS,
+    about: "The hosts of a network: its addresses, without both ends if it is IPv4 and larger than /31",
+    arguments: &[LISTING],
+};
+
+/// The word with this id, which is empty if there is none.
+fn word_of<'a>(matches: &ArgMatches<'a>, id: &str) -> &'a str
+    ensures { result.now ≡ word_of matches.now id.now }
+{
+    match matches.get_str(id) {
+        Some(word) => word,
+        None => "",
+    }
 }
 
 /// Prints that the word is not a network, with the cause that a line of a list has.
@@ -76,7 +84,9 @@ fn report_network(rt: &HostRuntime, word: &str, cause: ArgumentCause) {
 }
 
 /// Reads a network. If the word is not one, it is reported with the cause, and the result is `None`.
-pub fn network_or_report(rt: &HostRuntime, word: &str, grammar: Grammar) -> Option<IpNet> {
+pub fn network_or_report(rt: &HostRuntime, word: &str, grammar: Grammar) -> Option<IpNet>
+    ensures { IfSome result (λ n. IsNetworkOrMasked grammar word.now (ip_network n)) }
+{
     match read_network_argument(word, grammar) {
         Ok(network) => Some(network),
         Err(cause) => {
@@ -87,17 +97,21 @@ pub fn network_or_report(rt: &HostRuntime, word: &str, grammar: Grammar) -> Opti
 }
 
 /// Reads the network that is listed. If the word is not one, it is reported, and the result is `None`.
-fn network_of(rt: &HostRuntime, matches: &ArgMatches) -> Option<IpNet> {
-    let word = matches.get_str(FIRST).unwrap_or("");
+fn network_of(rt: &HostRuntime, matches: &ArgMatches) -> Option<IpNet>
+    ensures { IfSome result (IsNetworkGiven matches.now (codes "first")) }
+{
+    let word = word_of(matches, FIRST);
     network_or_report(rt, word, flags_of(matches).grammar())
 }
 
 /// Reads the arguments of `split`, and prints the subnets.
-pub fn split(rt: &HostRuntime, matches: &ArgMatches, writers: &mut Writers<'_>) -> u8 {
+pub fn list_subnets(rt: &HostRuntime, matches: &ArgMatches, writers: &mut Writers<'_>) -> u8
+    ensures { result ≤ 2 }
+{
     let Some(network) = network_of(rt, matches) else {
         return 2;
     };
-    let word = matches.get_str(OTHERS).unwrap_or("");
+    let word = word_of(matches, OTHERS);
     let Some(length) = read_length(word) else {
         let word = word.as_bytes().escape_ascii();
         let _ = writeln!(rt.stderr(), "netset: not a prefix length: {word}");
@@ -107,7 +121,9 @@ pub fn split(rt: &HostRuntime, matches: &ArgMatches, writers: &mut Writers<'_>) 
 }
 
 /// Reads the argument of `hosts`, and prints the hosts.
-pub fn hosts(rt: &HostRuntime, matches: &ArgMatches, writers: &mut Writers<'_>) -> u8 {
+pub fn list_hosts(rt: &HostRuntime, matches: &ArgMatches, writers: &mut Writers<'_>) -> u8
+    ensures { result ≤ 2 }
+{
     match network_of(rt, matches) {
         Some(network) => run_hosts(&network, &mut writers.answer, &mut writers.faults),
         None => 2,

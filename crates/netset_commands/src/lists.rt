@@ -1,4 +1,8 @@
 //! The lists, read from files and from standard input.
+ghost use Rattle.std.specs.Prelude.{◌≡◌, ◌≢◌, ◌⊎◌, ◌↔◌, ℕ, Bool, IsTrue, IfOk};
+ghost use Rattle.netset_commands.specs.Arguments.{standard_input};
+ghost use Rattle.netset_commands.specs.declared.lists.Empties.TheVariants.{Refuse};
+
 use crate::input::{STANDARD_INPUT, Unread, open_list};
 use ipnet::Grammar;
 use ipnet_lists::{ReadFailure, read_bytes};
@@ -11,17 +15,31 @@ const MUCH: usize = 16_777_216;
 
 /// A reader of lists one after another, by methods that `Session` and `Extraction` have.
 pub trait ListReader {
+    /// The number of refused lines.
+    ghost refused: { Self → ℕ };
+
+    /// Whether the last list has an entry.
+    ghost holds: { Self → Bool };
+
     /// Reads the next list up to its end.
     fn read<R: Read>(&mut self, input: &mut R) -> Result<(), ReadFailure>;
 
     /// The number of refused lines of all lists that were read.
-    fn refused_count(&self) -> usize;
+    fn refused_count(&self) -> usize
+        ensures { result ≡ refused self.now };
 
     /// Whether the list that was read last has an entry.
-    fn has_entry(&self) -> bool;
+    fn has_entry(&self) -> bool
+        ensures { result ≡ holds self.now };
 }
 
 impl ListReader for Session {
+    ghost use Rattle.netset_lib.specs.Sessions.{has_entry, refused_count};
+
+    ghost refused = { refused_count };
+
+    ghost holds = { has_entry };
+
     fn read<R: Read>(&mut self, input: &mut R) -> Result<(), ReadFailure> {
         Session::read(self, input)
     }
@@ -36,6 +54,12 @@ impl ListReader for Session {
 }
 
 impl ListReader for Extraction {
+    ghost use Rattle.netset_words.specs.Extractions.{has_entry, refused_count};
+
+    ghost refused = { refused_count };
+
+    ghost holds = { has_entry };
+
     fn read<R: Read>(&mut self, input: &mut R) -> Result<(), ReadFailure> {
         Extraction::read(self, input)
     }
@@ -91,7 +115,9 @@ impl Reports {
 
     /// Reports that the list of this name has none of `what`, unless that is allowed. Returns `false` if that is to be
     /// refused. Standard input may always be empty.
-    pub fn report_empty(self, rt: &HostRuntime, name: &str, what: &str) -> bool {
+    pub fn report_empty(self, rt: &HostRuntime, name: &str, what: &str) -> bool
+        ensures { IsTrue result ↔ ((name.now ≡ standard_input) ⊎ (self.empties ≢ Refuse)) }
+    {
         if name == STANDARD_INPUT || self.empties == Empties::Allow {
             return true;
         }
@@ -112,7 +138,9 @@ pub fn read_lists<'a, L: ListReader>(
     lists: &mut L,
     names: &[&'a str],
     reports: Reports,
-) -> Result<bool, (&'a str, Unread)> {
+) -> Result<bool, (&'a str, Unread)>
+    ensures { IfOk result (λ allowed. reports.empties ≢ Refuse → IsTrue allowed) }
+{
     let mut total: usize = 0;
     let mut allowed = true;
     for name in names {

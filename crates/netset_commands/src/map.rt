@@ -1,21 +1,28 @@
 //! The command `map`: its arguments, and its runs.
+ghost use Rattle.std.specs.Prelude.{◌≡◌, ◌≤◌, ◌<◌, ◌↔◌, Bool, false, Some, None, codes, length, IsTrue, IfErr};
+ghost use Rattle.clap.specs.Matches.{found_of, first_value};
+ghost use Rattle.netset_commands.specs.Arguments.{standard_input, input_count, IsFlag};
+ghost use Rattle.netset_pictures.specs.MapAnswers.{theme_text};
+ghost use Rattle.svg_maps.specs.declared.style.Theme.{Theme};
+ghost use Rattle.svg_maps.specs.declared.style.Theme.TheVariants.{Auto};
+
 use crate::arguments::{
-    ArgumentFailure, FIRST, any_files, command_of, flag, flags_of, reads_input_twice,
+    ANY_LISTS, ArgumentFailure, FIRST, SHARED, flags_of, is_set, reads_input,
     report_argument_failure,
 };
-use crate::bar::{COMPARE, frame_of, pictured_work, with_frame};
+use crate::bar::{COMPARE, FRAME, frame_of, pictured_work};
 use crate::input::STANDARD_INPUT;
 use crate::lists::Reports;
 use crate::noted::{EntryList, NotedSession, entries_of};
 use crate::output::Writers;
 use crate::reading::{bytes_of, fill};
-use clap::{Arg, ArgMatches, Command};
+use crate::table::{ARGUMENT, Argument, Form, Subcommand};
+use clap::ArgMatches;
 use ipnet_bars::Frame;
 use ipnet_routes::RouteTable;
 use netset_entries::EntryNotes;
 use netset_lib::{Session, run_text, table_or_report};
 use netset_pictures::{ChangeMapCommand, MapCommand, MapRequest, SetsMapCommand, read_theme};
-use std::alloc::{AllocError, Global};
 use std::io::Write;
 use svg_maps::{Look, MOST_LISTS, MapEntries, Theme};
 
@@ -34,36 +41,48 @@ const NAMES: &str = "names";
 /// The values of `--theme`.
 const THEMES: &[&str] = &["auto", "light", "dark"];
 
-/// Adds the options for what a map shows beside its lists.
-#[inline(never)]
-fn with_overlay<'a>(alloc: Global, command: Command<'a>) -> Result<Command<'a>, AllocError> {
-    let free = "Outline the blocks that no list has, and say which is the largest";
-    let names = Arg::new(alloc, NAMES).long(NAMES).value_name("FILE").help(
-        "Outline the networks of FILE: each line is a network and its name; - for standard input",
-    );
-    command.arg(flag(alloc, FREE, free))?.arg(names)
-}
+/// The arguments of a map.
+const MAP_ARGUMENTS: &[Argument] = &[
+    Argument {
+        id: THEME,
+        form: Form::Choice(THEME, "THEME", THEMES),
+        help: "Choose the colours; by default auto: dark if the reader prefers dark pages",
+        ..ARGUMENT
+    },
+    Argument {
+        id: COMPARE,
+        form: Form::Flag(COMPARE),
+        help: "Show what changed between two lists; status 1 if they differ",
+        ..ARGUMENT
+    },
+    Argument {
+        id: FREE,
+        form: Form::Flag(FREE),
+        help: "Outline the blocks that no list has, and say which is the largest",
+        ..ARGUMENT
+    },
+    Argument {
+        id: NAMES,
+        form: Form::Value(NAMES, "FILE"),
+        help: "Outline the networks of FILE: each line is a network and its name; - for standard input",
+        ..ARGUMENT
+    },
+    ANY_LISTS,
+];
 
 /// The command `map`.
-#[inline(never)]
-pub fn map_command<'a>(alloc: Global) -> Result<Command<'a>, AllocError> {
-    let about =
-        "A network as a picture in SVG: what up to six lists cover, or what changed between two";
-    let compare = "Show what changed between two lists; status 1 if they differ";
-    let theme = Arg::new(alloc, THEME)
-        .long(THEME)
-        .value_name("THEME")
-        .value_parser(THEMES)
-        .help("Choose the colours; by default auto: dark if the reader prefers dark pages");
-    let map = with_frame(alloc, command_of(alloc, MAP, about)?)?
-        .arg(theme)?
-        .arg(flag(alloc, COMPARE, compare))?;
-    with_overlay(alloc, map)?.arg(any_files(alloc))
-}
+pub const MAP_COMMAND: Subcommand = Subcommand {
+    name: MAP,
+    about: "A network as a picture in SVG: what up to six lists cover, or what changed between two",
+    arguments: &[SHARED, FRAME, MAP_ARGUMENTS],
+};
 
 /// Whether the lists are too many for one map. If so, it is reported.
-fn are_too_many(rt: &HostRuntime, matches: &ArgMatches, names: &[&str]) -> bool {
-    let are_many = !matches.get_flag(COMPARE) && names.len() > MOST_LISTS;
+fn are_too_many(rt: &HostRuntime, matches: &ArgMatches, names: &[&str]) -> bool
+    ensures { (compares : Bool) × IsFlag matches.now (codes "compare") compares
+        × (IsTrue result ↔ ((compares ≡ false) × (6 < length names.now))) }
+{
+    let are_many = !is_set(matches, COMPARE) && names.len() > MOST_LISTS;
     if are_many {
         let _ = writeln!(
             rt.stderr(),
@@ -74,13 +93,10 @@ fn are_too_many(rt: &HostRuntime, matches: &ArgMatches, names: &[&str]) -> bool 
 }
 
 /// Whether the file and one of the lists are standard input.
-fn reads_input_again(file: &str, names: &[&str]) -> bool {
-    for name in names {
-        if reads_input_twice(&[file, *name]) {
-            return true;
-        }
-    }
-    false
+fn reads_input_again(file: &str, names: &[&str]) -> bool
+    ensures { IsTrue result ↔ ((file.now ≡ standard_input) × (0 < input_count names.now)) }
+{
+    file == STANDARD_INPUT && reads_input(names)
 }
 
 /// Reads the bytes of the list of names; there are none if no such list is named. If that fails, or if a list of these
@@ -90,7 +106,9 @@ fn name_bytes(
     matches: &ArgMatches,
     names: &[&str],
     reports: Reports,
-) -> Result<Vec<u8>, u8> {
+) -> Result<Vec<u8>, u8>
+    ensures { IfErr result (λ status. status ≡ 2) }
+{
     let Some(file) = matches.get_str(NAMES) else {
         return Ok(Vec::new(rt.alloc()));
     };
@@ -101,10 +119,16 @@ fn name_bytes(
 }
 
 /// The colours that the arguments name.
-fn theme_of(matches: &ArgMatches) -> Theme {
-    // the value is one of THEMES, if there is one
-    let theme = matches.get_str(THEME).and_then(read_theme);
-    theme.unwrap_or(Theme::Auto)
+fn theme_of(matches: &ArgMatches) -> Theme
+    ensures given { (theme : Theme)
+        → first_value (found_of matches.now) (codes "theme") ≡ Some (theme_text theme) → result ≡ theme }
+    ensures absent { first_value (found_of matches.now) (codes "theme") ≡ None → result ≡ Auto }
+{
+    match matches.get_str(THEME) {
+        // the value is one of THEMES
+        Some(word) => read_theme(word).unwrap_or(Theme::Auto),
+        None => Theme::Auto,
+    }
 }
 
 /// Reads the lists of these names, and notes the largest entries of each. If that fails, it is reported, and the error
@@ -115,7 +139,9 @@ fn read_noted(
     names: &[&str],
     frame: Frame,
     reports: Reports,
-) -> Result<(Session, Vec<EntryNotes>), u8> {
+) -> Result<(Session, Vec<EntryNotes>), u8>
+    ensures { IfErr result (λ status. status ≡ 2) }
+{
     let work = pictured_work(rt, matches, names)?;
     let frame = match frame {
         Frame::Named(network) => Some(network),
@@ -143,7 +169,9 @@ fn draw(
     names: &[&str],
     compares: bool,
     writers: &mut Writers<'_>,
-) -> u8 {
+) -> u8
+    ensures { result ≤ 2 }
+{
     let out = &mut writers.answer;
     let faults = &mut writers.faults;
     if compares {
@@ -167,7 +195,9 @@ fn draw_lists(
     names: &[&str],
     request: MapRequest<'_>,
     writers: &mut Writers<'_>,
-) -> u8 {
+) -> u8
+    ensures { result ≤ 2 }
+{
     let (session, notes) = match read_noted(rt, matches, names, request.frame, writers.reports) {
         Ok(noted) => noted,
         Err(status) => return status,
@@ -195,7 +225,9 @@ fn draw_table(
     frame: Frame,
     table: &RouteTable<&str>,
     writers: &mut Writers<'_>,
-) -> u8 {
+) -> u8
+    ensures { result ≤ 2 }
+{
     let look = Look {
         theme: theme_of(matches),
         shows_free: matches.get_flag(FREE),
@@ -218,7 +250,9 @@ fn draw_named(
     frame: Frame,
     bytes: &[u8],
     writers: &mut Writers<'_>,
-) -> u8 {
+) -> u8
+    ensures { result ≤ 2 }
+{
     let file = matches.get_str(NAMES).unwrap_or(STANDARD_INPUT);
     let grammar = flags_of(matches).grammar();
     match table_or_report(rt.alloc(), bytes, grammar, file, &mut writers.faults) {
@@ -229,7 +263,9 @@ fn draw_named(
 
 /// Reads the arguments and the lists, prints the map, and returns the exit status.
 #[inline(never)]
-pub fn mapped(rt: &HostRuntime, matches: &ArgMatches, writers: &mut Writers<'_>) -> u8 {
+pub fn draw_map(rt: &HostRuntime, matches: &ArgMatches, writers: &mut Writers<'_>) -> u8
+    ensures { result ≤ 2 }
+{
     let frame = match frame_of(rt, matches) {
         Ok(frame) => frame,
         Err(status) => return status,

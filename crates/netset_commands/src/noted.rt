@@ -1,4 +1,8 @@
 //! The lists of a map: a session that notes the largest entries of each list while it reads them.
+ghost use Rattle.std.specs.Prelude.{◌≡◌, ◌≤◌, ◌↔◌, ◌<◌, ◌++◌, codes, length, string_bytes, IsTrue, IfOk, OnOk};
+ghost use Rattle.netset_commands.specs.MapTitles.{listed_title, longer_title, longer_count, is_v4, AreFew, AreFirst};
+ghost use Rattle.netset_commands.specs.MapTitles.{each_once, ends_with, networks_of};
+
 use crate::lists::ListReader;
 use ipnet::{Grammar, IpNet};
 use ipnet_lists::ReadFailure;
@@ -49,6 +53,12 @@ impl<R: Read> Read for NotedInput<'_, R> {
 }
 
 impl ListReader for NotedSession {
+    ghost use Rattle.netset_lib.specs.Sessions.{has_entry, refused_count};
+
+    ghost refused = { λ noted. refused_count noted.session };
+
+    ghost holds = { λ noted. has_entry noted.session };
+
     fn read<R: Read>(&mut self, input: &mut R) -> Result<(), ReadFailure> {
         let Ok(notes) = EntryNotes::new(self.alloc, self.grammar, self.frame) else {
             return Err(ReadFailure::Memory);
@@ -83,16 +93,31 @@ pub struct EntryList {
     pub count: usize,
 }
 
+/// The text of an entry after the name of its list.
+fn title_after(alloc: Global, name: &str, title: &str) -> Result<String, AllocError>
+    ensures { IfOk result (λ text. string_bytes text ≡ name.now ++ codes ": " ++ title.now) }
+{
+    let mut text = String::from_str(alloc, name)?;
+    text.push_str(": ")?;
+    text.push_str(title)?;
+    Ok(text)
+}
+
 /// The text of an entry of the list at this place; after the name of the list, if there are several.
 fn listed_title(
     alloc: Global,
     names: &[&str],
     place: usize,
     title: String,
-) -> Result<String, AllocError> {
+) -> Result<String, AllocError>
+    ensures { IfOk result (λ text. string_bytes text ≡ listed_title names.now place (string_bytes title)) }
+{
+    if names.len() <= 1 {
+        return Ok(title);
+    }
     match names.get(place) {
-        Some(name) if names.len() > 1 => format!(in alloc; "{name}: {title}"),
-        _ => Ok(title),
+        Some(name) => title_after(alloc, name, title.as_str()),
+        None => Ok(title),
     }
 }
 
@@ -120,7 +145,10 @@ fn all_entries(
 
 /// Adds the text of another entry of the network, if neither the title nor all that was added is too long. Returns how
 /// many bytes were added to all titles by then.
-fn push_title(title: &mut String, other: &str, added: usize) -> Result<usize, AllocError> {
+fn push_title(title: &mut String, other: &str, added: usize) -> Result<usize, AllocError>
+    ensures title { OnOk result (string_bytes title.new ≡ longer_title (string_bytes title.old) other.now added) }
+    ensures count { IfOk result (λ count. count ≡ longer_count (string_bytes title.old) other.now added) }
+{
     if title.len() >= MOST_BYTES || added >= MOST_ADDED {
         return Ok(added);
     }
@@ -129,14 +157,36 @@ fn push_title(title: &mut String, other: &str, added: usize) -> Result<usize, Al
     Ok(added.saturating_add(other.len()))
 }
 
+/// Whether the last of the entries is of this network.
+fn ends_with(entries: &[MapEntry], network: &IpNet) -> bool
+    ensures { result ≡ ends_with (networks_of entries.now) network.now }
+{
+    match entries.last() {
+        Some(entry) => *network == entry.network,
+        None => false,
+    }
+}
+
+/// Adds the text of another entry to the title of the last of the entries, as `push_title` does.
+fn push_last(entries: &mut [MapEntry], other: &str, added: usize) -> Result<usize, AllocError>
+    ensures { OnOk result (networks_of entries.new ≡ networks_of entries.old) }
+{
+    let count = entries.len();
+    if count == 0 {
+        return Ok(added);
+    }
+    push_title(&mut entries[count - 1].title, other, added)
+}
+
 /// Joins the texts of entries that have one network and come one after the other.
-fn join_titles(alloc: Global, entries: Vec<MapEntry>) -> Result<Vec<MapEntry>, AllocError> {
+fn join_titles(alloc: Global, entries: Vec<MapEntry>) -> Result<Vec<MapEntry>, AllocError>
+    ensures { IfOk result (λ joined. networks_of joined.items ≡ each_once (networks_of entries.items)) }
+{
     let mut joined: Vec<MapEntry> = Vec::new(alloc);
     let mut added: usize = 0;
     for entry in entries {
-        let count = joined.len();
-        if count > 0 && joined[count - 1].network == entry.network {
-            added = push_title(&mut joined[count - 1].title, entry.title.as_str(), added)?;
+        if ends_with(joined.as_slice(), &entry.network) {
+            added = push_last(joined.as_mut_slice(), entry.title.as_str(), added)?;
         } else {
             joined.push(entry)?;
         }
@@ -144,23 +194,32 @@ fn join_titles(alloc: Global, entries: Vec<MapEntry>) -> Result<Vec<MapEntry>, A
     Ok(joined)
 }
 
+/// Whether the network is of IPv4.
+fn is_ipv4(network: &IpNet) -> bool
+    ensures { result ≡ is_v4 network.now }
+{
+    match network {
+        IpNet::V4(_) => true,
+        IpNet::V6(_) => false,
+    }
+}
+
 /// The first of the entries of each family, as many as a map has.
-fn first_entries(alloc: Global, entries: Vec<MapEntry>) -> Result<Vec<MapEntry>, AllocError> {
+fn first_entries(alloc: Global, entries: Vec<MapEntry>) -> Result<Vec<MapEntry>, AllocError>
+    ensures first { IfOk result (λ first. AreFirst entries.items first.items) }
+    ensures few { IfOk result (λ first. AreFew first.items) }
+{
     let mut first = Vec::new(alloc);
     let mut ipv4: usize = 0;
     let mut ipv6: usize = 0;
     for entry in entries {
-        let count = match entry.network {
-            IpNet::V4(_) => {
-                ipv4 = ipv4.saturating_add(1);
-                ipv4
+        if is_ipv4(&entry.network) {
+            if ipv4 < MOST {
+                ipv4 += 1;
+                first.push(entry)?;
             }
-            IpNet::V6(_) => {
-                ipv6 = ipv6.saturating_add(1);
-                ipv6
-            }
-        };
-        if count <= MOST {
+        } else if ipv6 < MOST {
+            ipv6 += 1;
             first.push(entry)?;
         }
     }
@@ -173,7 +232,9 @@ pub fn entries_of(
     alloc: Global,
     lists: Vec<EntryNotes>,
     names: &[&str],
-) -> Result<EntryList, AllocError> {
+) -> Result<EntryList, AllocError>
+    ensures { IfOk result (λ list. AreFew list.entries.items) }
+{
     let mut count: usize = 0;
     for notes in lists.as_slice() {
         count = count.saturating_add(notes.count());

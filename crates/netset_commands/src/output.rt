@@ -1,5 +1,6 @@
 //! The output of a command: standard output, or a file that only a whole answer replaces.
-ghost use Rattle.std.specs.Prelude.{IsTrue};
+ghost use Rattle.std.specs.Prelude.{◌≤◌, IsTrue};
+ghost use Rattle.netset_commands.specs.Statuses.{IsExitStatus};
 
 use crate::lists::Reports;
 use crate::replacement::{OutputFailure, Replacement};
@@ -39,9 +40,9 @@ impl Ends {
     }
 }
 
-/// The place to which the answer is written.
+/// A destination of the answer.
 #[derive(Drop)]
-enum Place<'a> {
+enum Destination<'a> {
     Standard(Stdout),
     File(Replacement<'a>),
 }
@@ -49,7 +50,7 @@ enum Place<'a> {
 /// A writer for the answer of a command.
 #[derive(Drop)]
 pub struct Answer<'a> {
-    place: Place<'a>,
+    destination: Destination<'a>,
     is_published: bool,
     ends: &'a Ends,
 }
@@ -58,15 +59,15 @@ impl Answer<'_> {
     /// Notes that a write failed: that the reader of standard output has closed it, or reports that the file cannot be
     /// written. Nothing more is reported then.
     fn note(&self, error: &io::Error) {
-        match &self.place {
-            Place::Standard(_) if error.kind() == ErrorKind::BrokenPipe => self
+        match &self.destination {
+            Destination::Standard(_) if error.kind() == ErrorKind::BrokenPipe => self
                 .ends
                 .closed
                 .set(true),
-            Place::Standard(_) => {}
-            Place::File(_) if error.kind() == ErrorKind::Interrupted || self.ends.reported.get() =>
-                {}
-            Place::File(file) => {
+            Destination::Standard(_) => {}
+            Destination::File(_)
+                if error.kind() == ErrorKind::Interrupted || self.ends.reported.get() => {}
+            Destination::File(file) => {
                 file.report("cannot be written", error);
                 self.ends.reported.set(true);
             }
@@ -76,9 +77,9 @@ impl Answer<'_> {
 
 impl Write for Answer<'_> {
     fn write(&mut self, buf: &[u8]) -> io::Result<usize> {
-        let written = match &mut self.place {
-            Place::Standard(out) => out.write(buf),
-            Place::File(file) => file.write(buf),
+        let written = match &mut self.destination {
+            Destination::Standard(out) => out.write(buf),
+            Destination::File(file) => file.write(buf),
         };
         match written {
             Ok(count) => Ok(count),
@@ -90,9 +91,9 @@ impl Write for Answer<'_> {
     }
 
     fn flush(&mut self) -> io::Result<()> {
-        match &mut self.place {
-            Place::Standard(out) => out.flush(),
-            Place::File(file) => file.flush(),
+        match &mut self.destination {
+            Destination::Standard(out) => out.flush(),
+            Destination::File(file) => file.flush(),
         }
     }
 }
@@ -100,9 +101,9 @@ impl Write for Answer<'_> {
 impl Answer<'_> {
     /// Returns whether the answer is written to a terminal.
     pub fn is_terminal(&self) -> bool {
-        match &self.place {
-            Place::Standard(out) => out.is_terminal(),
-            Place::File(_) => false,
+        match &self.destination {
+            Destination::Standard(out) => out.is_terminal(),
+            Destination::File(_) => false,
         }
     }
 }
@@ -120,11 +121,14 @@ impl Output for Answer<'_> {
     ghost is_published = { λ s. IsTrue s.is_published };
 
     fn publish(&mut self) -> io::Result<()> {
-        let result = match &self.place {
-            Place::Standard(_) => Ok(()),
-            Place::File(file) => replace_file(file, self.ends),
+        let result = match &mut self.destination {
+            Destination::Standard(out) => out.flush(),
+            Destination::File(file) => replace_file(file, self.ends),
         };
         self.is_published = result.is_ok();
+        if let Err(error) = &result {
+            self.note(error);
+        }
         result
     }
 }
@@ -168,12 +172,14 @@ impl<'a> Writers<'a> {
         reports: Reports,
         ends: &'a Ends,
     ) -> Result<Writers<'a>, OutputFailure> {
-        let place = match name {
-            Some(name) if name != STANDARD_OUTPUT => Place::File(Replacement::open(rt, name)?),
-            _ => Place::Standard(rt.stdout()),
+        let destination = match name {
+            Some(name) if name != STANDARD_OUTPUT => Destination::File(Replacement::open(
+                rt, name,
+            )?),
+            _ => Destination::Standard(rt.stdout()),
         };
         let answer = Answer {
-            place,
+            destination,
             is_published: false,
             ends,
         };
@@ -188,14 +194,16 @@ impl<'a> Writers<'a> {
     /// Ends a command with this status, and returns the exit status of the program. The file is replaced at status 0
     /// or 1; otherwise it stays as it is.
     #[inline(never)]
-    pub fn end(self, status: u8) -> u8 {
+    pub fn end(self, status: u8) -> u8
+        ensures { status ≤ 2 → IsExitStatus result }
+    {
         let Writers {
             mut answer,
             mut faults,
             ..
         } = self;
         let status = finish(status, &mut answer, &mut faults);
-        if let Place::File(file) = &answer.place {
+        if let Destination::File(file) = &answer.destination {
             if !answer.is_published {
                 file.discard();
             }

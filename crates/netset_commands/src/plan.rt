@@ -1,13 +1,21 @@
 //! The command `plan`: its arguments, and its run.
-use crate::arguments::{ArgumentFailure, FIRST, command_of, first, flag, report_argument_failure};
-use crate::bar::{BAR, bar_form_of, with_plan_bar};
+ghost use Rattle.std.specs.Prelude.{◌≡◌, ◌≤◌, IfErr, IfOk};
+ghost use Rattle.netset_commands.specs.Calls.{AreFlags};
+ghost use Rattle.netset_commands.specs.Words.{AreLengths};
+ghost use Rattle.netset_lib.specs.Commands.{families_of};
+ghost use Rattle.netset_lib.specs.declared.command.Flags.{Flags};
+
+use crate::arguments::{
+    ArgumentFailure, FIRST, FIRST_LIST, SHARED, flags_of, name_of_list, report_argument_failure,
+};
+use crate::bar::{BAR, PLAN_BAR, bar_form_of};
 use crate::output::Writers;
 use crate::reading::{reading_work, session_of};
-use clap::{Arg, ArgAction, ArgMatches, Command};
+use crate::table::{ARGUMENT, Argument, Form, Subcommand};
+use clap::ArgMatches;
 use ipnet_bars::BarForm;
-use netset_lib::{PlanCommand, PlanRequest, families, read_length, run_text};
+use netset_lib::{Families, PlanCommand, PlanRequest, families, read_length, run_text};
 use netset_pictures::{PlanBarCommand, PlanBarRequest};
-use std::alloc::{AllocError, Global};
 use std::io::Write;
 
 /// The name of the command.
@@ -16,38 +24,58 @@ pub const PLAN: &str = "plan";
 /// The id of the prefix lengths.
 const LENGTHS: &str = "lengths";
 
-/// Adds the list and the prefix lengths of `plan`.
-#[inline(never)]
-fn with_networks<'a>(alloc: Global, command: Command<'a>) -> Result<Command<'a>, AllocError> {
-    let free = first(
-        alloc,
-        "FREE",
-        "The list of the free addresses, - for standard input",
-    );
-    let lengths = Arg::new(alloc, LENGTHS)
-        .value_name("LEN")
-        .required(true)
-        .num_args(1..)
-        .action(ArgAction::Append)
-        .help("The prefix lengths, such as 24 or /24, one for each network");
-    command.arg(free)?.arg(lengths)
-}
+/// The flags for the families.
+const FAMILIES: &[Argument] = &[
+    Argument {
+        id: "ipv4",
+        form: Form::Flag("ipv4"),
+        help: "Plan IPv4 networks; by default, the only family of the list",
+        ..ARGUMENT
+    },
+    Argument {
+        id: "ipv6",
+        form: Form::Flag("ipv6"),
+        help: "Plan IPv6 networks",
+        ..ARGUMENT
+    },
+];
+
+/// The list and the prefix lengths.
+const FREE_AND_LENGTHS: &[Argument] = &[
+    Argument {
+        form: Form::Word("FREE"),
+        help: "The list of the free addresses, - for standard input",
+        ..FIRST_LIST
+    },
+    Argument {
+        id: LENGTHS,
+        form: Form::Words("LEN"),
+        help: "The prefix lengths, such as 24 or /24, one for each network",
+        is_required: true,
+        ..ARGUMENT
+    },
+];
 
 /// The command `plan`.
-#[inline(never)]
-pub fn plan_command<'a>(alloc: Global) -> Result<Command<'a>, AllocError> {
-    let about =
-        "Networks of these prefix lengths inside FREE that share no address; status 1 if none exist";
-    let ipv4 = "Plan IPv4 networks; by default, the only family of the list";
-    let ipv6 = "Plan IPv6 networks";
-    let command = command_of(alloc, PLAN, about)?
-        .arg(flag(alloc, "ipv4", ipv4))?
-        .arg(flag(alloc, "ipv6", ipv6))?;
-    with_networks(alloc, with_plan_bar(alloc, command)?)
+pub const PLAN_COMMAND: Subcommand = Subcommand {
+    name: PLAN,
+    about: "Networks of these prefix lengths inside FREE that share no address; status 1 if none exist",
+    arguments: &[SHARED, FAMILIES, PLAN_BAR, FREE_AND_LENGTHS],
+};
+
+/// The families of the networks, by the flags `--ipv4` and `--ipv6`.
+fn families_of(matches: &ArgMatches) -> Families
+    ensures { (flags : Flags) × AreFlags matches.now flags × (result ≡ families_of flags.ipv4 flags.ipv6) }
+{
+    let flags = flags_of(matches);
+    families(flags.ipv4, flags.ipv6)
 }
 
 /// Reads the prefix lengths. If a word is not one, it is reported, and the error is the exit status.
-fn lengths_of(rt: &HostRuntime, words: &[&str]) -> Result<Vec<u8>, u8> {
+fn lengths_of(rt: &HostRuntime, words: &[&str]) -> Result<Vec<u8>, u8>
+    ensures lengths { IfOk result (λ lengths. AreLengths words.now lengths.items) }
+    ensures failed { IfErr result (λ status. status ≡ 2) }
+{
     let mut lengths = Vec::new(rt.alloc());
     for word in words {
         let Some(length) = read_length(word) else {
@@ -67,7 +95,9 @@ fn bar_of(
     rt: &HostRuntime,
     matches: &ArgMatches,
     writers: &Writers<'_>,
-) -> Result<Option<BarForm>, u8> {
+) -> Result<Option<BarForm>, u8>
+    ensures { IfErr result (λ status. status ≡ 2) }
+{
     if !matches.get_flag(BAR) {
         return Ok(None);
     }
@@ -76,7 +106,9 @@ fn bar_of(
 
 /// Reads the arguments and the list, prints the plan or its bar, and returns the exit status.
 #[inline(never)]
-pub fn planned(rt: &HostRuntime, matches: &ArgMatches, writers: &mut Writers<'_>) -> u8 {
+pub fn plan_networks(rt: &HostRuntime, matches: &ArgMatches, writers: &mut Writers<'_>) -> u8
+    ensures { result ≤ 2 }
+{
     let words = matches.get_strs(LENGTHS).unwrap_or(&[]);
     let lengths = match lengths_of(rt, words) {
         Ok(lengths) => lengths,
@@ -86,25 +118,25 @@ pub fn planned(rt: &HostRuntime, matches: &ArgMatches, writers: &mut Writers<'_>
         Ok(bar) => bar,
         Err(status) => return status,
     };
-    let names = matches.get_strs(FIRST).unwrap_or(&[]);
-    let session = match session_of(rt, reading_work(matches), names, writers.reports) {
+    let names = [name_of_list(matches, FIRST)];
+    let session = match session_of(rt, reading_work(matches), &names, writers.reports) {
         Ok(session) => session,
         Err(status) => return status,
     };
     let request = PlanRequest {
-        families: families(matches.get_flag("ipv4"), matches.get_flag("ipv6")),
+        families: families_of(matches),
         lengths: lengths.as_slice(),
     };
     let out = &mut writers.answer;
     let faults = &mut writers.faults;
     match bar {
-        None => run_text(PlanCommand { session, request }, names, out, faults),
+        None => run_text(PlanCommand { session, request }, &names, out, faults),
         Some(form) => {
             let request = PlanBarRequest {
                 plan: request,
                 form,
             };
-            run_text(PlanBarCommand { session, request }, names, out, faults)
+            run_text(PlanBarCommand { session, request }, &names, out, faults)
         }
     }
 }

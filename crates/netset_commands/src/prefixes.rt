@@ -1,45 +1,51 @@
 //! The command `prefix-list`: its arguments, and its run.
-use crate::arguments::{
-    ArgumentFailure, FIRST, OTHERS, command_of, first, flags_of, other, reads_input_twice,
-    report_argument_failure,
-};
-use crate::input::STANDARD_INPUT;
+ghost use Rattle.std.specs.Prelude.{◌≤◌};
+
+use crate::arguments::{FIRST_LIST, OTHER_LIST, SHARED, flags_of, two_or_report};
 use crate::output::Writers;
 use crate::reading::bytes_of;
-use clap::{ArgMatches, Command};
+use crate::table::{Argument, Form, Subcommand};
+use clap::ArgMatches;
 use netset_lib::{PrefixListCommand, run_text};
-use std::alloc::{AllocError, Global};
 
 /// The name of the command.
 pub const PREFIX_LIST: &str = "prefix-list";
 
 /// The command `prefix-list`.
-#[inline(never)]
-pub fn prefix_command<'a>(alloc: Global) -> Result<Command<'a>, AllocError> {
-    let about =
-        "For each network of FILE, permit or deny by the prefix list PREFIXES; status 1 if any is denied";
-    let prefixes = first(alloc, "PREFIXES", "The prefix list, - for standard input");
-    let networks = "The list of networks; standard input if it is omitted";
-    command_of(alloc, PREFIX_LIST, about)?
-        .arg(prefixes)?
-        .arg(other(alloc, networks).required(false))
-}
+pub const PREFIX_COMMAND: Subcommand = Subcommand {
+    name: PREFIX_LIST,
+    about: "For each network of FILE, permit or deny by the prefix list PREFIXES; status 1 if any is denied",
+    arguments: &[
+        SHARED,
+        &[
+            Argument {
+                form: Form::Word("PREFIXES"),
+                help: "The prefix list, - for standard input",
+                ..FIRST_LIST
+            },
+            Argument {
+                help: "The list of networks; standard input if it is omitted",
+                is_required: false,
+                ..OTHER_LIST
+            },
+        ],
+    ],
+};
 
 /// Reads the arguments and both lists, prints the verdicts, and returns the exit status.
 #[inline(never)]
-pub fn matched(rt: &HostRuntime, matches: &ArgMatches, writers: &mut Writers<'_>) -> u8 {
-    let Some(list) = matches.get_str(FIRST) else {
-        return report_argument_failure(rt, ArgumentFailure::NoCommand);
+pub fn judge_networks(rt: &HostRuntime, matches: &ArgMatches, writers: &mut Writers<'_>) -> u8
+    ensures { result ≤ 2 }
+{
+    let names = match two_or_report(rt, matches) {
+        Ok(names) => names.in_order(),
+        Err(status) => return status,
     };
-    let file = matches.get_str(OTHERS).unwrap_or(STANDARD_INPUT);
-    if reads_input_twice(&[list, file]) {
-        return report_argument_failure(rt, ArgumentFailure::InputTwice);
-    }
-    let prefixes = match bytes_of(rt, list, "rules", writers.reports) {
+    let prefixes = match bytes_of(rt, names[0], "rules", writers.reports) {
         Ok(bytes) => bytes,
         Err(status) => return status,
     };
-    let networks = match bytes_of(rt, file, "entries", writers.reports) {
+    let networks = match bytes_of(rt, names[1], "entries", writers.reports) {
         Ok(bytes) => bytes,
         Err(status) => return status,
     };
@@ -50,5 +56,5 @@ pub fn matched(rt: &HostRuntime, matches: &ArgMatches, writers: &mut Writers<'_>
         grammar: flags_of(matches).grammar(),
     };
     let (out, faults) = (&mut writers.answer, &mut writers.faults);
-    run_text(command, &[list, file], out, faults)
+    run_text(command, &names, out, faults)
 }

@@ -1,35 +1,42 @@
 //! A run of the program: its arguments, its output and its command.
+ghost use Rattle.std.specs.Prelude.{◌≤◌};
+ghost use Rattle.netset_commands.specs.Statuses.{IsExitStatus};
 
-use crate::apply::{APPLY, applied};
+use crate::apply::{APPLY, apply_changes};
 use crate::arguments::{
     ArgumentFailure, Call, OUTPUT, call_of, escaped, report_argument_failure, reports_of, words,
 };
-use crate::bar::{BAR, drawn};
-use crate::changes::{CHANGES, changed};
+use crate::bar::{BAR, draw_bar};
+use crate::changes::{CHANGES, print_changes};
 use crate::commands::{
     COMPARE, COMPLEMENT, COUNT, DIFFERENCE, FILTER, INTERSECTION, ROUTE, SYMMETRIC_DIFFERENCE,
     UNION, matches_of,
 };
-use crate::entries::{OVERLAPS, REDUNDANT, SUPERNET, overlaps, redundant, supernet};
-use crate::extract::{EXTRACT, extracted};
+use crate::entries::{
+    OVERLAPS, REDUNDANT, SUPERNET, print_overlaps, print_redundant, print_supernet,
+};
+use crate::extract::{EXTRACT, extract_entries};
+use crate::fit::{FIT, fit_lists};
 use crate::forms::form_of;
-use crate::lines::{LINES, filtered};
-use crate::listing::{HOSTS, SPLIT, hosts, split};
-use crate::map::{MAP, mapped};
+use crate::listing::{HOSTS, SPLIT, list_hosts, list_subnets};
+use crate::map::{MAP, draw_map};
 use crate::output::{CLOSED, Ends, Writers};
-use crate::plan::{PLAN, planned};
-use crate::prefixes::{PREFIX_LIST, matched};
+use crate::plan::{PLAN, plan_networks};
+use crate::prefixes::{PREFIX_LIST, judge_networks};
 use crate::reading::session_of;
-use crate::rules::{PERMITTED, UNREACHED, permitted, unreached};
+use crate::rules::{PERMITTED, UNREACHED, print_permitted, print_unreached};
 use crate::stream::stream_list;
-use crate::texts::{has_text_flag, routed};
+use crate::texts::{has_text_flag, route_with_text};
+use crate::whole_lines::{LINES, filter_lines};
 use clap::ArgMatches;
 use netset_forms::FormCommand;
 use netset_lib::{AnswerCommand, Work, run_text};
 use std::io::{ErrorKind, Write};
 
 /// Runs the program that prints this version of itself, and returns its exit status.
-pub fn run(rt: &HostRuntime, version: &'static str) -> u8 {
+pub fn run(rt: &HostRuntime, version: &'static str) -> u8
+    ensures { IsExitStatus result }
+{
     let words = match words(rt) {
         Ok(words) => words,
         Err(status) => return status,
@@ -47,12 +54,9 @@ pub fn run(rt: &HostRuntime, version: &'static str) -> u8 {
 /// Prints what is wrong with these words, and returns the status. Their bytes are escaped, as in names: the words are
 /// escaped, and then parsed again.
 #[inline(never)]
-fn print_fault(
-    rt: &HostRuntime,
-    error: &clap::Error,
-    words: &[String],
-    version: &'static str,
-) -> u8 {
+fn print_fault(rt: &HostRuntime, error: &clap::Error, words: &[String], version: &'static str) -> u8
+    ensures { IsExitStatus result }
+{
     if let Ok(shown) = escaped(rt.alloc(), words) {
         if let Err(fault) = matches_of(rt.alloc(), shown.as_slice(), version) {
             return print_usage(rt, &fault);
@@ -62,7 +66,9 @@ fn print_fault(
 }
 
 /// Prints help, the version or what is wrong with the arguments, and returns the status.
-fn print_usage(rt: &HostRuntime, error: &clap::Error) -> u8 {
+fn print_usage(rt: &HostRuntime, error: &clap::Error) -> u8
+    ensures { IsExitStatus result }
+{
     let result = error.print(rt);
     if error.use_stderr() {
         return 2;
@@ -79,7 +85,9 @@ fn print_usage(rt: &HostRuntime, error: &clap::Error) -> u8 {
 
 /// Opens the output, runs the command of this name, and returns its exit status.
 #[inline(never)]
-fn open_and_run(rt: &HostRuntime, name: &str, matches: &ArgMatches) -> u8 {
+fn open_and_run(rt: &HostRuntime, name: &str, matches: &ArgMatches) -> u8
+    ensures { IsExitStatus result }
+{
     let file = matches.get_str(OUTPUT);
     let ends = Ends::new();
     let mut writers = match Writers::open(rt, file, reports_of(matches), &ends) {
@@ -96,41 +104,41 @@ fn open_and_run(rt: &HostRuntime, name: &str, matches: &ArgMatches) -> u8 {
 
 /// Runs the command of this name, and returns its status.
 #[inline(never)]
-fn run_command(
-    rt: &HostRuntime,
-    name: &str,
-    matches: &ArgMatches,
-    writers: &mut Writers<'_>,
-) -> u8 {
+fn run_command(rt: &HostRuntime, name: &str, matches: &ArgMatches, writers: &mut Writers<'_>) -> u8
+    ensures { result ≤ 2 }
+{
     match name {
         UNION | INTERSECTION | DIFFERENCE | SYMMETRIC_DIFFERENCE | COMPLEMENT | COUNT | COMPARE => {
             run_call(rt, name, matches, writers)
         }
-        CHANGES => changed(rt, matches, writers),
-        APPLY => applied(rt, matches, writers),
-        EXTRACT => extracted(rt, matches, writers),
+        CHANGES => print_changes(rt, matches, writers),
+        APPLY => apply_changes(rt, matches, writers),
+        EXTRACT => extract_entries(rt, matches, writers),
         FILTER => run_filter(rt, matches, writers),
         ROUTE => run_route(rt, matches, writers),
-        PLAN => planned(rt, matches, writers),
-        BAR => drawn(rt, matches, writers),
-        MAP => mapped(rt, matches, writers),
-        SUPERNET => supernet(rt, matches, writers),
-        REDUNDANT => redundant(rt, matches, writers),
-        OVERLAPS => overlaps(rt, matches, writers),
-        SPLIT => split(rt, matches, writers),
-        HOSTS => hosts(rt, matches, writers),
-        PERMITTED => permitted(rt, matches, writers),
-        UNREACHED => unreached(rt, matches, writers),
-        PREFIX_LIST => matched(rt, matches, writers),
+        PLAN => plan_networks(rt, matches, writers),
+        BAR => draw_bar(rt, matches, writers),
+        MAP => draw_map(rt, matches, writers),
+        SUPERNET => print_supernet(rt, matches, writers),
+        FIT => fit_lists(rt, matches, writers),
+        REDUNDANT => print_redundant(rt, matches, writers),
+        OVERLAPS => print_overlaps(rt, matches, writers),
+        SPLIT => list_subnets(rt, matches, writers),
+        HOSTS => list_hosts(rt, matches, writers),
+        PERMITTED => print_permitted(rt, matches, writers),
+        UNREACHED => print_unreached(rt, matches, writers),
+        PREFIX_LIST => judge_networks(rt, matches, writers),
         _ => report_argument_failure(rt, ArgumentFailure::NoCommand),
     }
 }
 
 /// Prints the lines of a text or the entries of a list, and returns the status.
 #[inline(never)]
-fn run_filter(rt: &HostRuntime, matches: &ArgMatches, writers: &mut Writers<'_>) -> u8 {
+fn run_filter(rt: &HostRuntime, matches: &ArgMatches, writers: &mut Writers<'_>) -> u8
+    ensures { result ≤ 2 }
+{
     if matches.get_flag(LINES) {
-        filtered(rt, matches, writers)
+        filter_lines(rt, matches, writers)
     } else {
         run_call(rt, FILTER, matches, writers)
     }
@@ -138,9 +146,11 @@ fn run_filter(rt: &HostRuntime, matches: &ArgMatches, writers: &mut Writers<'_>)
 
 /// Prints the routes of entries, with the texts of the table if they are asked for, and returns the status.
 #[inline(never)]
-fn run_route(rt: &HostRuntime, matches: &ArgMatches, writers: &mut Writers<'_>) -> u8 {
+fn run_route(rt: &HostRuntime, matches: &ArgMatches, writers: &mut Writers<'_>) -> u8
+    ensures { result ≤ 2 }
+{
     if has_text_flag(matches) {
-        routed(rt, matches, writers)
+        route_with_text(rt, matches, writers)
     } else {
         run_call(rt, ROUTE, matches, writers)
     }
@@ -148,7 +158,9 @@ fn run_route(rt: &HostRuntime, matches: &ArgMatches, writers: &mut Writers<'_>) 
 
 /// Reads the arguments and the lists, and runs the operation or the query.
 #[inline(never)]
-fn run_call(rt: &HostRuntime, name: &str, matches: &ArgMatches, writers: &mut Writers<'_>) -> u8 {
+fn run_call(rt: &HostRuntime, name: &str, matches: &ArgMatches, writers: &mut Writers<'_>) -> u8
+    ensures { result ≤ 2 }
+{
     let call = match call_of(rt.alloc(), name, matches) {
         Ok(call) => call,
         Err(failure) => return report_argument_failure(rt, failure),
@@ -166,7 +178,9 @@ fn run_operation(
     matches: &ArgMatches,
     call: Call<'_>,
     writers: &mut Writers<'_>,
-) -> u8 {
+) -> u8
+    ensures { result ≤ 2 }
+{
     let form = match form_of(rt, matches) {
         Ok(form) => form,
         Err(status) => return status,
@@ -183,7 +197,9 @@ fn run_operation(
 
 /// Reads the lists, prints the answer to the query, and returns the status.
 #[inline(never)]
-fn run_query(rt: &HostRuntime, call: Call<'_>, writers: &mut Writers<'_>) -> u8 {
+fn run_query(rt: &HostRuntime, call: Call<'_>, writers: &mut Writers<'_>) -> u8
+    ensures { result ≤ 2 }
+{
     let work = call.work;
     let names = call.names.as_slice();
     match names {

@@ -1,4 +1,8 @@
 //! A file that is replaced: the new bytes are written to an unfinished file beside it, which is renamed at the end.
+ghost use Rattle.std.specs.Prelude.{◌≡◌, Some, IfOk};
+ghost use Rattle.std.specs.Path.{path_bytes, path_file_name, path_parent};
+ghost use Rattle.netset_commands.specs.Files.{folder_of};
+
 use crate::leftovers::{is_at, remove_leftovers};
 use netset_lib::unfinished_name;
 use std::alloc::AllocError;
@@ -47,12 +51,22 @@ pub enum OutputFailure {
 }
 
 impl From<io::Error> for OutputFailure {
+    ghost use Rattle.std.specs.Prelude.{◌≡◌};
+    ghost use Rattle.netset_commands.specs.declared.replacement.OutputFailure.TheVariants.{System};
+
+    ghost from_gives = { λ error result. result ≡ System error };
+
     fn from(error: io::Error) -> OutputFailure {
         OutputFailure::System(error)
     }
 }
 
 impl From<AllocError> for OutputFailure {
+    ghost use Rattle.std.specs.Prelude.{◌≡◌};
+    ghost use Rattle.netset_commands.specs.declared.replacement.OutputFailure.TheVariants.{Memory};
+
+    ghost from_gives = { λ _ result. result ≡ Memory };
+
     fn from(_: AllocError) -> OutputFailure {
         OutputFailure::Memory
     }
@@ -103,7 +117,10 @@ fn find_target(rt: &HostRuntime, name: &str) -> Result<(PathBuf, Option<Metadata
 }
 
 /// Returns the name of the folder that contains the path, and the name of the path in it.
-fn folder_and_name<'a>(path: Path<'a>) -> Result<(&'a str, &'a str), OutputFailure> {
+fn folder_and_name<'a>(path: Path<'a>) -> Result<(&'a str, &'a str), OutputFailure>
+    ensures folder { IfOk result (λ found. found.0.now ≡ folder_of (path_parent (path_bytes path.entry))) }
+    ensures name { IfOk result (λ found. path_file_name (path_bytes path.entry) ≡ Some found.1.now) }
+{
     let folder = match path.parent() {
         Some(parent) if parent.as_str() != "" => parent.as_str(),
         _ => ".",

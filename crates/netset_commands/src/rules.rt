@@ -1,16 +1,17 @@
 //! The commands that read a list of rules.
+ghost use Rattle.std.specs.Prelude.{◌≡◌, ◌≤◌, IfErr};
 ghost use Rattle.netset_commands.specs.Arguments.{IsDefault};
 
-use crate::arguments::{FIRST, command_of, first, flags_of};
-use crate::forms::{form_of, operation_command};
-use crate::input::{STANDARD_INPUT, report_unread};
+use crate::arguments::{FIRST, SHARED, flags_of, name_of_list};
+use crate::forms::{ANSWER_FORM, form_of};
+use crate::input::report_unread;
 use crate::lists::{Reports, read_rules};
 use crate::output::Writers;
-use clap::{Arg, ArgMatches, Command};
+use crate::table::{ARGUMENT, Argument, Form, Subcommand};
+use clap::ArgMatches;
 use ipnet_rules::Action;
 use netset_forms::PermittedCommand;
 use netset_lib::{RuleList, UnreachedCommand, run, run_text};
-use std::alloc::{AllocError, Global};
 
 /// The names of the two commands.
 pub const PERMITTED: &str = "permitted";
@@ -25,34 +26,39 @@ const PERMIT: &str = "permit";
 const ACTIONS: &[&str] = &[PERMIT, "deny"];
 
 /// The list of rules.
-fn rules_file<'a>(alloc: Global) -> Arg<'a> {
-    let help = "The list of rules, - for standard input; standard input if it is omitted";
-    first(alloc, "RULES", help).required(false)
-}
+const RULES: Argument = Argument {
+    id: FIRST,
+    form: Form::Word("RULES"),
+    help: "The list of rules, - for standard input; standard input if it is omitted",
+    ..ARGUMENT
+};
 
 /// The command `permitted`.
-#[inline(never)]
-pub fn permitted_command<'a>(alloc: Global) -> Result<Command<'a>, AllocError> {
-    let about = "The addresses whose first matching rule in RULES permits them";
-    let default = "What happens to the addresses that no rule matches";
-    let default = Arg::new(alloc, DEFAULT)
-        .long(DEFAULT)
-        .value_name("ACTION")
-        .value_parser(ACTIONS)
-        .default_value("deny")
-        .help(default);
-    operation_command(alloc, PERMITTED, about)?
-        .arg(default)?
-        .arg(rules_file(alloc))
-}
+pub const PERMITTED_COMMAND: Subcommand = Subcommand {
+    name: PERMITTED,
+    about: "The addresses whose first matching rule in RULES permits them",
+    arguments: &[
+        SHARED,
+        ANSWER_FORM,
+        &[
+            Argument {
+                id: DEFAULT,
+                form: Form::Choice(DEFAULT, "ACTION", ACTIONS),
+                help: "What happens to the addresses that no rule matches",
+                default: Some("deny"),
+                ..ARGUMENT
+            },
+            RULES,
+        ],
+    ],
+};
 
 /// The command `unreached`.
-#[inline(never)]
-pub fn unreached_command<'a>(alloc: Global) -> Result<Command<'a>, AllocError> {
-    let about =
-        "The rules of RULES that decide on no address, and the rules that do; status 1 if any";
-    command_of(alloc, UNREACHED, about)?.arg(rules_file(alloc))
-}
+pub const UNREACHED_COMMAND: Subcommand = Subcommand {
+    name: UNREACHED,
+    about: "The rules of RULES that decide on no address, and the rules that do; status 1 if any",
+    arguments: &[SHARED, &[RULES]],
+};
 
 /// Returns what happens to the addresses that no rule matches.
 fn default_of(matches: &ArgMatches) -> Action
@@ -65,14 +71,11 @@ fn default_of(matches: &ArgMatches) -> Action
     }
 }
 
-/// The name of the list of rules.
-fn file_of<'a>(matches: &ArgMatches<'a>) -> &'a str {
-    matches.get_str(FIRST).unwrap_or(STANDARD_INPUT)
-}
-
 /// Reads the list of rules. If that fails, it is reported, and the error is the exit status.
-fn rules_of(rt: &HostRuntime, matches: &ArgMatches, reports: Reports) -> Result<RuleList, u8> {
-    let file = file_of(matches);
+fn rules_of(rt: &HostRuntime, matches: &ArgMatches, reports: Reports) -> Result<RuleList, u8>
+    ensures { IfErr result (λ status. status ≡ 2) }
+{
+    let file = name_of_list(matches, FIRST);
     match read_rules(rt, file, flags_of(matches).grammar(), reports) {
         Ok(Some(list)) => Ok(list),
         Ok(None) => Err(2),
@@ -85,7 +88,9 @@ fn rules_of(rt: &HostRuntime, matches: &ArgMatches, reports: Reports) -> Result<
 
 /// Reads the arguments and the rules, prints what they permit, and returns the status.
 #[inline(never)]
-pub fn permitted(rt: &HostRuntime, matches: &ArgMatches, writers: &mut Writers<'_>) -> u8 {
+pub fn print_permitted(rt: &HostRuntime, matches: &ArgMatches, writers: &mut Writers<'_>) -> u8
+    ensures { result ≤ 2 }
+{
     let form = match form_of(rt, matches) {
         Ok(form) => form,
         Err(status) => return status,
@@ -101,16 +106,19 @@ pub fn permitted(rt: &HostRuntime, matches: &ArgMatches, writers: &mut Writers<'
         form,
     };
     let (out, faults) = (&mut writers.answer, &mut writers.faults);
-    run(command, &[file_of(matches)], out, faults)
+    run(command, &[name_of_list(matches, FIRST)], out, faults)
 }
 
 /// Reads the rules, prints those that decide on no address, and returns the status.
 #[inline(never)]
-pub fn unreached(rt: &HostRuntime, matches: &ArgMatches, writers: &mut Writers<'_>) -> u8 {
+pub fn print_unreached(rt: &HostRuntime, matches: &ArgMatches, writers: &mut Writers<'_>) -> u8
+    ensures { result ≤ 2 }
+{
     match rules_of(rt, matches, writers.reports) {
         Ok(list) => {
             let (out, faults) = (&mut writers.answer, &mut writers.faults);
-            run_text(UnreachedCommand { list }, &[file_of(matches)], out, faults)
+            let names = [name_of_list(matches, FIRST)];
+            run_text(UnreachedCommand { list }, &names, out, faults)
         }
         Err(status) => status,
     }

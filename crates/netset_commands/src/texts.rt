@@ -1,23 +1,22 @@
 //! The command `route --with-text`: its flag, and its run.
-ghost use Rattle.std.specs.Prelude.{codes};
+ghost use Rattle.std.specs.Prelude.{◌≤◌, codes};
 ghost use Rattle.netset_commands.specs.Arguments.{IsFlag};
 
-use crate::arguments::{
-    ArgumentFailure, FIRST, OTHERS, flag, flags_of, reads_input_twice, report_argument_failure,
-};
-use crate::input::STANDARD_INPUT;
+use crate::arguments::{flags_of, two_or_report};
 use crate::output::Writers;
 use crate::reading::bytes_of;
-use clap::{Arg, ArgMatches};
+use crate::table::{ARGUMENT, Argument, Form};
+use clap::ArgMatches;
 use netset_lib::{TextRoutesCommand, run_text};
-use std::alloc::{AllocError, Global};
 
 /// The flag by which the texts of the table are read and printed.
-pub fn text_flag<'a>(alloc: Global) -> Result<Arg<'a>, AllocError> {
-    let help =
-        "In TABLE, text may follow the entry of a line; print it after the network. Not with --stream";
-    flag(alloc, "with-text", help).conflicts_with("stream")
-}
+pub const TEXT_FLAG: Argument = Argument {
+    id: "with-text",
+    form: Form::Flag("with-text"),
+    help: "In TABLE, text may follow the entry of a line; print it after the network. Not with --stream",
+    conflicts: &["stream"],
+    ..ARGUMENT
+};
 
 /// Whether the texts of the table are asked for.
 pub fn has_text_flag(matches: &ArgMatches) -> bool
@@ -28,28 +27,27 @@ pub fn has_text_flag(matches: &ArgMatches) -> bool
 
 /// Reads the arguments, the table and the list, prints the answers, and returns the exit status.
 #[inline(never)]
-pub fn routed(rt: &HostRuntime, matches: &ArgMatches, writers: &mut Writers<'_>) -> u8 {
-    let Some(table) = matches.get_str(FIRST) else {
-        return report_argument_failure(rt, ArgumentFailure::NoCommand);
+pub fn route_with_text(rt: &HostRuntime, matches: &ArgMatches, writers: &mut Writers<'_>) -> u8
+    ensures { result ≤ 2 }
+{
+    let names = match two_or_report(rt, matches) {
+        Ok(names) => names.in_order(),
+        Err(status) => return status,
     };
-    let file = matches.get_str(OTHERS).unwrap_or(STANDARD_INPUT);
-    if reads_input_twice(&[table, file]) {
-        return report_argument_failure(rt, ArgumentFailure::InputTwice);
-    }
-    let bytes = match bytes_of(rt, table, "entries", writers.reports) {
+    let table = match bytes_of(rt, names[0], "entries", writers.reports) {
         Ok(bytes) => bytes,
         Err(status) => return status,
     };
-    let list = match bytes_of(rt, file, "entries", writers.reports) {
+    let list = match bytes_of(rt, names[1], "entries", writers.reports) {
         Ok(list) => list,
         Err(status) => return status,
     };
     let command = TextRoutesCommand {
         alloc: rt.alloc(),
-        table: bytes.as_slice(),
+        table: table.as_slice(),
         list: list.as_slice(),
         grammar: flags_of(matches).grammar(),
     };
     let (out, faults) = (&mut writers.answer, &mut writers.faults);
-    run_text(command, &[table, file], out, faults)
+    run_text(command, &names, out, faults)
 }

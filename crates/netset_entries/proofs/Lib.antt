@@ -1,6 +1,6 @@
 -- Lemmas that the proofs of this crate share.
 pub mod SupernetLaws
-pub mod EntryLineLaws
+pub mod FitLaws
 pub mod WitnessLaws
 pub mod CoverLaws
 pub mod SpanLaws

@@ -1,11 +1,10 @@
 -- The entries of two lists, one after the other, and the text of their pairs.
 use Rattle.std.specs.Borrow.{Bor}
 use Rattle.std.proofs.Common.{◌≡◌, ℕ, List, [], ◌++◌, length, map, Option, Some, sym, ap, ◌∙◌, subst, subst₂}
-use Rattle.std.proofs.Common.{Bool, true, false, not, ◌==◌, vec_len, arith, refl, None}
-use Rattle.std.proofs.lemmas.Bool.{eqb-true}
-use Rattle.std.proofs.lemmas.List.{map-append, length-map, nil_from_length}
+use Rattle.std.proofs.Common.{Bool, true, false, not, refl, None}
+use Rattle.std.proofs.lemmas.List.{map-append, length-map}
 use Rattle.ipnet.specs.declared.parser.Grammar.{Grammar}
-use Rattle.ipnet_lists.specs.ContentLineOf.{refused_of}
+use Rattle.ipnet_lists.proofs.RefusalLaws.{none_refused}
 use Rattle.netset_entries.specs.declared.entry_list.EntryLine.{EntryLine}
 use Rattle.netset_entries.specs.declared.entry_list.EntryList.{EntryList}
 use Rattle.netset_entries.specs.declared.overlaps.Asked.{Asked}
@@ -14,13 +13,11 @@ use Rattle.netset_entries.specs.NumberedEntries.{NumberedEntry, IsEntryList}
 use Rattle.netset_entries.specs.Overlaps.{HoldsOfTwo, HoldsOfLists, HasOverlap, HasNoOverlap, IsOverlapOutcome}
 
 -- no line is refused
-pub all_read : (grammar : Grammar) (bytes : List ℕ) (list : EntryList) (empty : Bool) → IsReadOf grammar bytes list
-    → empty ≡ (vec_len list.refused == 0) → empty ≡ true
-    → IsEntryList grammar bytes (map numbered list.entries.items) []
-all_read grammar bytes list empty read is none =
-    let len = eqb-true (vec_len list.refused) 0 (sym is ∙ none) in
-    subst (IsEntryList grammar bytes (map numbered list.entries.items))
-    (ap (map refused_of) (nil_from_length list.refused.items (omega (arith, len, list.refused.ok)))) read
+pub all_read : (grammar : Grammar) (bytes : List ℕ) (list : EntryList) → IsReadOf grammar bytes list
+    → list.refused.count ≡ 0 → IsEntryList grammar bytes (map numbered list.entries.items) []
+all_read grammar bytes list (refusals, read, kept) none =
+    subst (IsEntryList grammar bytes (map numbered list.entries.items)) (none_refused list.refused refusals kept none)
+    read
 
 module _ (grammar : Grammar) (bytes other : List ℕ) (first second joined : List EntryLine) (count : Option ℕ)
     (read : IsEntryList grammar bytes (map numbered first) [])

@@ -6,8 +6,9 @@ use Rattle.ipnet.specs.declared.parser.Grammar.{Grammar}
 use Rattle.netset_entries.specs.declared.entry_list.EntryLine.{EntryLine}
 use Rattle.netset_entries.specs.declared.entry_list.EntryList.{EntryList}
 use Rattle.netset_entries.specs.declared.overlaps.Asked.{Asked}
-use Rattle.ipnet_lists.specs.ContentLineOf.{refused_of}
 use Rattle.ipnet_lists.specs.EntryOf.{entry_range}
+use Rattle.ipnet_lists.specs.Lists.{Refusal}
+use Rattle.ipnet_lists.specs.RefusedLines.{AreRefused}
 use Rattle.netset_entries.specs.NumberedEntries.{NumberedEntry, IsEntryList}
 
 -- The entry that a value represents.
@@ -16,8 +17,8 @@ numbered l = record { line = l.number; text = l.text.now; range = entry_range l.
 
 -- The value has the entries and the refused lines of the bytes.
 abbrev pub IsReadOf : Grammar → List ℕ → EntryList → Type 0
-IsReadOf grammar bytes list = IsEntryList grammar bytes (map numbered list.entries.items)
-    (map refused_of list.refused.items)
+IsReadOf grammar bytes list = (refusals : List Refusal)
+    × IsEntryList grammar bytes (map numbered list.entries.items) refusals × AreRefused list.refused refusals
 
 -- The entries of the list and of the other list, if there is one, one list after the other, and the number of entries
 -- of the first list.

@@ -1,5 +1,6 @@
 -- The definitions that the contracts of this crate cite.
 pub mod Supernets
+pub mod FittedLists
 pub mod NumberedEntries
 pub mod EntryLineOf
 pub mod EntryPlaces
@@ -11,3 +12,4 @@ pub mod Overlaps
 pub mod Sweeps
 pub mod NotedEntries
 pub mod NoteSteps
+pub mod WriteReports

@@ -1,11 +1,11 @@
 -- The entries of a list, each with the number of its line.
-use Rattle.std.specs.Prelude.{◌≡◌, ◌⊎◌, ℕ, List, [], ◌∷◌, Option}
+use Rattle.std.specs.Prelude.{◌≡◌, ℕ, List, []}
 use Rattle.ipnet_base.specs.Ranges.{AddressRange}
 use Rattle.ipnet.specs.declared.parser.Grammar.{Grammar}
-use Rattle.ipnet_lists.specs.declared.cause.Cause.{Cause}
-use Rattle.ipnet_lists.specs.Causes.{IsReportedCause}
-use Rattle.ipnet_lists.specs.ContentLines.{ContentLine, RefusedContent, AreContentLines, IsNextRefused}
+use Rattle.ipnet_lists.specs.declared.cause.NotEntry.{NotEntry}
+use Rattle.ipnet_lists.specs.ContentLines.{ContentLine, IsItemList}
 use Rattle.ipnet_lists.specs.Entries.{IsEntryText, IsNoEntry}
+use Rattle.ipnet_lists.specs.Lists.{Refusal}
 
 -- An entry of a list: the number of its line, from 1, its text and its range.
 -- Example: 3, `::1` and the range of one address for `::1 # x` on line 3.
@@ -20,25 +20,14 @@ pub record IsEntryOfLine (grammar : Grammar) (line : ContentLine) (entry : Numbe
   pub text : entry.text ≡ line.text
   pub writes : IsEntryText grammar line.text entry.range
 
--- The text is not an entry, and this is the cause if one can be named.
-abbrev pub IsRefusedFor : Grammar → List ℕ → Option Cause → Type 0
-IsRefusedFor grammar text cause = IsNoEntry grammar text × IsReportedCause grammar text cause
-
--- Each of the lines is an entry or is refused. These are the entries and the refused lines, in order.
-abbrev pub AreEntryLines : Grammar → List ContentLine → List NumberedEntry → List (RefusedContent (Option Cause))
-    → Type 0
-AreEntryLines grammar [] entries refused = (entries ≡ []) × (refused ≡ [])
-AreEntryLines grammar (line ∷ lines) entries refused =
-    ((entry : NumberedEntry) × (more : List NumberedEntry) × (entries ≡ entry ∷ more)
-    × IsEntryOfLine grammar line entry × AreEntryLines grammar lines more refused)
-    ⊎ ((more : List (RefusedContent (Option Cause))) × IsNextRefused (IsRefusedFor grammar) line refused more
-    × AreEntryLines grammar lines entries more)
+-- The text is not an entry. It and the grammar decide which cause can be named (`IsReportedCause`).
+abbrev pub IsRefusedFor : Grammar → List ℕ → NotEntry → Type 0
+IsRefusedFor grammar text cause = IsNoEntry grammar text × (cause ≡ record { grammar = grammar })
 
 -- The bytes are a list with these entries and refused lines.
--- Example: `10.0.0.1\n\nx # y\n` has one entry, on line 1, and line 3, `x`, is refused without a cause.
-abbrev pub IsEntryList : Grammar → List ℕ → List NumberedEntry → List (RefusedContent (Option Cause)) → Type 0
-IsEntryList grammar bytes entries refused = (lines : List ContentLine) × AreContentLines bytes lines
-    × AreEntryLines grammar lines entries refused
+-- Example: `10.0.0.1\n\nx # y\n` has one entry, on line 1, and line 3, `x`, is refused.
+abbrev pub IsEntryList : Grammar → List ℕ → List NumberedEntry → List Refusal → Type 0
+IsEntryList grammar = IsItemList (IsEntryOfLine grammar) (IsRefusedFor grammar)
 
 -- No line of the list is refused, and `Holds` is true of its entries.
 pub record HoldsOfEntries (grammar : Grammar) (bytes : List ℕ) (Holds : List NumberedEntry → Type 0) : Type 0 where

@@ -1,13 +1,10 @@
 //! The entries of a list, each with its line.
-ghost use Rattle.std.specs.Prelude.{IfOk, IfErr};
+ghost use Rattle.std.specs.Prelude.{◌≡◌, ◌∷◌, ◌++◌, [], IfOk};
 ghost use Rattle.netset_entries.specs.EntryLineOf.{numbered, IsReadOf};
 ghost use Rattle.netset_entries.specs.NumberedEntries.{IsEntryOfLine, IsRefusedFor};
-ghost use Rattle.ipnet_lists.specs.ContentLineOf.{line_of};
 
 use ipnet::Grammar;
-use ipnet_lists::{
-    Cause, ContentLine, Entry, RefusedText, cause_of, content_lines, keep_read, read_text,
-};
+use ipnet_lists::{ContentLine, Entry, LineHandler, NotEntry, RefusedLines, read_lines, read_text};
 use std::alloc::{AllocError, Global};
 
 /// An entry of a list, and its line.
@@ -25,25 +22,41 @@ pub(crate) struct EntryLine<'a> {
 #[derive(Drop)]
 pub(crate) struct EntryList<'a> {
     pub(crate) entries: Vec<EntryLine<'a>>,
-    pub(crate) refused: Vec<RefusedText<Option<Cause>>>,
+    pub(crate) refused: RefusedLines,
 }
 
-/// Returns the entry of the line, or why it is not one.
-fn read_line<'a>(line: ContentLine<'a>, grammar: Grammar) -> Result<EntryLine<'a>, Option<Cause>>
-    ensures entry { IfOk result (λ entry. IsEntryOfLine grammar (line_of line.entry) (numbered entry)) }
-    ensures cause { IfErr result (IsRefusedFor grammar line.entry.text.now) }
-{
-    let (number, text) = (line.number, line.text);
-    match read_text(text, grammar) {
-        Some(found) => {
-            let entry = found.entry;
-            Ok(EntryLine {
-                number,
-                text,
-                entry,
-            })
+/// Takes the entries of lines.
+#[derive(Drop)]
+struct EntryReader {
+    grammar: Grammar,
+}
+
+impl<'a> LineHandler<'a, Vec<EntryLine<'a>>, NotEntry> for EntryReader {
+    ghost takes = { λ h line old new. (entry : _) × IsEntryOfLine h.grammar line (numbered entry)
+        × (new.items ≡ old.items ++ entry ∷ []) };
+
+    ghost is_cause = { λ h. IsRefusedFor h.grammar };
+
+    fn take(
+        &self,
+        made: &mut Vec<EntryLine<'a>>,
+        line: ContentLine<'a>,
+    ) -> Result<Result<(), NotEntry>, AllocError> {
+        let (number, text) = (line.number, line.text);
+        match read_text(text, self.grammar) {
+            Some(found) => {
+                let entry = found.entry;
+                made.push(EntryLine {
+                    number,
+                    text,
+                    entry,
+                })?;
+                Ok(Ok(()))
+            }
+            None => Ok(Err(NotEntry {
+                grammar: self.grammar,
+            })),
         }
-        None => Err(cause_of(text, grammar)),
     }
 }
 
@@ -55,12 +68,7 @@ pub(crate) fn entry_list<'a>(
 ) -> Result<EntryList<'a>, AllocError>
     ensures { IfOk result (IsReadOf grammar bytes.now) }
 {
-    let lines = content_lines(alloc, bytes)?;
     let mut entries = Vec::new(alloc);
-    let mut refused = Vec::new(alloc);
-    for line in lines.as_slice() {
-        let read = read_line(*line, grammar);
-        keep_read(alloc, &mut entries, &mut refused, *line, read)?;
-    }
+    let refused = read_lines(alloc, bytes, &EntryReader { grammar }, &mut entries)?;
     Ok(EntryList { entries, refused })
 }

@@ -1,8 +1,10 @@
-//! Commands about the entries of lists: the smallest networks around them, the entries that are
-//! unnecessary, and the pairs of entries that share addresses.
+//! Commands about the entries of lists: the smallest networks around them, the networks within a limit that contain
+//! them, the entries that are unnecessary, and the pairs of entries that share addresses.
 #![tactic(auto)]
 
 mod entry_list;
+pub mod fit;
+pub mod fit_program;
 mod largest;
 mod lines;
 pub mod noted;
@@ -17,6 +19,8 @@ mod span;
 pub mod supernet;
 pub mod supernet_program;
 
+pub use fit::{FitFailure, FitLimit, FitRequest, Fitted, fit_text};
+pub use fit_program::{FitCommand, run_fit};
 pub use largest::NotedEntry;
 pub use lines::WriteFailure;
 pub use noted::EntryNotes;

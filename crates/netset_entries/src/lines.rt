@@ -1,14 +1,16 @@
 //! Lines about entries, written piece by piece, so that an answer of any length takes little memory.
-ghost use Rattle.std.specs.Prelude.{◌≡◌, ◌++◌, OnOk, OnErr, map, None};
+ghost use Rattle.std.specs.Prelude.{◌≡◌, ◌++◌, OnOk, OnErr, map};
+ghost use Rattle.ipnet_text.specs.Outputs.{IsWritten, IsFrontWritten};
 ghost use Rattle.ipnet_text.specs.Pieces.{IsInPieces};
 ghost use Rattle.netset_entries.specs.EntryTexts.{entry_line, entry_line_at, IsFront};
 ghost use Rattle.netset_entries.specs.EntryLineOf.{numbered};
+ghost use Rattle.netset_entries.specs.WriteReports.{IsWriteReported};
 
 use crate::entry_list::EntryLine;
-use ipnet_lists::{Cause, RefusedText, report_refused};
+use ipnet_lists::{RefusedLines, report_refused};
 use ipnet_text::pieces::PIECE;
 use ipnet_text::write_whole;
-use netset_lib::program::name_of;
+use netset_lib::reports::{OUT_OF_MEMORY, UNWRITABLE, report_words};
 use netset_lib::rule_answer::push_numbered;
 use netset_lib::runs::Report;
 use std::alloc::AllocError;
@@ -19,7 +21,7 @@ use std::io::Write;
 #[derive(Debug, Drop)]
 pub enum WriteFailure {
     /// These lines of the list are refused, and these of the other list.
-    Refused(Vec<RefusedText<Option<Cause>>>, Vec<RefusedText<Option<Cause>>>),
+    Refused(RefusedLines, RefusedLines),
     /// Memory ran out.
     Memory,
     /// A write failed.
@@ -77,17 +79,22 @@ pub(crate) fn write_if_long<W: Write>(out: &mut W, piece: &mut Vec<u8>) -> io::R
 impl Report for WriteFailure {
     ghost exit = { λ _. 2 };
 
-    ghost told = { λ _ _. None };
+    ghost is_reported = { λ failure _. IsWriteReported IsWritten failure };
 
-    fn tell<X: Write>(self, names: &[&str], faults: &mut X) -> u8 {
-        let _ = match self {
-            WriteFailure::Refused(first, second) => {
-                let _ = report_refused(faults, name_of(names, 0), first.as_slice());
-                report_refused(faults, name_of(names, 1), second.as_slice())
-            }
-            WriteFailure::Memory => writeln!(faults, "netset: out of memory"),
-            WriteFailure::Unwritable => writeln!(faults, "netset: output cannot be written"),
-        };
+    ghost is_begun = { λ failure _. IsWriteReported IsFrontWritten failure };
+
+    fn status(&self) -> u8 {
         2
+    }
+
+    fn report<X: Write>(&self, names: &[&str], faults: &mut X) -> io::Result<()> {
+        match self {
+            WriteFailure::Refused(first, second) => {
+                report_refused(faults, names, 0, first)?;
+                report_refused(faults, names, 1, second)
+            }
+            WriteFailure::Memory => report_words(faults, OUT_OF_MEMORY),
+            WriteFailure::Unwritable => report_words(faults, UNWRITABLE),
+        }
     }
 }

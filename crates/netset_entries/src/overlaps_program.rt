@@ -7,6 +7,7 @@ use crate::entry_list::{EntryLine, entry_list};
 use crate::lines::WriteFailure;
 use crate::overlaps::{Asked, write_overlaps};
 use ipnet::Grammar;
+use ipnet_lists::RefusedLines;
 use netset_lib::Command;
 use std::alloc::{AllocError, Global};
 use std::io::Write;
@@ -36,8 +37,8 @@ fn asked_of<'a>(
 {
     let first = entry_list(alloc, list, grammar)?;
     let Some(other) = other else {
-        if !first.refused.is_empty() {
-            return Err(WriteFailure::Refused(first.refused, Vec::new(alloc)));
+        if first.refused.count != 0 {
+            return Err(WriteFailure::Refused(first.refused, RefusedLines::new(alloc)));
         }
         return Ok(Asked {
             entries: first.entries,
@@ -45,7 +46,7 @@ fn asked_of<'a>(
         });
     };
     let second = entry_list(alloc, other, grammar)?;
-    if !first.refused.is_empty() || !second.refused.is_empty() {
+    if first.refused.count != 0 || second.refused.count != 0 {
         return Err(WriteFailure::Refused(first.refused, second.refused));
     }
     Ok(joined(first.entries, second.entries)?)

@@ -7,6 +7,7 @@ use crate::entry_list::entry_list;
 use crate::lines::WriteFailure;
 use crate::redundant::write_redundant;
 use ipnet::Grammar;
+use ipnet_lists::RefusedLines;
 use netset_lib::Command;
 use std::alloc::Global;
 use std::io::Write;
@@ -50,8 +51,8 @@ impl<'a> Command for RedundantCommand<'a> {
 
     fn write<W: Write>(self, out: &mut W) -> Result<bool, WriteFailure> {
         let read = entry_list(self.alloc, self.list, self.grammar)?;
-        if !read.refused.is_empty() {
-            return Err(WriteFailure::Refused(read.refused, Vec::new(self.alloc)));
+        if read.refused.count != 0 {
+            return Err(WriteFailure::Refused(read.refused, RefusedLines::new(self.alloc)));
         }
         match write_redundant(out, self.alloc, read.entries.as_slice()) {
             Ok(true) => Ok(false),

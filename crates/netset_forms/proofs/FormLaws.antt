@@ -1,5 +1,5 @@
 -- Sets with the same addresses have the same texts, so the text of a session's set is the text of its lists.
-use Rattle.std.proofs.Common.{◌≡◌, ◌↔◌, ℕ, List, max, Option, Some, None}
+use Rattle.std.proofs.Common.{◌≡◌, ◌↔◌, ℕ, List, [], max, Option, Some, None}
 use Rattle.std.specs.Borrow.{Bor}
 use Rattle.ipnet_base.specs.Address.{Family, IPv4, IPv6, Address}
 use Rattle.ipnet_base.specs.Network.{Network}
@@ -94,13 +94,11 @@ module _ (r : Request) (form : FormRequest) (lists : List (List ℕ)) (set : IpS
 -- ---- the set that a list of rules permits
 
 module _ (default : Action) (form : FormRequest) (grammar : Grammar) (bytes : List ℕ) (contents : RuleContents)
-    (read : IsRuleList grammar bytes contents) (set : IpSet) (of : IsPermittedSet default contents set) where
+    (read : IsRuleList grammar bytes contents []) (set : IpSet) (of : IsPermittedSet default contents.rules set) where
   pub text_of_rules : (text : List ℕ) → IsAskedText form (IsMember set) text
       → IsPermittedForm default form grammar bytes text
   text_of_rules text right = record {
     contents = contents;
     read = read;
-    none = of.none;
-    right = form_same (IsMember set) (IsPermittedBy contents.rules default) of.right form.form form.min_length text
-        right;
+    right = form_same (IsMember set) (IsPermittedBy contents.rules default) of form.form form.min_length text right;
   }

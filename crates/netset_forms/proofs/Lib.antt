@@ -6,3 +6,4 @@ pub mod PartLaws
 pub mod PieceLaws
 pub mod RangeItems
 pub mod WriteLaws
+pub mod OptionLaws

@@ -1,5 +1,5 @@
 -- The answers of sessions and of lists of rules in any form.
-use Rattle.std.specs.Prelude.{◌≡◌, ℕ, List, []}
+use Rattle.std.specs.Prelude.{ℕ, List, []}
 use Rattle.ipnet_base.specs.Address.{Address}
 use Rattle.ipnet.specs.declared.parser.Grammar.{Grammar}
 use Rattle.ipnet_rules.specs.declared.rules.Action.{Action}
@@ -23,6 +23,5 @@ IsFormAnswer request form lists text = HoldsOfResult request lists (λ InSet. Is
 pub record IsPermittedForm (default : Action) (form : FormRequest) (grammar : Grammar) (bytes text : List ℕ) : Type 0
   where
     pub contents : RuleContents
-    pub read : IsRuleList grammar bytes contents
-    pub none : contents.refused ≡ []
+    pub read : IsRuleList grammar bytes contents []
     pub right : IsAskedText form (IsPermittedBy contents.rules default) text

@@ -1,5 +1,7 @@
 pub mod FormAnswers
+pub mod FormOptions
 pub mod FormSteps
 pub mod Forms
 pub mod Layouts
 pub mod SetWords
+pub mod FormWords

@@ -1,7 +1,14 @@
 //! A request for the form of an answer, and the reasons why there is no answer in it.
+ghost use Rattle.std.specs.Prelude.{◌≡◌, Some};
+ghost use Rattle.std.specs.Fmt.{DisplaysOnOk, DisplaysStyledOnOk};
+ghost use Rattle.netset_forms.specs.FormWords.{form_words};
+
+use arrayvec::ArrayString;
+use netset_lib::reports::{OUT_OF_MEMORY, UNWRITABLE, Words, long_words};
 use std::alloc::AllocError;
-use std::io;
-use thiserror::Error;
+use std::error::Error;
+use std::fmt::{Display, Formatter};
+use std::{fmt, io};
 
 /// The names of a firewall's sets, one for each family. A family without a name has no set.
 #[derive(Clone, Copy, Debug, PartialEq, Eq)]
@@ -54,22 +61,17 @@ pub struct FormRequest<'a> {
 }
 
 /// Why an answer was not written, or not as a whole.
-#[derive(Clone, Copy, Debug, PartialEq, Eq, Drop, Error)]
+#[derive(Clone, Copy, Debug, PartialEq, Eq, Drop)]
 pub enum FormFailure {
     /// The set has addresses of a family with shorter prefix lengths: the minimum, and the family's greatest length.
-    #[error("/{0}: the prefix length is above {1}")]
     MinLength(u8, u8),
     /// The set has IPv4 addresses, and no set is named for them.
-    #[error("the result has IPv4 addresses: name a set for them by --ipv4-set")]
     NoIpv4Set,
     /// The set has IPv6 addresses, and no set is named for them.
-    #[error("the result has IPv6 addresses: name a set for them by --ipv6-set")]
     NoIpv6Set,
     /// Memory ran out.
-    #[error("out of memory")]
     Memory,
     /// A write failed, or the flush after it.
-    #[error("output cannot be written")]
     Unwritable,
 }
 
@@ -94,3 +96,38 @@ impl From<io::Error> for FormFailure {
         FormFailure::Unwritable
     }
 }
+
+impl FormFailure {
+    /// Returns the words that report it.
+    ///
+    /// ```text
+    /// MinLength(33, 32): "/33: the prefix length is above 32"
+    /// ```
+    pub fn to_words(self) -> Words
+        ensures { result.bytes ≡ form_words self }
+    {
+        let mut words = ArrayString::new();
+        match self {
+            FormFailure::MinLength(length, most) => return long_words(length, most),
+            FormFailure::NoIpv4Set => {
+                words.push_str("the result has IPv4 addresses: name a set for them by --ipv4-set")
+            }
+            FormFailure::NoIpv6Set => {
+                words.push_str("the result has IPv6 addresses: name a set for them by --ipv6-set")
+            }
+            FormFailure::Memory => words.push_str(OUT_OF_MEMORY),
+            FormFailure::Unwritable => words.push_str(UNWRITABLE),
+        }
+        words
+    }
+}
+
+impl Display for FormFailure {
+    ghost output = { λ failure. Some (form_words failure) };
+
+    fn fmt<W: fmt::Write>(&self, f: &mut Formatter<W>) -> fmt::Result {
+        f.write_str(self.to_words().as_str())
+    }
+}
+
+impl Error for FormFailure {}

@@ -5,6 +5,7 @@ mod blocks;
 pub mod form;
 mod frame;
 pub mod names;
+pub mod options;
 mod parts;
 mod pieces;
 pub mod program;
@@ -12,5 +13,6 @@ pub mod write;
 
 pub use form::{AnswerForm, FormFailure, FormRequest, SetNames};
 pub use names::{are_ipset_sets, are_nft_sets, is_ipset_name, is_nft_name};
+pub use options::{FormFault, FormName, FormOptions};
 pub use program::{FormCommand, PermittedCommand};
 pub use write::write_form;

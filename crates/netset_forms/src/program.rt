@@ -1,28 +1,40 @@
 //! The commands of the program whose answer is a set, in any form.
-ghost use Rattle.std.specs.Prelude.{◌≡◌, IsTrue, List, ℕ, None, ⊤};
+ghost use Rattle.std.specs.Prelude.{◌≡◌, IsTrue, List, ℕ, OnOk};
+ghost use Rattle.ipnet_text.specs.Outputs.{IsWritten, IsFrontWritten};
+ghost use Rattle.netset_forms.specs.FormWords.{form_words};
+ghost use Rattle.netset_lib.specs.Reports.{words_line};
 ghost use Rattle.ipnet.specs.declared.parser.Grammar.{Grammar};
-ghost use Rattle.netset_lib.specs.RuleAnswers.{IsRuleFailure};
-ghost use Rattle.netset_lib.specs.RuleContentsOf.{contents_of};
-ghost use Rattle.netset_lib.specs.RuleLines.{IsRuleList};
-ghost use Rattle.netset_lib.specs.Runs.{OfCombined, IsFault, HasNoResult};
+ghost use Rattle.netset_lib.specs.RuleAnswers.{IsRuleFailure, IsPermittedSet};
+ghost use Rattle.netset_lib.specs.RuleContentsOf.{WasRuleListRead, contents_of};
+ghost use Rattle.netset_lib.specs.Runs.{OfCombined, OfResult, IsFault, HasNoResult};
+ghost use Rattle.ipnet_sets.specs.Members.{IsMember};
+ghost use Rattle.ipnet_sets.specs.declared.set.IpSet.{IpSet};
+ghost use Rattle.netset_forms.specs.Forms.{IsFormFailure};
 ghost use Rattle.netset_forms.specs.FormAnswers.{IsFormAnswer, IsPermittedForm};
 
 use crate::form::{FormFailure, FormRequest};
 use crate::write::write_form;
 use ipnet_lists::ListFailure;
 use ipnet_rules::Action;
+use netset_lib::reports::report_words;
 use netset_lib::runs::Report;
 use netset_lib::{Command, Failure, Fault, RuleCause, RuleList, Session};
+use std::io;
 use std::io::Write;
 
 impl Report for FormFailure {
     ghost exit = { λ _. 2 };
 
-    ghost told = { λ _ _. None };
+    ghost is_reported = { λ failure _. IsWritten (λ t. t ≡ words_line (form_words failure)) };
 
-    fn tell<X: Write>(self, _: &[&str], faults: &mut X) -> u8 {
-        let _ = writeln!(faults, "netset: {self}");
+    ghost is_begun = { λ failure _. IsFrontWritten (λ t. t ≡ words_line (form_words failure)) };
+
+    fn status(&self) -> u8 {
         2
+    }
+
+    fn report<X: Write>(&self, _: &[&str], faults: &mut X) -> io::Result<()> {
+        report_words(faults, self.to_words().as_str())
     }
 }
 
@@ -54,7 +66,8 @@ impl<'a> Command for FormCommand<'a> {
 
     ghost is_outcome = { λ _ succeeded. IsTrue succeeded };
 
-    ghost is_failure = { λ c. IsFault (HasNoResult c.session) (λ _. ⊤) };
+    ghost is_failure = { λ c. IsFault (HasNoResult c.session) (λ failure.
+        OfResult (λ set. IsFormFailure c.form.form c.form.min_length (IsMember set) failure) c.session) };
 
     fn write<W: Write>(self, out: &mut W) -> Result<bool, Fault<Failure, FormFailure>> {
         let FormCommand { session, form } = self;
@@ -88,11 +101,13 @@ impl<'a> Command for PermittedCommand<'a> {
     type Failure = Fault<ListFailure<RuleCause>, FormFailure>;
 
     ghost is_answer = { λ c text. (grammar : Grammar) → (bytes : List ℕ)
-        → IsRuleList grammar bytes (contents_of c.list) → IsPermittedForm c.default c.form grammar bytes text };
+        → WasRuleListRead grammar bytes c.list → IsPermittedForm c.default c.form grammar bytes text };
 
     ghost is_outcome = { λ _ succeeded. IsTrue succeeded };
 
-    ghost is_failure = { λ c. IsFault (IsRuleFailure (contents_of c.list)) (λ _. ⊤) };
+    ghost is_failure = { λ c. IsFault (IsRuleFailure c.list) (λ failure. (set : IpSet)
+        × IsPermittedSet c.default (contents_of c.list).rules set
+        × IsFormFailure c.form.form c.form.min_length (IsMember set) failure) };
 
     fn write<W: Write>(
         self,

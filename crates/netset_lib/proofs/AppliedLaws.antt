@@ -14,8 +14,7 @@ use Rattle.netset_lib.specs.Answers.{AreListsRead, IsAnswer, IsSetText}
 use Rattle.netset_lib.specs.Changes.{ListChange, Added, Removed, AreChanges, IsChangesAnswer}
 use Rattle.netset_lib.specs.ChangeLists.{IsAnswerNetwork, IsChangeList, IsKeptOrAdded, IsInChanged}
 use Rattle.netset_lib.specs.ChangeLists.{IsChangedText, IsChangedAnswer, HaveRefusedChanges}
-use Rattle.ipnet_lists.specs.ContentLines.{RefusedContent}
-use Rattle.ipnet_lists.specs.Lists.{ListEntry, IsListRead, IsInEntries}
+use Rattle.ipnet_lists.specs.Lists.{ListEntry, RefusalFor, IsListRead, IsInEntries}
 use Rattle.netset_lib.specs.Operations.{IsCountFor, IsInResult}
 use Rattle.netset_lib.proofs.AnswerTexts.{text_of_same}
 use Rattle.netset_lib.proofs.ChangeLaws.{other_list_made}
@@ -107,7 +106,7 @@ module _ (request : Request) (union : request.operation ≡ Operations.Union) (o
     fits_new : (x : Address) → IsInEntries h.second x → IsAddress x
     fits_new = read_fits request.grammar new h.second reads_new
 
-    read_right : (taken : List ListChange) (refused : List (RefusedContent ChangeCause))
+    read_right : (taken : List ListChange) (refused : List (RefusalFor ChangeCause))
         → IsChangeList request.grammar (IsAnswerNetwork A) changes taken refused
         → (taken ≡ h.right.changes) × (refused ≡ [])
     read_right taken refused list =

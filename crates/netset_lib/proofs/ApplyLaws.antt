@@ -20,8 +20,7 @@ use Rattle.netset_lib.specs.declared.answer.Request.{Request}
 use Rattle.netset_lib.specs.declared.change_line.ChangeCause.{ChangeCause}
 use Rattle.netset_lib.specs.declared.change_line.ChangeCause.TheVariants as Causes
 use Rattle.netset_lib.specs.Changes.{ListChange, Added, Removed}
-use Rattle.ipnet_lists.specs.ContentLines.{RefusedContent}
-use Rattle.ipnet_lists.specs.Lists.{IsInEntries}
+use Rattle.ipnet_lists.specs.Lists.{IsInEntries, RefusalFor}
 use Rattle.netset_lib.specs.Operations.{IsInResult}
 use Rattle.netset_lib.specs.PlanAnswers.{IsResultSet}
 use Rattle.netset_lib.specs.ChangeLists.{IsAnswerNetwork, Fits, IsFittingChange, IsChangeCause, IsChangeList}
@@ -205,15 +204,15 @@ module _ (Has Other : Network → Type 0) (to : (n : Network) → Has n → Othe
     cause_over grammar text Causes.Absent (n, is, lacks) = (n, is, λ k. lacks (from n k))
 
     pub list_over : (grammar : Grammar) (bytes : List ℕ) (changes : List ListChange)
-        (refused : List (RefusedContent ChangeCause)) → IsChangeList grammar Has bytes changes refused
+        (refused : List (RefusalFor ChangeCause)) → IsChangeList grammar Has bytes changes refused
         → IsChangeList grammar Other bytes changes refused
-    list_over grammar bytes changes refused h = record {
-      lines = h.lines;
-      contents = h.contents;
-      items = items_same (IsFittingChange grammar Has) (IsFittingChange grammar Other) (IsChangeCause grammar Has)
-          (IsChangeCause grammar Other) (λ text change k. (k.0, fits_over change k.1)) (cause_over grammar) h.lines
-          changes refused h.items;
-    }
+    list_over grammar bytes changes refused (texts, are, read) = (
+      texts,
+      are,
+      items_same (λ line. IsFittingChange grammar Has line.text) (IsChangeCause grammar Has)
+          (λ line. IsFittingChange grammar Other line.text) (IsChangeCause grammar Other)
+          (λ line change k. (k.0, fits_over change k.1)) (cause_over grammar) 1 texts changes refused read,
+    )
 
     changed_over : (changes : List ListChange) (x : Address) → IsInChanged Has changes x → IsInChanged Other changes x
     changed_over changes x (n, inl (has, stays), a) = (n, inl (to n has, stays), a)

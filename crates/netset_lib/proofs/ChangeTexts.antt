@@ -19,9 +19,9 @@ use Rattle.netset_lib.specs.declared.change_line.ChangeCause.TheVariants as Caus
 use Rattle.netset_lib.specs.Changes.{ListChange, Added, Removed, changed_network, change_line, text_of_changes}
 use Rattle.netset_lib.specs.ChangeLists.{sign_of, IsChangeText, Fits, IsFittingChange, IsChangeCause}
 use Rattle.netset_lib.specs.ChangeLists.{IsChangeList}
-use Rattle.ipnet_lists.specs.ContentLines.{ContentLine, RefusedContent, AreNumbered, AreItems}
+use Rattle.ipnet_lists.specs.ContentLines.{AreItems}
 use Rattle.ipnet_lists.specs.Entries.{block_range}
-use Rattle.ipnet_lists.specs.Lists.{IsContents, AreContents, without_blanks, after_mark}
+use Rattle.ipnet_lists.specs.Lists.{IsContents, AreContents, RefusalFor, without_blanks, after_mark}
 use Rattle.netset_lib.specs.NetworkEntries.{IsNetworkWord}
 use Rattle.ipnet_lists.specs.Words.{leading_word, after_word}
 use Rattle.ipnet_lists.proofs.AddressBytes.{IsPlainByte}
@@ -217,30 +217,25 @@ module _ (grammar : Grammar) (Has : Network → Type 0) where
       let same = one_change grammar (change_text change) change (Removed n) here is in
       lacks (subst (Fits Has) same good.fits)
 
-  lines_read : (changes : List ListChange) (number : ℕ) (lines : List ContentLine) (read : List ListChange)
-      (refused : List (RefusedContent ChangeCause)) → All (IsGoodChange Has) changes
-      → AreNumbered number (map change_text changes) lines
-      → AreItems (IsFittingChange grammar Has) (IsChangeCause grammar Has) lines read refused
+  lines_read : (changes : List ListChange) (number : ℕ) (read : List ListChange)
+      (refused : List (RefusalFor ChangeCause)) → All (IsGoodChange Has) changes
+      → AreItems (λ line. IsFittingChange grammar Has line.text) (IsChangeCause grammar Has) number
+      (map change_text changes) read refused
       → (read ≡ changes) × (refused ≡ [])
-  lines_read [] number lines read refused good numbered h =
-      subst (λ ls. AreItems (IsFittingChange grammar Has) (IsChangeCause grammar Has) ls read refused) numbered h
-  lines_read (c ∷ changes) number lines read refused good (more, is, numbered) h =
+  lines_read [] number read refused good h = h
+  lines_read (c ∷ changes) number read refused good (inl (items, next, k)) =
       let here = All-head (IsGoodChange Has) c changes good in
-      elim (subst (λ ls. AreItems (IsFittingChange grammar Has) (IsChangeCause grammar Has) ls read refused) is h) [
-        | inl (items, next, k) ↦
-            let rest = lines_read changes (number + 1) more items refused (All-tail (IsGoodChange Has) c changes good)
-            numbered k in
-            let same = one_change grammar (change_text c) next.item c next.is.0 (line_is_change grammar c here.plain) in
-            (next.next ∙ ap₂ (λ z zs. z ∷ zs) same rest.0, rest.1)
-        | inr (items, next, k) ↦ absurd (not_refused c next.cause here next.reported)
-      ]
+      let rest = lines_read changes (number + 1) items refused (All-tail (IsGoodChange Has) c changes good) k in
+      let same = one_change grammar (change_text c) next.item c next.is.0 (line_is_change grammar c here.plain) in
+      (next.next ∙ ap₂ (λ z zs. z ∷ zs) same rest.0, rest.1)
+  lines_read (c ∷ changes) number read refused good (inr (items, next, k)) =
+      absurd (not_refused c next.cause (All-head (IsGoodChange Has) c changes good) next.reported)
 
   -- the text of changes is read as these changes
-  pub changes_read : (changes read : List ListChange) (refused : List (RefusedContent ChangeCause))
+  pub changes_read : (changes read : List ListChange) (refused : List (RefusalFor ChangeCause))
       → All (IsGoodChange Has) changes → IsChangeList grammar Has (text_of_changes changes) read refused
       → (read ≡ changes) × (refused ≡ [])
-  changes_read changes read refused good h =
-      let (texts, are, numbered) = h.contents in
+  changes_read changes read refused good (texts, are, items) =
       let lines : lines_of (after_mark (text_of_changes changes)) ≡ map change_text changes =
       ap (λ t. lines_of (after_mark t)) (changes_spelled changes)
       ∙ ap lines_of (unmarked_lines changes)
@@ -248,4 +243,6 @@ module _ (grammar : Grammar) (Has : Network → Type 0) where
       let same : texts ≡ map change_text changes =
       all_contents (lines_of (after_mark (text_of_changes changes))) texts (map change_text changes) are
       (subst (λ ls. AreContents ls (map change_text changes)) (sym lines) (contents_of_lines changes good)) in
-      lines_read changes 1 h.lines read refused good (subst (λ ts. AreNumbered 1 ts h.lines) same numbered) h.items
+      lines_read changes 1 read refused good
+      (subst (λ ts. AreItems (λ line. IsFittingChange grammar Has line.text) (IsChangeCause grammar Has) 1 ts read
+      refused) same items)

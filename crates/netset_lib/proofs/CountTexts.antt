@@ -11,7 +11,8 @@ use Rattle.ipnet_sets.specs.BoundaryRanges.{ranges_of, count_of}
 use Rattle.ipnet_sets.proofs.CountLaws.{count_of_family, all_of_family}
 use Rattle.ipnet_sets.specs.ManySets.{IsInSome}
 use Rattle.netset_lib.specs.Counts.{IsCountsLine, AreDifferences, IsComparison, IsCountLine}
-use Rattle.netset_lib.specs.Counts.{Names, name_at, AreCountLines, IsTotalText, IsCountText}
+use Rattle.ipnet_lists.specs.Names.{Names, name_at}
+use Rattle.netset_lib.specs.Counts.{AreCountLines, IsTotalText, IsCountText}
 use Rattle.ipnet_lists.specs.Lists.{ListEntry, IsInEntries}
 use Rattle.netset_lib.specs.ListSets.{HaveMembers}
 use Rattle.netset_lib.proofs.SameResults.{some_same}
@@ -47,7 +48,7 @@ count_same A B n same h = record {
 }
 
 -- sets with the same addresses have the same counts
-counts_same : (A B : Address → Type 0) (line : List ℕ) → ((x : Address) → A x ↔ B x) → IsCountsLine A line
+pub counts_same : (A B : Address → Type 0) (line : List ℕ) → ((x : Address) → A x ↔ B x) → IsCountsLine A line
     → IsCountsLine B line
 counts_same A B line same h = record {
   ipv4 = h.ipv4;

@@ -10,13 +10,14 @@ use Rattle.netset_lib.specs.PlanAnswers.{IsLengthText}
 use Rattle.ipnet_lists.proofs.CauseTexts.{same_digits, digits_model}
 
 -- a number has only decimal digits
-pub number_digits : (text : List ℕ) (n : ℕ) → IsDecimal Strict 3 128 text n → list_all is_ascii_digit text ≡ true
-number_digits text n h = same_digits text ∙ digits_model.from text h.digits.1
+pub number_digits : (most greatest : ℕ) (text : List ℕ) (n : ℕ) → IsDecimal Strict most greatest text n
+    → list_all is_ascii_digit text ≡ true
+number_digits most greatest text n h = same_digits text ∙ digits_model.from text h.digits.1
 
 -- ---- a "/" before the digits
 
 no_slash : (digits : List ℕ) (n : ℕ) → ¬ (IsDecimal Strict 3 128 (47 ∷ digits) n)
-no_slash digits n h = let clash : true ≡ false = sym (number_digits (47 ∷ digits) n h) in absurd cc
+no_slash digits n h = let clash : true ≡ false = sym (number_digits 3 128 (47 ∷ digits) n h) in absurd cc
 
 pub length_after : (text digits : List ℕ) (r : Option ℕ) (n : ℕ) → text ≡ 47 ∷ digits
     → ((r ≡ Some n) ↔ IsDecimal Strict 3 128 digits n) → (r ≡ Some n) ↔ IsLengthText text n

@@ -75,6 +75,7 @@ list_read work lists old new left left_after h next =
       k.given,
       record {
         same_work = next.same_work ∙ h.same_work;
+        sound = next.same_broken ∙ h.sound;
         same_grammar = k.same_grammar ∙ h.same_grammar;
         count = k.next ∙ ap (λ n. n + 1) h.count ∙ one_more_count lists k.bytes;
         entries = h.entries ++ k.entries ∷ [];

@@ -27,6 +27,8 @@ use Rattle.netset_lib.specs.NetworkEntries.{IsNetworkWord}
 use Rattle.netset_lib.specs.PrefixAnswers.{ListNetwork, verdict_line, AreVerdicts, IsOneDenied}
 use Rattle.netset_lib.specs.PrefixLines.{IsBoundsText, IsPrefixText, IsPrefixCause, network_word}
 use Rattle.netset_lib.specs.PrefixLines.{bounds_text}
+use Rattle.netset_lib.specs.declared.prefix_answer.Verdicts.{Verdicts}
+use Rattle.netset_lib.specs.PrefixReading.{AddsVerdict, AreVerdictsOn}
 use Rattle.netset_lib.specs.PrefixSteps.{HasPair, IsRuleOf, IsBoundsCause}
 use Rattle.netset_lib.specs.RuleLines.{word_of, HasRuleWord}
 use Rattle.ipnet_lists.specs.Words.{leading_word, after_word}
@@ -110,7 +112,7 @@ module _ (grammar : Grammar) (text word after entry bounds : List ℕ) (action :
 
 -- ---- verdicts
 
-pub verdicts_last : (rules : List PrefixRule) (networks : List ListNetwork) (n : ListNetwork) (action : Action)
+verdicts_last : (rules : List PrefixRule) (networks : List ListNetwork) (n : ListNetwork) (action : Action)
     (text new : List ℕ) → AreVerdicts rules networks text → IsRouteVerdict rules n.network action
     → new ≡ text ++ verdict_line action n → AreVerdicts rules (networks ++ n ∷ []) new
 verdicts_last rules [] n action text new h verdict is =
@@ -125,7 +127,7 @@ verdicts_last rules (m ∷ networks) n action text new (a, rest, one, spelled, h
 )
 
 -- a network more is denied
-pub denied_last : (rules : List PrefixRule) (networks : List ListNetwork) (n : ListNetwork) (action : Action)
+denied_last : (rules : List PrefixRule) (networks : List ListNetwork) (n : ListNetwork) (action : Action)
     (old new : Bool) → (IsTrue old ↔ IsOneDenied rules networks) → IsRouteVerdict rules n.network action
     → (IsTrue new ↔ (IsTrue old ⊎ (action ≡ Deny))) → IsTrue new ↔ IsOneDenied rules (networks ++ n ∷ [])
 denied_last rules networks n action old new same verdict more =
@@ -140,3 +142,11 @@ denied_last rules networks n action old new same verdict more =
             more.1 (inr (one_verdict MatchesRoute (λ r. r.action) Deny rules n.network action Deny verdict last))
       ],
     )
+
+-- a verdict more is added
+pub verdict_added : (rules : List PrefixRule) (n : ListNetwork) (old new : Verdicts) (networks : List ListNetwork)
+    → AddsVerdict rules n old new → AreVerdictsOn rules old networks → AreVerdictsOn rules new (networks ++ n ∷ [])
+verdict_added rules n old new networks adds h = record {
+  text = verdicts_last rules networks n adds.action old.text.items new.text.items h.text adds.verdict adds.line;
+  denied = denied_last rules networks n adds.action old.denied new.denied h.denied adds.verdict adds.denied;
+}

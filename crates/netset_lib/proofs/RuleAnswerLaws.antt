@@ -1,16 +1,17 @@
 -- The lines of an answer over a list of rules, and what an empty answer means.
 use Rattle.std.proofs.Common.{◌≡◌, ◌≢◌, ◌<◌, ℕ, ◌+◌, zero, suc, List, [], ◌∷◌, ◌++◌, length, map, drop, refl}
-use Rattle.std.proofs.Common.{sym, ap, ◌∙◌, arith, inl, inr, subst, append_assoc, append-nil, codes, decimal, get_or}
+use Rattle.std.proofs.Common.{sym, ap, ◌∙◌, arith, inl, subst, append_assoc, append-nil, codes, decimal, get_or}
 use Rattle.std.proofs.Common.{◌≤◌, ◌==◌, Any, Result, OnOk, Bool, true, false, eq-eqb}
 use Rattle.std.proofs.lemmas.Bool.{eqb-true, false≢true}
-use Rattle.std.proofs.lemmas.List.{length-append, drop_more, drop_all, nil_from_length}
+use Rattle.std.proofs.lemmas.List.{length-append, length-map, drop_more, drop_all, nil_from_length}
 use Rattle.ipnet.specs.declared.parser.Grammar.{Grammar}
 use Rattle.ipnet_rules.specs.declared.unreached.Unreached.{Unreached}
 use Rattle.ipnet_text.proofs.ListsLaws.{OnOk_then}
 use Rattle.ipnet_rules.proofs.VerdictLaws.{any_cons, any_nil}
 use Rattle.netset_lib.specs.RuleAnswers.{text_at, line_at, covering_lines, unreached_lines, IsUnreachedAnswer}
 use Rattle.netset_lib.specs.RuleAnswers.{AreAllReached, IsOneUnreached, IsReachedOutcome}
-use Rattle.netset_lib.specs.RuleLines.{LineOfRule, RuleContents, AreRulesRead}
+use Rattle.ipnet_lists.specs.ContentLines.{ContentLine}
+use Rattle.netset_lib.specs.RuleLines.{RuleContents, IsRuleList}
 
 -- the text of the item at an index of values
 text_here : {V X : Type 0} (text_of : X → List ℕ) (seen : V → X) (values : List V) (i : ℕ) (v : V) → i < length values
@@ -35,27 +36,18 @@ appended_past text_of seen (w ∷ values) (suc i) old past =
     appended_past text_of seen values i old (omega (arith, past))
 
 -- as many lines as rules
-rules_have_lines : (grammar : Grammar) (number : ℕ) (texts : List (List ℕ)) (c : RuleContents)
-    → AreRulesRead grammar number texts c → length c.lines ≡ length c.rules
-rules_have_lines grammar number [] c h =
-    omega (arith, ap (λ z. length z.lines) h, ap (λ z. length z.rules) h)
-rules_have_lines grammar number ([] ∷ texts) c h = rules_have_lines grammar (number + 1) texts c h
-rules_have_lines grammar number ((b ∷ text) ∷ texts) c (more, h, inl next) =
+rules_have_lines : (grammar : Grammar) (bytes : List ℕ) (c : RuleContents) → IsRuleList grammar bytes c []
+    → length c.lines ≡ length c.rules
+rules_have_lines grammar bytes c h =
     omega (
       arith,
-      ap (λ z. length z.lines) next.next,
-      ap (λ z. length z.rules) next.next,
-      rules_have_lines grammar (number + 1) texts more h,
-    )
-rules_have_lines grammar number ((b ∷ text) ∷ texts) c (more, h, inr next) =
-    omega (
-      arith,
-      ap (λ z. length z.lines) next.next,
-      ap (λ z. length z.rules) next.next,
-      rules_have_lines grammar (number + 1) texts more h,
+      ap (λ z. length z.lines) h.is,
+      ap (λ z. length z.rules) h.is,
+      length-map h.items (λ i. i.0),
+      length-map h.items (λ i. i.1),
     )
 
-line_some : (lines : List LineOfRule) (i : ℕ) → i < length lines → 0 < length (line_at lines i)
+line_some : (lines : List ContentLine) (i : ℕ) → i < length lines → 0 < length (line_at lines i)
 line_some [] i less = absurd (omega (arith, less))
 line_some (l ∷ lines) zero less =
     omega (arith, length-append (codes "line " ++ decimal l.number ++ codes ": " ++ l.text) (10 ∷ []))
@@ -64,16 +56,15 @@ line_some (l ∷ lines) (suc i) less = line_some lines i (omega (arith, less))
 -- a text with a line is of an unreached rule
 one_unreached : (grammar : Grammar) (bytes text : List ℕ) → IsUnreachedAnswer grammar bytes text
     → text ≢ [] → IsOneUnreached grammar bytes
-one_unreached grammar bytes text h some = of h.answer.right.found refl
+one_unreached grammar bytes text h some = of h.right.found refl
   where
-    of : (found : List Unreached) → h.answer.right.found ≡ found → IsOneUnreached grammar bytes
-    of [] e = absurd (some (h.answer.right.spelled ∙ ap (unreached_lines h.contents.lines) e))
+    of : (found : List Unreached) → h.right.found ≡ found → IsOneUnreached grammar bytes
+    of [] e = absurd (some (h.right.spelled ∙ ap (unreached_lines h.contents.lines) e))
     of (u ∷ found) e = record {
       contents = h.contents;
       read = h.read;
-      none = h.answer.none;
       index = u.rule;
-      unreached = (h.answer.right.unreached.members u.rule).0
+      unreached = (h.right.unreached.members u.rule).0
           (subst (λ z. Any (λ v. v.rule ≡ u.rule) z) (sym e)
           ((any_cons (λ v. v.rule ≡ u.rule) u found).1 (inl refl)));
     }
@@ -81,23 +72,21 @@ one_unreached grammar bytes text h some = of h.answer.right.found refl
 -- an empty text is of a list whose rules all decide on some address
 all_reached : (grammar : Grammar) (bytes text : List ℕ) → IsUnreachedAnswer grammar bytes text
     → text ≡ [] → AreAllReached grammar bytes
-all_reached grammar bytes text h none = of h.answer.right.found refl
+all_reached grammar bytes text h none = of h.right.found refl
   where
-    of : (found : List Unreached) → h.answer.right.found ≡ found → AreAllReached grammar bytes
+    of : (found : List Unreached) → h.right.found ≡ found → AreAllReached grammar bytes
     of [] e = record {
       contents = h.contents;
       read = h.read;
-      none = h.answer.none;
       reached = λ index is. any_nil (λ v. v.rule ≡ index)
-          (subst (λ z. Any (λ v. v.rule ≡ index) z) e ((h.answer.right.unreached.members index).1 is));
+          (subst (λ z. Any (λ v. v.rule ≡ index) z) e ((h.right.unreached.members index).1 is));
     }
     of (u ∷ found) e =
-        let is = (h.answer.right.unreached.members u.rule).0
+        let is = (h.right.unreached.members u.rule).0
         (subst (λ z. Any (λ v. v.rule ≡ u.rule) z) (sym e)
         ((any_cons (λ v. v.rule ≡ u.rule) u found).1 (inl refl))) in
-        let (texts, are, read) = h.read in
         let within : u.rule < length h.contents.lines =
-        omega (arith, is.within, rules_have_lines grammar 1 texts h.contents read) in
+        omega (arith, is.within, rules_have_lines grammar bytes h.contents h.read) in
         let line = line_at h.contents.lines u.rule in
         let covering = covering_lines h.contents.lines u.deciders.items in
         absurd (omega (
@@ -105,12 +94,12 @@ all_reached grammar bytes text h none = of h.answer.right.found refl
           line_some h.contents.lines u.rule within,
           length-append line covering,
           length-append (line ++ covering) (unreached_lines h.contents.lines found),
-          ap length (sym none ∙ h.answer.right.spelled ∙ ap (unreached_lines h.contents.lines) e),
+          ap length (sym none ∙ h.right.spelled ∙ ap (unreached_lines h.contents.lines) e),
         ))
 
 -- ---- lines, one after the other
 
-pub cover_more : (lines : List LineOfRule) (indexes : List ℕ) (i : ℕ) (old text indented new : List ℕ)
+pub cover_more : (lines : List ContentLine) (indexes : List ℕ) (i : ℕ) (old text indented new : List ℕ)
     → i < length indexes → indented ≡ text ++ codes "  " → new ≡ indented ++ line_at lines (get_or indexes i 0)
     → text ++ covering_lines lines (drop i indexes) ≡ old ++ covering_lines lines indexes
     → new ++ covering_lines lines (drop (i + 1) indexes) ≡ old ++ covering_lines lines indexes
@@ -123,7 +112,7 @@ cover_more lines indexes i old text indented new less e f h =
     ∙ ap (λ z. text ++ covering_lines lines z) (sym cut)
     ∙ h
 
-pub unreached_more : (lines : List LineOfRule) (found : List Unreached) (i : ℕ) (u : Unreached)
+pub unreached_more : (lines : List ContentLine) (found : List Unreached) (i : ℕ) (u : Unreached)
     (old text with_line new : List ℕ) → i < length found → u ≡ get_or found i u
     → with_line ≡ text ++ line_at lines u.rule → new ≡ with_line ++ covering_lines lines u.deciders.items
     → text ++ unreached_lines lines (drop i found) ≡ old ++ unreached_lines lines found
@@ -139,13 +128,13 @@ unreached_more lines found i u old text with_line new less is e f h =
     ∙ ap (λ z. text ++ unreached_lines lines z) (sym cut)
     ∙ h
 
-pub cover_all : (lines : List LineOfRule) (indexes : List ℕ) (i : ℕ) (old text : List ℕ) → length indexes ≤ i
+pub cover_all : (lines : List ContentLine) (indexes : List ℕ) (i : ℕ) (old text : List ℕ) → length indexes ≤ i
     → text ++ covering_lines lines (drop i indexes) ≡ old ++ covering_lines lines indexes
     → text ≡ old ++ covering_lines lines indexes
 cover_all lines indexes i old text past h =
     sym (ap (λ z. text ++ covering_lines lines z) (drop_all i indexes past) ∙ append-nil text) ∙ h
 
-pub unreached_all : (lines : List LineOfRule) (found : List Unreached) (i : ℕ) (old text : List ℕ) → length found ≤ i
+pub unreached_all : (lines : List ContentLine) (found : List Unreached) (i : ℕ) (old text : List ℕ) → length found ≤ i
     → text ++ unreached_lines lines (drop i found) ≡ old ++ unreached_lines lines found
     → text ≡ old ++ unreached_lines lines found
 unreached_all lines found i old text past h =

@@ -1,117 +1,40 @@
--- Lists of rules that are read line by line, and the lines of an answer.
-use Rattle.std.proofs.Common.{◌≡◌, ℕ, ◌+◌, ◌<◌, ◌≤◌, ◌⊎◌, List, [], ◌∷◌, ◌++◌, length, map, take, get_or}
-use Rattle.std.proofs.Common.{refl, sym, ap, ◌∙◌, inl, inr, subst, take_all}
-use Rattle.std.proofs.lemmas.List.{map_more}
+-- Lists of rules that are read line by line, and the causes of refused lines.
+use Rattle.std.proofs.Common.{◌≡◌, ℕ, List, [], ◌∷◌, ◌++◌, refl, sym, ap, ap₂, ◌∙◌, subst}
+use Rattle.std.proofs.lemmas.List.{map_push}
 use Rattle.ipnet.specs.declared.parser.Grammar.{Grammar}
 use Rattle.ipnet_rules.specs.declared.rules.Rule.{Rule}
-use Rattle.ipnet_lists.specs.declared.content_line.ContentLine.{ContentLine}
-use Rattle.netset_lib.specs.declared.rule_line.RuleCause.{RuleCause}
-use Rattle.ipnet_lists.specs.ContentLineOf.{line_of}
-use Rattle.ipnet_lists.specs.ContentLines as lists
-use Rattle.ipnet_lists.specs.ContentLines.{AreNumbered, AreContentLines}
-use Rattle.netset_lib.specs.RuleLines.{RuleContents, no_rules, IsNextRule, IsNextRuleRefusal, IsRuleList}
-use Rattle.netset_lib.specs.RuleLines.{AreRulesRead, rule_and, refusal_and}
-use Rattle.ipnet_lists.specs.Words.{after_word, leading_word}
-use Rattle.netset_lib.specs.RuleLines.{IsRuleText, IsNoRule, IsRuleCause, word_of}
 use Rattle.ipnet_rules.specs.declared.rules.Action.{Action}
+use Rattle.netset_lib.specs.declared.rule_line.RuleCause.{RuleCause}
 use Rattle.netset_lib.specs.declared.rule_line.RuleCause.TheVariants.{UnknownWord, NoEntry, TwoEntries, BadEntry}
+use Rattle.netset_lib.specs.declared.rule_list.RuleList.{RuleList}
 use Rattle.ipnet_lists.specs.Causes.{IsReportedCause}
+use Rattle.ipnet_lists.specs.ContentLines.{ContentLine}
 use Rattle.ipnet_lists.specs.Entries.{IsEntryText, IsNoEntry}
-use Rattle.netset_lib.specs.RuleSteps.{joined, AddsRule, IsEntryCause}
+use Rattle.ipnet_lists.specs.Words.{after_word, leading_word}
+use Rattle.ipnet_lists.proofs.RefusalLaws.{none_refused}
+use Rattle.netset_lib.specs.RuleContentsOf.{WasRuleListRead, contents_of}
+use Rattle.netset_lib.specs.RuleLines.{RuleContents, contents_of_rules, IsRuleOfLine, IsRuleList}
+use Rattle.netset_lib.specs.RuleLines.{IsNoRule, IsRuleCause, word_of}
+use Rattle.netset_lib.specs.RuleSteps.{AddsRule, IsEntryCause}
 
--- each of these lines is a rule or a refused line
-abbrev pub AreLineRules : Grammar → List lists.ContentLine → RuleContents → Type 0
-AreLineRules grammar [] contents = contents ≡ no_rules
-AreLineRules grammar (line ∷ lines) contents = (more : RuleContents) × AreLineRules grammar lines more
-    × (IsNextRule grammar line.number line.text contents more
-    ⊎ IsNextRuleRefusal grammar line.number line.text contents more)
-
--- one line more
-rules_last : (grammar : Grammar) (lines : List lists.ContentLine) (line : lists.ContentLine)
-    (contents one : RuleContents) → AreLineRules grammar lines contents
-    → (IsNextRule grammar line.number line.text one no_rules
-    ⊎ IsNextRuleRefusal grammar line.number line.text one no_rules)
-    → AreLineRules grammar (lines ++ line ∷ []) (joined contents one)
-rules_last grammar [] line contents one none (inl next) = (
-  no_rules,
-  refl,
-  inl (record {
-    rule = next.rule;
-    is = next.is;
-    next = ap (λ z. joined z one) none ∙ ap (joined no_rules) next.next;
-  }),
-)
-rules_last grammar [] line contents one none (inr next) = (
-  no_rules,
-  refl,
-  inr (record {
-    cause = next.cause;
-    none = next.none;
-    reported = next.reported;
-    next = ap (λ z. joined z one) none ∙ ap (joined no_rules) next.next;
-  }),
-)
-rules_last grammar (l ∷ lines) line contents one (more, rest, inl first) adds = (
-  joined more one,
-  rules_last grammar lines line more one rest adds,
-  inl (record { rule = first.rule; is = first.is; next = ap (λ z. joined z one) first.next }),
-)
-rules_last grammar (l ∷ lines) line contents one (more, rest, inr first) adds = (
-  joined more one,
-  rules_last grammar lines line more one rest adds,
-  inr (record {
-    cause = first.cause;
-    none = first.none;
-    reported = first.reported;
-    next = ap (λ z. joined z one) first.next;
-  }),
+-- a line that is taken adds a rule
+pub rule_added : (grammar : Grammar) (line : ContentLine) (old new : RuleContents) → AddsRule grammar line old new
+    → (item : ContentLine × Rule) × IsRuleOfLine grammar line item
+    × ((items : List (ContentLine × Rule)) → old ≡ contents_of_rules items
+    → new ≡ contents_of_rules (items ++ item ∷ []))
+rule_added grammar line old new adds = (
+  (line, adds.rule),
+  (refl, adds.is),
+  λ items h. ap₂ (λ rules lines. record { rules = rules; lines = lines })
+      (adds.rules ∙ ap (λ z. z.rules ++ adds.rule ∷ []) h ∙ sym (map_push (λ i. i.1) items (line, adds.rule)))
+      (adds.lines ∙ ap (λ z. z.lines ++ line ∷ []) h ∙ sym (map_push (λ i. i.0) items (line, adds.rule))),
 )
 
-pub rules_more : (grammar : Grammar) (xs : List ContentLine) (i : ℕ) (d : ContentLine) (old new : RuleContents)
-    → i < length xs → AreLineRules grammar (map line_of (take i xs)) old
-    → AddsRule grammar (line_of (get_or xs i d)) old new
-    → AreLineRules grammar (map line_of (take (i + 1) xs)) new
-rules_more grammar xs i d old new less h (one, is, next) =
-    subst (λ z. AreLineRules grammar z new) (sym (map_more line_of xs i d less))
-    (subst (AreLineRules grammar (map line_of (take i xs) ++ line_of (get_or xs i d) ∷ [])) (sym is)
-    (rules_last grammar (map line_of (take i xs)) (line_of (get_or xs i d)) old one h next))
-
--- the lines that are not empty are the rules and refused lines of all
-rules_of_texts : (grammar : Grammar) (number : ℕ) (texts : List (List ℕ)) (lines : List lists.ContentLine)
-    (contents : RuleContents) → AreNumbered number texts lines → AreLineRules grammar lines contents
-    → AreRulesRead grammar number texts contents
-rules_of_texts grammar number [] lines contents none h = subst (λ z. AreLineRules grammar z contents) none h
-rules_of_texts grammar number ([] ∷ texts) lines contents numbered h =
-    rules_of_texts grammar (number + 1) texts lines contents numbered h
-rules_of_texts grammar number ((b ∷ text) ∷ texts) lines contents (later, is, numbered) h =
-    let (more, rest, one) = subst (λ z. AreLineRules grammar z contents) is h in
-    (more, rules_of_texts grammar (number + 1) texts later more numbered rest, one)
-
-pub rules_whole : (grammar : Grammar) (bytes : List ℕ) (xs : List ContentLine) (i : ℕ) (contents : RuleContents)
-    → length xs ≤ i → AreContentLines bytes (map line_of xs)
-    → AreLineRules grammar (map line_of (take i xs)) contents → IsRuleList grammar bytes contents
-rules_whole grammar bytes xs i contents past (texts, are, numbered) h = (
-  texts,
-  are,
-  rules_of_texts grammar 1 texts (map line_of xs) contents numbered
-      (subst (λ z. AreLineRules grammar (map line_of z) contents) (take_all i xs past) h),
-)
-
--- what a line adds
-pub adds_rule : (grammar : Grammar) (line : lists.ContentLine) (old new : RuleContents) (rule : Rule)
-    → IsRuleText grammar line.text rule → new ≡ joined old (rule_and line.number line.text rule no_rules)
-    → AddsRule grammar line old new
-adds_rule grammar line old new rule is adds =
-    (rule_and line.number line.text rule no_rules, adds, inl (record { rule = rule; is = is; next = refl }))
-
-pub adds_refusal : (grammar : Grammar) (line : lists.ContentLine) (old new : RuleContents) (cause : RuleCause)
-    → IsNoRule grammar line.text → IsRuleCause grammar line.text cause
-    → new ≡ joined old (refusal_and line.number line.text cause no_rules) → AddsRule grammar line old new
-adds_refusal grammar line old new cause none reported adds = (
-  refusal_and line.number line.text cause no_rules,
-  adds,
-  inr (record { cause = cause; none = none; reported = reported; next = refl }),
-)
+-- no line is refused
+pub all_rules : (grammar : Grammar) (bytes : List ℕ) (list : RuleList) → WasRuleListRead grammar bytes list
+    → list.refused.count ≡ 0 → IsRuleList grammar bytes (contents_of list) []
+all_rules grammar bytes list h none =
+    subst (IsRuleList grammar bytes (contents_of list)) (none_refused list.refused h.refusals h.kept none) h.read
 
 -- no rule without an entry after the word
 pub no_rule : (grammar : Grammar) (text rest : List ℕ) → rest ≡ after_word text → IsNoEntry grammar rest

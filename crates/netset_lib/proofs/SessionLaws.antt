@@ -19,7 +19,8 @@ use Rattle.netset_lib.specs.declared.query.Query.TheVariants.{Count, Compare, Fi
 use Rattle.netset_lib.specs.declared.session.Session.{Session}
 use Rattle.netset_lib.specs.Answers.{AreListsRead, IsSetText, IsNamedComplement}
 use Rattle.netset_lib.specs.Answering.{IsAnswererFor, AreAnswersBy}
-use Rattle.netset_lib.specs.Counts.{Names, IsComparison}
+use Rattle.ipnet_lists.specs.Names.{Names}
+use Rattle.netset_lib.specs.Counts.{IsComparison}
 use Rattle.netset_lib.specs.EntryAnswers.{IsFoundIn}
 use Rattle.ipnet_lists.specs.Lists.{ListEntry, Refusal, AreRead, IsInEntries, HaveAddresses}
 use Rattle.netset_lib.specs.ListSets.{HaveMembers}
@@ -28,8 +29,8 @@ use Rattle.netset_lib.specs.PairSets.{ArePairSets}
 use Rattle.netset_lib.specs.PlanAnswers.{IsResultSet}
 use Rattle.netset_lib.specs.declared.operation.Families.TheVariants.{Named}
 use Rattle.netset_lib.specs.declared.operation.ListOperation.TheVariants.{Complement}
-use Rattle.netset_lib.specs.Replies.{work_grammar, TakesCount, IsWorkAnswer, AreReplies, IsFoundFor, IsKept}
-use Rattle.netset_lib.specs.Replies.{HasNoRoute, IsOutcome}
+use Rattle.netset_lib.specs.Replies.{work_grammar, TakesCount, CanAnswer, IsWorkAnswer, AreReplies, IsFoundFor}
+use Rattle.netset_lib.specs.Replies.{IsKept, HasNoRoute, IsOutcome}
 use Rattle.netset_lib.specs.Sessions.{WereRead, IsGood, IsState, IsAskState, IsReplyOf}
 use Rattle.netset_lib.proofs.AnswerTexts.{text_of_same}
 use Rattle.netset_lib.proofs.AnsweringLaws.{replies_right, found_right}
@@ -161,6 +162,32 @@ family_some (set ∷ []) entries members some e =
     some set refl (none_inside set (subst (HaveMembers (set ∷ [])) e members).0)
 family_some (set ∷ other ∷ sets) entries members some e =
     absurd (subst (HaveMembers (set ∷ other ∷ sets)) e members).1
+
+-- the lists of a good session have an answer
+pub can_answer : (work : Work) (lists : List (List ℕ)) (s : Session) → WereRead work lists s → IsGood s
+    → CanAnswer work lists
+can_answer work lists s h good = record {
+  count = (count_taken work lists s h).0 good.count;
+  entries = h.entries;
+  read = subst (AreListsRead (work_grammar work) 0 lists h.entries)
+      (none_of_length h.refusals (sym h.kept.count ∙ good.none)) h.read;
+  named = named work h.same_work h.state;
+}
+  where
+    named : (w : Work) → s.work ≡ w → IsState w s h.entries → IsNamedComplement w → h.entries ≢ [] ∷ []
+    named (Combine request) same state is =
+        family_some s.sets.items h.entries state (good.named (subst IsNamedComplement (sym same) is))
+    named (Ask query grammar) same state is = absurd is
+
+-- two lists whose sets are at hand can be compared
+pub can_compare : (grammar : Grammar) (lists : List (List ℕ)) (one other : IpSet) → ArePairSets grammar lists one other
+    → CanAnswer (Ask Compare grammar) lists
+can_compare grammar lists one other pair = record {
+  count = sym (lists_count grammar 0 lists (pair.first ∷ pair.second ∷ []) [] pair.read);
+  entries = pair.first ∷ pair.second ∷ [];
+  read = pair.read;
+  named = λ is. absurd is;
+}
 
 -- the set that an operation makes of the sets is that of its result on the lists
 pub result_right : (q request : Request) (lists : List (List ℕ)) (s : Session) (set : IpSet)

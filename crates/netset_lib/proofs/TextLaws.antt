@@ -1,9 +1,8 @@
 -- Lines of tables with texts, their routes, and the table of these.
-use Rattle.std.proofs.Common.{◌≡◌, ◌≢◌, ◌⊎◌, ℕ, ◌<◌, ◌≤◌, List, [], ◌∷◌, ◌++◌, Contains}
-use Rattle.std.proofs.Common.{length, map, take, get_or, zero, suc, refl, sym, ap, ◌∙◌, subst, inl, inr, arith}
+use Rattle.std.proofs.Common.{◌≡◌, ◌≢◌, ◌⊎◌, ℕ, ◌<◌, List, [], ◌∷◌, ◌++◌, Contains}
+use Rattle.std.proofs.Common.{length, map, get_or, zero, suc, refl, sym, ap, ◌∙◌, subst, inl, inr, arith}
 use Rattle.std.proofs.Common.{append_assoc, ◌+◌}
-use Rattle.std.proofs.Common.{Option, Result, Ok, Err, IfOk, IfErr}
-use Rattle.std.proofs.lemmas.List.{map-append, map_push}
+use Rattle.std.proofs.lemmas.List.{map-append}
 use Rattle.std.proofs.lemmas.List.Elements.{Contains-append_left, Contains-append_right, Contains-append_cases}
 use Rattle.std.specs.Borrow.{Bor}
 use Rattle.ipnet_base.specs.Network.{Network, truncation}
@@ -14,24 +13,13 @@ use Rattle.ipnet_base.proofs.NetworkLaws.{truncation_of_truncated}
 use Rattle.ipnet_rules.proofs.VerdictLaws.{any_nil}
 use Rattle.ipnet.specs.NetworkOf.{ip_network}
 use Rattle.ipnet.specs.declared.net.IpNet.{IpNet}
-use Rattle.ipnet.specs.declared.parser.Grammar.{Grammar}
 use Rattle.ipnet_routes.specs.Routes.{Route, networks_of, ip_routes, without_host_bits, IsLatest, IsTableOf}
 use Rattle.ipnet_routes.specs.RoutesOf.{routes_of}
 use Rattle.ipnet_sets.specs.SetRanges.{IsInRange}
 use Rattle.ipnet_routes.specs.declared.routes.RouteTable.{RouteTable}
 use Rattle.ipnet_sets.proofs.JoinLaws.{any_push}
-use Rattle.ipnet_lists.specs.declared.cause.Cause.{Cause}
-use Rattle.ipnet_lists.specs.declared.content_line.ContentLine.{ContentLine}
-use Rattle.netset_lib.specs.declared.text_line.TableLine.{TableLine}
-use Rattle.netset_lib.specs.declared.text_table.TextRoutes.{TextRoutes}
-use Rattle.ipnet_lists.specs.ContentLineOf.{line_of, refused_of}
-use Rattle.ipnet_lists.specs.ContentLines as content
-use Rattle.ipnet_lists.specs.ContentLines.{AreContentLines, AreItems}
-use Rattle.ipnet_lists.specs.EntryOf.{entry_range}
-use Rattle.netset_lib.specs.TextTables.{TextLine, IsTextOf, IsTextLine, IsNoTextLine, IsTableOfLines}
-use Rattle.netset_lib.specs.TextSteps.{IsLastOf, AddsBlocks, AreRoutesOf, AddsTableLine, AreTextsRead}
-use Rattle.netset_lib.specs.TextSteps.{line_in, texts_in}
-use Rattle.ipnet_lists.proofs.ContentLaws.{read_next, read_all, items_map}
+use Rattle.netset_lib.specs.TextTables.{TextLine, IsTextOf, IsTableOfLines}
+use Rattle.netset_lib.specs.TextSteps.{IsLastOf, AddsBlocks, AreRoutesOf, texts_in}
 use Rattle.netset_lib.proofs.TableLaws.{network_of_route, some_route, latest_of}
 
 -- ---- the texts of networks, line by line
@@ -94,7 +82,7 @@ last_with_blocks (r ∷ routes) blocks value n w (inr (none, is)) =
 
 -- ---- the routes of the lines
 
-no_routes_yet : AreRoutesOf [] []
+pub no_routes_yet : AreRoutesOf [] []
 no_routes_yet = record {
   networks = λ n. (λ h. absurd (contains_nil n h), λ h. absurd (any_nil _ h));
   texts = λ n text h. absurd h;
@@ -156,64 +144,6 @@ routes_more lines range text old new (blocks, maximal, is) h =
     (ap without_host_bits is ∙ map-append (λ r. (truncation r.0, r.1)) old (map (λ n. (n, text)) blocks)
     ∙ ap (λ z. without_host_bits old ++ z) (cut_blocks blocks text
     (λ n c. truncation_of_truncated n ((maximal.members n).0 c).inside.truncated)))
-
--- ---- the lines that were read
-
--- These lines have these routes and refused lines.
-pub record IsReadTo (grammar : Grammar) (lines : List content.ContentLine) (made : TextRoutes) : Type 0 where
-  pub items : List TableLine
-  pub read : AreItems (λ text l. IsTextLine grammar text (line_in l)) (IsNoTextLine grammar) lines items
-      (map refused_of made.refused.items)
-  pub routes : AreRoutesOf (map line_in items) (without_host_bits (texts_in made.routes.items))
-
-pub read_none : (grammar : Grammar) (made : TextRoutes) → made.routes.items ≡ [] → made.refused.items ≡ []
-    → IsReadTo grammar [] made
-read_none grammar made routes refused = record {
-  items = [];
-  read = (refl, ap (map refused_of) refused);
-  routes = subst (λ z. AreRoutesOf [] (without_host_bits (texts_in z))) (sym routes) no_routes_yet;
-}
-
-pub read_more : (grammar : Grammar) (xs : List ContentLine) (i : ℕ) (d : ContentLine)
-    (read : Result TableLine (Option Cause)) (old new : TextRoutes) → i < length xs
-    → IsReadTo grammar (map line_of (take i xs)) old
-    → IfOk read (λ l. IsTextLine grammar (line_of (get_or xs i d)).text (line_in l))
-    → IfErr read (IsNoTextLine grammar (line_of (get_or xs i d)).text)
-    → AddsTableLine (line_of (get_or xs i d)) read old new
-    → IsReadTo grammar (map line_of (take (i + 1) xs)) new
-read_more grammar xs i d (Ok l) old new less h is reported adds = record {
-  items = h.items ++ l ∷ [];
-  read = read_next (λ text l. IsTextLine grammar text (line_in l)) (IsNoTextLine grammar) line_of xs i d (Ok l) h.items
-      (h.items ++ l ∷ []) (map refused_of old.refused.items) (map refused_of new.refused.items) less h.read is reported
-      (refl, adds.1);
-  routes = subst (λ z. AreRoutesOf z (without_host_bits (texts_in new.routes.items))) (sym (map_push line_in h.items l))
-      (routes_more (map line_in h.items) (entry_range l.entry) l.text.now (texts_in old.routes.items)
-      (texts_in new.routes.items) adds.0 h.routes);
-}
-read_more grammar xs i d (Err cause) old new less h is reported adds = record {
-  items = h.items;
-  read = read_next (λ text l. IsTextLine grammar text (line_in l)) (IsNoTextLine grammar) line_of xs i d (Err cause)
-      h.items h.items (map refused_of old.refused.items) (map refused_of new.refused.items) less h.read is reported
-      (refl, adds.1);
-  routes = subst (λ z. AreRoutesOf (map line_in h.items) (without_host_bits z)) (sym adds.0) h.routes;
-}
-
--- all lines were read
-pub read_whole : (grammar : Grammar) (bytes : List ℕ) (xs : List ContentLine) (i : ℕ) (made : TextRoutes)
-    → length xs ≤ i → AreContentLines bytes (map line_of xs)
-    → IsReadTo grammar (map line_of (take i xs)) made → AreTextsRead grammar bytes made
-read_whole grammar bytes xs i made past contents h = (
-  map line_in h.items,
-  record {
-    contents = map line_of xs;
-    has = contents;
-    items = items_map line_in (IsTextLine grammar) (IsNoTextLine grammar) (map line_of xs) h.items
-        (map refused_of made.refused.items)
-        (read_all (λ text l. IsTextLine grammar text (line_in l)) (IsNoTextLine grammar) line_of xs i h.items
-        (map refused_of made.refused.items) past h.read);
-  },
-  h.routes,
-)
 
 -- ---- the table
 

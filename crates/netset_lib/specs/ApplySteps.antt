@@ -15,8 +15,8 @@ use Rattle.ipnet_lists.specs.declared.content_line.ListFailure.{ListFailure}
 use Rattle.ipnet_lists.specs.declared.content_line.ListFailure.TheVariants as Failures
 use Rattle.netset_lib.specs.Changes.{ListChange, Added, Removed}
 use Rattle.netset_lib.specs.ChangeLists.{IsChangeList, HasRefusedChanges}
-use Rattle.netset_lib.specs.ChangeSteps.{change_of}
-use Rattle.ipnet_lists.specs.ContentLineOf.{refused_of}
+use Rattle.ipnet_lists.specs.Lists.{RefusalFor}
+use Rattle.ipnet_lists.specs.RefusedLines.{AreRefused}
 
 -- The change of this sign.
 abbrev pub signed : Sign → Network → ListChange
@@ -50,11 +50,13 @@ pub record AreParts (changes : List ListChange) (parts : NetworkParts) : Type 0 
 
 -- The changes and the refused lines of the bytes.
 abbrev pub AreChangesRead : Grammar → (Network → Type 0) → List ℕ → ChangeList → Type 0
-AreChangesRead grammar Has bytes list =
-    IsChangeList grammar Has bytes (map change_of list.changes.items) (map refused_of list.refused.items)
+AreChangesRead grammar Has bytes list = (changes : List ListChange) × (refusals : List (RefusalFor ChangeCause))
+    × IsChangeList grammar Has bytes changes refusals × AreRefused list.refused refusals
+    × AreParts changes (parts_of list.parts)
 
 -- Why a set cannot be changed: refused lines, or out of memory. When memory runs out is not specified.
 abbrev pub IsChangeFailure : Grammar → (Address → Type 0) → List ℕ → ListFailure ChangeCause → Type 0
 IsChangeFailure grammar InSet bytes (Failures.Refused lines) =
-    HasRefusedChanges grammar InSet bytes (map refused_of lines.items)
+    (refusals : List (RefusalFor ChangeCause)) × HasRefusedChanges grammar InSet bytes refusals
+    × AreRefused lines refusals
 IsChangeFailure grammar InSet bytes Failures.Memory = Unit {0}

@@ -10,7 +10,8 @@ use Rattle.netset_lib.specs.declared.change_line.ChangeCause.{ChangeCause}
 use Rattle.netset_lib.specs.declared.change_line.ChangeCause.TheVariants.{UnknownSign, NoNetwork, Present, Absent}
 use Rattle.netset_lib.specs.Answers.{IsSetText}
 use Rattle.netset_lib.specs.Changes.{ListChange, Added, Removed, changed_network}
-use Rattle.ipnet_lists.specs.ContentLines.{ContentLine, RefusedContent, AreContentLines, AreItems}
+use Rattle.ipnet_lists.specs.ContentLines.{IsItemList}
+use Rattle.ipnet_lists.specs.Lists.{RefusalFor}
 use Rattle.netset_lib.specs.NetworkEntries.{IsNetworkWord, IsNoNetworkWord, IsNetworkCause}
 use Rattle.netset_lib.specs.PlanAnswers.{HoldsOfResult}
 use Rattle.ipnet_lists.specs.Words.{leading_word, after_word}
@@ -58,11 +59,9 @@ IsChangeCause grammar Has text Absent = (n : Network) × IsChangeText grammar te
 -- and a byte order mark are as in lists of entries. The order of the lines does not matter, nor does a repeated line.
 -- Example: for the networks 10.0.0.0/8, `- 10.0.0.0/8\n+ 10.0.0.0/9 # half\n- ::1\n` has two changes, and line 3 is
 -- refused.
-pub record IsChangeList (grammar : Grammar) (Has : Network → Type 0) (bytes : List ℕ) (changes : List ListChange)
-    (refused : List (RefusedContent ChangeCause)) : Type 0 where
-  pub lines : List ContentLine
-  pub contents : AreContentLines bytes lines
-  pub items : AreItems (IsFittingChange grammar Has) (IsChangeCause grammar Has) lines changes refused
+abbrev pub IsChangeList : Grammar → (Network → Type 0) → List ℕ → List ListChange → List (RefusalFor ChangeCause)
+    → Type 0
+IsChangeList grammar Has = IsItemList (λ line. IsFittingChange grammar Has line.text) (IsChangeCause grammar Has)
 
 -- The networks after the changes: those that no change removes, and those that are added.
 abbrev pub IsKeptOrAdded : (Network → Type 0) → List ListChange → Network → Type 0
@@ -83,7 +82,7 @@ pub record IsChangedText (form : Form) (grammar : Grammar) (InSet : Address → 
 
 -- Some changes of the set's networks are refused, and these are all of them.
 pub record HasRefusedChanges (grammar : Grammar) (InSet : Address → Type 0) (bytes : List ℕ)
-    (refused : List (RefusedContent ChangeCause)) : Type 0 where
+    (refused : List (RefusalFor ChangeCause)) : Type 0 where
   pub changes : List ListChange
   pub read : IsChangeList grammar (IsAnswerNetwork InSet) bytes changes refused
   pub some : refused ≢ []
@@ -98,4 +97,4 @@ IsChangedAnswer request lists bytes text =
 -- No line of the lists is refused, but some changes are.
 abbrev pub HaveRefusedChanges : Request → List (List ℕ) → List ℕ → Type 0
 HaveRefusedChanges request lists bytes = HoldsOfResult request lists (λ InSet.
-    (refused : List (RefusedContent ChangeCause)) × HasRefusedChanges request.grammar InSet bytes refused)
+    (refused : List (RefusalFor ChangeCause)) × HasRefusedChanges request.grammar InSet bytes refused)

@@ -1,12 +1,12 @@
 -- Counting the addresses of a list, and comparing two lists; and the texts of the results.
-use Rattle.std.specs.Prelude.{◌≡◌, ◌↔◌, ℕ, ◌+◌, List, [], ◌∷◌, ◌++◌, codes, decimal, slice_get, Option, Some, None}
-use Rattle.std.specs.Borrow.{Bor}
+use Rattle.std.specs.Prelude.{◌≡◌, ◌↔◌, ℕ, ◌+◌, List, [], ◌∷◌, ◌++◌, codes, decimal}
 use Rattle.ipnet_base.specs.Address.{IPv4, IPv6, Address}
 use Rattle.ipnet.specs.declared.parser.Grammar.{Grammar}
 use Rattle.ipnet_sets.specs.ManySets.{IsInSome}
 use Rattle.ipnet_sets.specs.Members.{IsCountOf}
 use Rattle.netset_lib.specs.Answers.{AreListsRead}
 use Rattle.ipnet_lists.specs.Lists.{ListEntry, IsInEntries}
+use Rattle.ipnet_lists.specs.Names.{Names, name_at}
 
 -- The set has this number of IPv4 addresses, and this number of IPv6 addresses.
 pub record HasCounts (InSet : Address → Type 0) (ipv4 ipv6 : ℕ) : Type 0 where
@@ -23,19 +23,6 @@ pub record IsCountsLine (InSet : Address → Type 0) (line : List ℕ) : Type 0 
   pub ipv6 : ℕ
   pub counts : HasCounts InSet ipv4 ipv6
   pub spelled : line ≡ counts_line ipv4 ipv6
-
--- The names of lists, in order.
-abbrev pub Names : Type 0
-Names = List (Bor (List ℕ))
-
--- A name, or `list` for a list without a name.
-abbrev pub name_or_list : Option (Bor (List ℕ)) → List ℕ
-name_or_list None = codes "list"
-name_or_list (Some name) = name.now
-
--- The name of the list with this index.
-abbrev pub name_at : Names → ℕ → List ℕ
-name_at names i = name_or_list (slice_get names i)
 
 -- A name and the two numbers, with a tab (9) before each number, on one line. Example: `a.txt`, `6` and `0`.
 abbrev pub count_line : List ℕ → ℕ → ℕ → List ℕ

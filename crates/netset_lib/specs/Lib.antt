@@ -38,4 +38,8 @@ pub mod PrefixAnswers
 pub mod PrefixReading
 pub mod TextTables
 pub mod TextSteps
+pub mod TextReasons
 pub mod TextReplies
+pub mod Reports
+pub mod ListReports
+pub mod Reasons

@@ -8,7 +8,8 @@ use Rattle.ipnet_rules.specs.declared.prefix_list.PrefixRule.{PrefixRule}
 use Rattle.ipnet_rules.specs.PrefixLists.{IsRouteVerdict}
 use Rattle.netset_lib.specs.declared.network_entry.NetworkCause.{NetworkCause}
 use Rattle.netset_lib.specs.declared.prefix_line.PrefixCause.{PrefixCause}
-use Rattle.ipnet_lists.specs.ContentLines.{ContentLine, RefusedContent, AreContentLines, AreItems}
+use Rattle.ipnet_lists.specs.ContentLines.{IsItemList}
+use Rattle.ipnet_lists.specs.Lists.{RefusalFor}
 use Rattle.netset_lib.specs.NetworkEntries.{IsNetworkWord, IsNoNetworkWord, IsNetworkCause}
 use Rattle.netset_lib.specs.PrefixLines.{IsPrefixList}
 use Rattle.netset_lib.specs.RuleLines.{word_of}
@@ -30,11 +31,8 @@ pub record IsNoListNetwork (grammar : Grammar) (text : List ℕ) (cause : Networ
 
 -- The bytes are a list of networks: each line is a network or an address, or is refused. Blanks, comments and a byte
 -- order mark are as in lists of entries. Example: of `10.0.0.0/8\n10.0.0.0-10.0.0.255\n`, line 2 is refused.
-pub record IsNetworkList (grammar : Grammar) (bytes : List ℕ) (networks : List ListNetwork)
-    (refused : List (RefusedContent NetworkCause)) : Type 0 where
-  pub lines : List ContentLine
-  pub contents : AreContentLines bytes lines
-  pub items : AreItems (IsListNetwork grammar) (IsNoListNetwork grammar) lines networks refused
+abbrev pub IsNetworkList : Grammar → List ℕ → List ListNetwork → List (RefusalFor NetworkCause) → Type 0
+IsNetworkList grammar = IsItemList (λ line. IsListNetwork grammar line.text) (IsNoListNetwork grammar)
 
 -- The line of a verdict: the word of the action, and the network as it is written. Example: `permit 10.1.0.0/16`.
 abbrev pub verdict_line : Action → ListNetwork → List ℕ
@@ -62,15 +60,15 @@ pub record IsVerdictAnswer (grammar : Grammar) (prefixes bytes : List ℕ) (deni
   pub is_denied : IsTrue denied ↔ IsOneDenied rules networks
 
 -- Some lines of the prefix list are refused, and these are all of them.
-pub record HasRefusedPrefixes (grammar : Grammar) (prefixes : List ℕ) (refused : List (RefusedContent PrefixCause))
+pub record HasRefusedPrefixes (grammar : Grammar) (prefixes : List ℕ) (refused : List (RefusalFor PrefixCause))
     : Type 0 where
   pub rules : List PrefixRule
   pub read : IsPrefixList grammar prefixes rules refused
   pub some : refused ≢ []
 
 -- Some lines of the list of networks are refused, and these are all of them.
-pub record HasRefusedNetworks (grammar : Grammar) (bytes : List ℕ) (refused : List (RefusedContent NetworkCause))
-    : Type 0 where
+pub record HasRefusedNetworks (grammar : Grammar) (bytes : List ℕ) (refused : List (RefusalFor NetworkCause)) : Type
+    0 where
   pub networks : List ListNetwork
   pub read : IsNetworkList grammar bytes networks refused
   pub some : refused ≢ []

@@ -12,7 +12,8 @@ use Rattle.ipnet_rules.specs.PrefixLists.{IsBound, IsAbove}
 use Rattle.netset_lib.specs.declared.prefix_line.PrefixCause.{PrefixCause}
 use Rattle.netset_lib.specs.declared.prefix_line.PrefixCause.TheVariants.{UnknownWord, NoNetwork, BadBounds}
 use Rattle.netset_lib.specs.declared.prefix_line.PrefixCause.TheVariants.{RefusedBounds}
-use Rattle.ipnet_lists.specs.ContentLines.{ContentLine, RefusedContent, AreContentLines, AreItems}
+use Rattle.ipnet_lists.specs.ContentLines.{IsItemList}
+use Rattle.ipnet_lists.specs.Lists.{RefusalFor}
 use Rattle.netset_lib.specs.NetworkEntries.{IsNetworkWord, IsNoNetworkWord, IsNetworkCause}
 use Rattle.netset_lib.specs.RuleLines.{word_of, HasRuleWord}
 use Rattle.ipnet_lists.specs.Words.{leading_word, after_word}
@@ -81,8 +82,5 @@ IsPrefixCause grammar text (RefusedBounds error) = HasRuleWord text × HasRefuse
 -- The bytes are a prefix list: each line is a rule or is refused. Blanks, comments and a byte order mark are as in
 -- lists of entries.
 -- Example: `permit 10.0.0.0/8 le 24 # ours\n\ndeny any\n` has a rule on line 1, and line 3 is refused.
-pub record IsPrefixList (grammar : Grammar) (bytes : List ℕ) (rules : List PrefixRule)
-    (refused : List (RefusedContent PrefixCause)) : Type 0 where
-  pub lines : List ContentLine
-  pub contents : AreContentLines bytes lines
-  pub items : AreItems (IsPrefixText grammar) (IsPrefixCause grammar) lines rules refused
+abbrev pub IsPrefixList : Grammar → List ℕ → List PrefixRule → List (RefusalFor PrefixCause) → Type 0
+IsPrefixList grammar = IsItemList (λ line. IsPrefixText grammar line.text) (IsPrefixCause grammar)

@@ -1,38 +1,42 @@
 -- The private steps of the verdicts of a prefix list.
 -- Only private contracts use these, except `IsPrefixFailure`.
-use Rattle.std.specs.Prelude.{◌≡◌, ◌↔◌, ◌⊎◌, ℕ, List, ◌++◌, map, IsTrue}
-use Rattle.ipnet.specs.NetworkOf.{ip_network}
+use Rattle.std.specs.Prelude.{◌≡◌, ◌↔◌, ◌⊎◌, ℕ, List, ◌++◌, IsTrue}
 use Rattle.ipnet.specs.declared.parser.Grammar.{Grammar}
 use Rattle.ipnet_rules.specs.declared.rules.Action.{Action}
 use Rattle.ipnet_rules.specs.declared.rules.Action.TheVariants.{Deny}
 use Rattle.ipnet_rules.specs.declared.prefix_list.PrefixRule.{PrefixRule}
 use Rattle.ipnet_rules.specs.PrefixLists.{IsRouteVerdict}
-use Rattle.netset_lib.specs.declared.prefix_answer.ListNetwork.{ListNetwork}
-use Rattle.netset_lib.specs.declared.prefix_answer.NetworkLines.{NetworkLines}
+use Rattle.netset_lib.specs.declared.prefix_answer.JudgedNetworks.{JudgedNetworks}
 use Rattle.netset_lib.specs.declared.prefix_answer.PrefixFailure.{PrefixFailure}
 use Rattle.netset_lib.specs.declared.prefix_answer.PrefixFailure.TheVariants as Failures
 use Rattle.netset_lib.specs.declared.prefix_answer.PrefixLines.{PrefixLines}
 use Rattle.netset_lib.specs.declared.prefix_answer.Verdicts.{Verdicts}
-use Rattle.ipnet_lists.specs.ContentLineOf.{refused_of}
-use Rattle.netset_lib.specs.PrefixAnswers as answers
-use Rattle.netset_lib.specs.PrefixAnswers.{IsNetworkList, verdict_line, HasRefusedPrefixes, HasRefusedNetworks}
+use Rattle.ipnet_lists.specs.Lists.{RefusalFor}
+use Rattle.ipnet_lists.specs.RefusedLines.{AreRefused}
+use Rattle.netset_lib.specs.declared.network_entry.NetworkCause.{NetworkCause}
+use Rattle.netset_lib.specs.declared.prefix_line.PrefixCause.{PrefixCause}
+use Rattle.netset_lib.specs.PrefixAnswers.{ListNetwork, IsNetworkList, verdict_line, AreVerdicts, IsOneDenied}
+use Rattle.netset_lib.specs.PrefixAnswers.{HasRefusedPrefixes, HasRefusedNetworks}
 use Rattle.netset_lib.specs.PrefixLines.{IsPrefixList}
-
--- The network that a value represents.
-abbrev pub network_in : ListNetwork → answers.ListNetwork
-network_in n = record { text = n.text.now; network = ip_network n.network }
 
 -- The rules and the refused lines of the bytes.
 abbrev pub ArePrefixesRead : Grammar → List ℕ → PrefixLines → Type 0
-ArePrefixesRead grammar bytes lines = IsPrefixList grammar bytes lines.rules.items (map refused_of lines.refused.items)
+ArePrefixesRead grammar bytes lines = (refusals : List (RefusalFor PrefixCause))
+    × IsPrefixList grammar bytes lines.rules.items refusals × AreRefused lines.refused refusals
 
--- The networks and the refused lines of the bytes.
-abbrev pub AreNetworksRead : Grammar → List ℕ → NetworkLines → Type 0
-AreNetworksRead grammar bytes lines =
-    IsNetworkList grammar bytes (map network_in lines.networks.items) (map refused_of lines.refused.items)
+-- These are the verdicts of the rules on the networks.
+pub record AreVerdictsOn (rules : List PrefixRule) (verdicts : Verdicts) (networks : List ListNetwork) : Type 0 where
+  pub text : AreVerdicts rules networks verdicts.text.items
+  pub denied : IsTrue verdicts.denied ↔ IsOneDenied rules networks
+
+-- The verdicts of the rules on the networks of the bytes, and the refused lines.
+abbrev pub AreJudged : Grammar → List ℕ → List PrefixRule → JudgedNetworks → Type 0
+AreJudged grammar bytes rules judged = (networks : List ListNetwork) × (refusals : List (RefusalFor NetworkCause))
+    × IsNetworkList grammar bytes networks refusals × AreRefused judged.refused refusals
+    × AreVerdictsOn rules judged.verdicts networks
 
 -- The verdict of the rules on the network is added.
-pub record AddsVerdict (rules : List PrefixRule) (n : answers.ListNetwork) (old new : Verdicts) : Type 0 where
+pub record AddsVerdict (rules : List PrefixRule) (n : ListNetwork) (old new : Verdicts) : Type 0 where
   pub action : Action
   pub verdict : IsRouteVerdict rules n.network action
   pub line : new.text.items ≡ old.text.items ++ verdict_line action n
@@ -42,7 +46,8 @@ pub record AddsVerdict (rules : List PrefixRule) (n : answers.ListNetwork) (old 
 -- When memory runs out is not specified.
 abbrev pub IsPrefixFailure : Grammar → (prefixes bytes : List ℕ) → PrefixFailure → Type 0
 IsPrefixFailure grammar prefixes bytes (Failures.Prefixes lines) =
-    HasRefusedPrefixes grammar prefixes (map refused_of lines.items)
+    (refusals : List (RefusalFor PrefixCause)) × HasRefusedPrefixes grammar prefixes refusals
+    × AreRefused lines refusals
 IsPrefixFailure grammar prefixes bytes (Failures.Networks lines) =
-    HasRefusedNetworks grammar bytes (map refused_of lines.items)
+    (refusals : List (RefusalFor NetworkCause)) × HasRefusedNetworks grammar bytes refusals × AreRefused lines refusals
 IsPrefixFailure grammar prefixes bytes Failures.Memory = Unit {0}

@@ -1,5 +1,5 @@
 -- What is asked of lists, and the results.
-use Rattle.std.specs.Prelude.{◌≡◌, ◌≤◌, ◌↔◌, Bool, IsTrue, not, ℕ, List, [], ◌∷◌, length}
+use Rattle.std.specs.Prelude.{◌≡◌, ◌≢◌, ◌≤◌, ◌↔◌, Bool, IsTrue, not, ℕ, List, [], ◌∷◌, length}
 use Rattle.ipnet.specs.declared.parser.Grammar.{Grammar}
 use Rattle.netset_lib.specs.declared.failure.Failure.{Failure}
 use Rattle.netset_lib.specs.declared.failure.Failure.TheVariants as Failures
@@ -8,7 +8,8 @@ use Rattle.netset_lib.specs.declared.command.Work.TheVariants.{Combine, Ask}
 use Rattle.netset_lib.specs.declared.query.Query.{Query}
 use Rattle.netset_lib.specs.declared.query.Query.TheVariants.{Count, Compare, Filter, Route}
 use Rattle.netset_lib.specs.Answers.{AreListsRead, IsAnswer, IsNamedComplement, HasRefused}
-use Rattle.netset_lib.specs.Counts.{Names, IsCountAnswer, IsCompareAnswer, HaveSame}
+use Rattle.ipnet_lists.specs.Names.{Names}
+use Rattle.netset_lib.specs.Counts.{IsCountAnswer, IsCompareAnswer, HaveSame}
 use Rattle.netset_lib.specs.EntryAnswers.{IsFoundIn}
 use Rattle.netset_lib.specs.declared.filter.Side.{Side}
 use Rattle.netset_lib.specs.Filters.{IsOnSide, LiesIn, AreKept, text_of_entries, IsFilterAnswer}
@@ -45,14 +46,27 @@ abbrev pub IsWorkAnswer : Work → Names → List (List ℕ) → List ℕ → Ty
 IsWorkAnswer (Combine request) names = IsAnswer request
 IsWorkAnswer (Ask query grammar) names = IsReply query names grammar
 
--- Why there is no answer: a wrong number of lists, refused lines, a complement for the families of a list without
--- entries, or out of memory. When memory runs out is not specified.
+-- The lists have an answer: they are as many as the work takes, and no line of them is refused. If the work is the
+-- complement for the families of a list, the list has an entry.
+-- Example: a union of `10.0.0.0/8`; not a union of `10.0.0.0/33`, and not a comparison of one list.
+pub record CanAnswer (work : Work) (lists : List (List ℕ)) : Type 0 where
+  pub count : TakesCount work (length lists)
+  pub entries : List (List ListEntry)
+  pub read : AreListsRead (work_grammar work) 0 lists entries []
+  pub named : IsNamedComplement work → entries ≢ [] ∷ []
+
+-- Why there is no answer. The work takes another number of lists. Or it takes this number, and some lines are refused,
+-- or it is a complement for the families of a list without entries. Only if nothing of this is so, the failure may be
+-- out of memory. When memory runs out is not specified. Lists that were read are not unreadable.
+-- Example: of a union of `10.0.0.0/33`, only that line 1 of list 0 is refused.
 abbrev pub IsWorkFailure : Work → List (List ℕ) → Failure → Type 0
 IsWorkFailure work lists Failures.Count = ¬ (TakesCount work (length lists))
-IsWorkFailure work lists (Failures.Refused lines) = HasRefused (work_grammar work) lists lines
+IsWorkFailure work lists (Failures.Refused lines) =
+    TakesCount work (length lists) × HasRefused (work_grammar work) lists lines
 IsWorkFailure work lists Failures.NoFamily =
     IsNamedComplement work × AreListsRead (work_grammar work) 0 lists ([] ∷ []) []
-IsWorkFailure work lists Failures.Memory = Unit {0}
+IsWorkFailure work lists Failures.Unreadable = ⊥
+IsWorkFailure work lists Failures.Memory = CanAnswer work lists
 
 -- No line of the two lists is refused. `same` says whether they have the same addresses.
 pub record AreCompared (grammar : Grammar) (lists : List (List ℕ)) (same : Bool) : Type 0 where

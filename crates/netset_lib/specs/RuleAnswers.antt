@@ -1,5 +1,5 @@
 -- The queries on a list of rules, and the answers.
-use Rattle.std.specs.Prelude.{◌≡◌, ◌≢◌, ◌↔◌, ℕ, zero, suc, Bool, true, false, List, [], ◌∷◌, ◌++◌, codes, decimal, map}
+use Rattle.std.specs.Prelude.{◌≡◌, ◌≢◌, ◌↔◌, ℕ, zero, suc, Bool, true, false, List, [], ◌∷◌, ◌++◌, codes, decimal}
 use Rattle.ipnet_base.specs.Address.{Address, IsAddress}
 use Rattle.ipnet.specs.declared.parser.Grammar.{Grammar}
 use Rattle.ipnet_rules.specs.declared.rules.Action.{Action}
@@ -13,8 +13,9 @@ use Rattle.ipnet_rules.specs.UnreachedRules.{IsUnreached, AreUnreached}
 use Rattle.ipnet_lists.specs.declared.content_line.ListFailure.{ListFailure}
 use Rattle.ipnet_lists.specs.declared.content_line.ListFailure.TheVariants as Failures
 use Rattle.netset_lib.specs.declared.rule_line.RuleCause.{RuleCause}
-use Rattle.netset_lib.specs.RuleContentsOf.{rule_refusal}
-use Rattle.netset_lib.specs.RuleLines.{LineOfRule, RuleContents, IsRuleList}
+use Rattle.netset_lib.specs.declared.rule_list.RuleList.{RuleList}
+use Rattle.ipnet_lists.specs.ContentLines.{ContentLine}
+use Rattle.netset_lib.specs.RuleLines.{RuleContents, IsRuleList}
 
 -- The addresses that the rules permit: the first rule that matches the address permits it; or no rule matches it, and
 -- the default is to permit.
@@ -22,7 +23,7 @@ abbrev pub IsPermittedBy : List Rule → Action → Address → Type 0
 IsPermittedBy rules default x = IsAddress x × HasRuleVerdict rules default x Permit
 
 -- The number of a line and its text. Example: `line 4: permit 10.0.1.192/26`.
-abbrev pub line_text : LineOfRule → List ℕ
+abbrev pub line_text : ContentLine → List ℕ
 line_text l = codes "line " ++ decimal l.number ++ codes ": " ++ l.text ++ 10 ∷ []
 
 -- The text of the item at this index, counted from 0, or nothing if there is none.
@@ -32,16 +33,16 @@ text_at text_of (x ∷ items) zero = text_of x
 text_at text_of (x ∷ items) (suc index) = text_at text_of items index
 
 -- The text of the line at this index, or nothing if there is none.
-abbrev pub line_at : List LineOfRule → ℕ → List ℕ
+abbrev pub line_at : List ContentLine → ℕ → List ℕ
 line_at lines index = text_at line_text lines index
 
 -- The lines at these indexes, each after two spaces.
-abbrev pub covering_lines : List LineOfRule → List ℕ → List ℕ
+abbrev pub covering_lines : List ContentLine → List ℕ → List ℕ
 covering_lines lines [] = []
 covering_lines lines (index ∷ indexes) = codes "  " ++ line_at lines index ++ covering_lines lines indexes
 
 -- The line of each unreached rule, and after it the lines of the rules that decide on its addresses.
-abbrev pub unreached_lines : List LineOfRule → List Unreached → List ℕ
+abbrev pub unreached_lines : List ContentLine → List Unreached → List ℕ
 unreached_lines lines [] = []
 unreached_lines lines (u ∷ found) =
     line_at lines u.rule ++ covering_lines lines u.deciders.items ++ unreached_lines lines found
@@ -54,41 +55,32 @@ pub record AreUnreachedLines (contents : RuleContents) (text : List ℕ) : Type 
   pub unreached : AreUnreached contents.rules found
   pub spelled : text ≡ unreached_lines contents.lines found
 
--- No line is refused, and the text has the lines of the rules that decide on no address.
-pub record IsUnreachedText (contents : RuleContents) (text : List ℕ) : Type 0 where
-  pub none : contents.refused ≡ []
-  pub right : AreUnreachedLines contents text
-
 -- The text is the lines of the unreached rules of the list with these bytes. No line of the list is refused.
 pub record IsUnreachedAnswer (grammar : Grammar) (bytes text : List ℕ) : Type 0 where
   pub contents : RuleContents
-  pub read : IsRuleList grammar bytes contents
-  pub answer : IsUnreachedText contents text
+  pub read : IsRuleList grammar bytes contents []
+  pub right : AreUnreachedLines contents text
 
--- No line is refused, and the set has the addresses that the rules permit.
-pub record IsPermittedSet (default : Action) (contents : RuleContents) (set : IpSet) : Type 0 where
-  pub none : contents.refused ≡ []
-  pub right : (x : Address) → IsMember set x ↔ IsPermittedBy contents.rules default x
+-- The set has the addresses that the rules permit.
+abbrev pub IsPermittedSet : Action → List Rule → IpSet → Type 0
+IsPermittedSet default rules set = (x : Address) → IsMember set x ↔ IsPermittedBy rules default x
 
--- Why there is no answer. If lines are refused, the failure has all of them. If no line is refused, memory ran out;
--- when it does is not specified.
-abbrev pub IsRuleFailure : RuleContents → ListFailure RuleCause → Type 0
-IsRuleFailure contents (Failures.Refused lines) =
-    (contents.refused ≢ []) × (map rule_refusal lines.items ≡ contents.refused)
-IsRuleFailure contents Failures.Memory = contents.refused ≡ []
+-- Why there is no answer. If lines are refused, the failure has those of the list. If no line is refused, memory ran
+-- out; when it does is not specified.
+abbrev pub IsRuleFailure : RuleList → ListFailure RuleCause → Type 0
+IsRuleFailure list (Failures.Refused lines) = (list.refused.count ≢ 0) × (lines ≡ list.refused)
+IsRuleFailure list Failures.Memory = list.refused.count ≡ 0
 
 -- No line of the list is refused, and each of its rules decides on some address.
 pub record AreAllReached (grammar : Grammar) (bytes : List ℕ) : Type 0 where
   pub contents : RuleContents
-  pub read : IsRuleList grammar bytes contents
-  pub none : contents.refused ≡ []
+  pub read : IsRuleList grammar bytes contents []
   pub reached : (index : ℕ) → ¬ (IsUnreached contents.rules index)
 
 -- No line of the list is refused, and one of its rules decides on no address.
 pub record IsOneUnreached (grammar : Grammar) (bytes : List ℕ) : Type 0 where
   pub contents : RuleContents
-  pub read : IsRuleList grammar bytes contents
-  pub none : contents.refused ≡ []
+  pub read : IsRuleList grammar bytes contents []
   pub index : ℕ
   pub unreached : IsUnreached contents.rules index
 

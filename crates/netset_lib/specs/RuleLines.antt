@@ -1,9 +1,8 @@
 -- Lists of rules as people keep them: a rule on each line, which is a word and an entry.
-use Rattle.std.specs.Prelude.{◌≡◌, ◌≢◌, ◌⊎◌, ◌↔◌, ℕ, ◌+◌, List, [], ◌∷◌, codes}
+use Rattle.std.specs.Prelude.{◌≡◌, ◌≢◌, ◌↔◌, ℕ, List, [], codes, map}
 use Rattle.ipnet_base.specs.Address.{Address}
 use Rattle.ipnet_base.specs.Ranges.{AddressRange}
 use Rattle.ipnet.specs.declared.parser.Grammar.{Grammar}
-use Rattle.ipnet.specs.Lines.{lines_of}
 use Rattle.ipnet_rules.specs.declared.rules.Action.{Action}
 use Rattle.ipnet_rules.specs.declared.rules.Action.TheVariants.{Permit, Deny}
 use Rattle.ipnet_rules.specs.declared.rules.Rule.{Rule}
@@ -13,7 +12,8 @@ use Rattle.netset_lib.specs.declared.rule_line.RuleCause.{RuleCause}
 use Rattle.netset_lib.specs.declared.rule_line.RuleCause.TheVariants.{UnknownWord, NoEntry, TwoEntries, BadEntry}
 use Rattle.ipnet_lists.specs.Causes.{IsReportedCause}
 use Rattle.ipnet_lists.specs.Entries.{IsEntryText, IsNoEntry}
-use Rattle.ipnet_lists.specs.Lists.{AreContents, after_mark}
+use Rattle.ipnet_lists.specs.ContentLines.{ContentLine, IsItemList}
+use Rattle.ipnet_lists.specs.Lists.{RefusalFor}
 use Rattle.ipnet_lists.specs.Words.{leading_word, after_word}
 
 -- The word of an action at the start of a rule.
@@ -47,71 +47,29 @@ IsRuleCause grammar text (BadEntry cause) = HasRuleWord text × (after_word text
     × (leading_word (after_word text) ≡ after_word text) × IsNoEntry grammar (after_word text)
     × IsReportedCause grammar (after_word text) cause
 
--- The line of a rule: its number, from 1, and its contents.
-pub record LineOfRule : Type 0 where
-  pub number : ℕ
-  pub text : List ℕ
-
--- A refused line: its number, from 1, its contents, and why they are not a rule.
-pub record RuleRefusal : Type 0 where
-  pub number : ℕ
-  pub text : List ℕ
-  pub cause : RuleCause
-
--- The contents of a list of rules: the rules, the line of each rule, and the refused lines, all in order.
-pub record RuleContents : Type 0 where
-  pub rules : List Rule
-  pub lines : List LineOfRule
-  pub refused : List RuleRefusal
-
--- Nothing.
-abbrev pub no_rules : RuleContents
-no_rules = record { rules = []; lines = []; refused = [] }
-
--- A rule on this line, and then these.
-abbrev pub rule_and : ℕ → List ℕ → Rule → RuleContents → RuleContents
-rule_and number text rule more = record {
-  rules = rule ∷ more.rules;
-  lines = record { number = number; text = text } ∷ more.lines;
-  refused = more.refused;
-}
-
--- A refused line, and then these.
-abbrev pub refusal_and : ℕ → List ℕ → RuleCause → RuleContents → RuleContents
-refusal_and number text cause more = record {
-  rules = more.rules;
-  lines = more.lines;
-  refused = record { number = number; text = text; cause = cause } ∷ more.refused;
-}
-
--- The first of the contents is the rule that this text is, and `more` are the others.
-pub record IsNextRule (grammar : Grammar) (number : ℕ) (text : List ℕ) (contents more : RuleContents) : Type 0 where
-  pub rule : Rule
-  pub is : IsRuleText grammar text rule
-  pub next : contents ≡ rule_and number text rule more
-
--- The first of the contents is this refused line, and `more` are the others.
-pub record IsNextRuleRefusal (grammar : Grammar) (number : ℕ) (text : List ℕ) (contents more : RuleContents) : Type
-    0 where
-  pub cause : RuleCause
+-- The text is not a rule, for this cause.
+pub record IsRefusedRule (grammar : Grammar) (text : List ℕ) (cause : RuleCause) : Type 0 where
   pub none : IsNoRule grammar text
   pub reported : IsRuleCause grammar text cause
-  pub next : contents ≡ refusal_and number text cause more
 
--- Lines with these texts, the first with this number, have these rules and refused lines. Empty ones are skipped.
-abbrev pub AreRulesRead : Grammar → ℕ → List (List ℕ) → RuleContents → Type 0
-AreRulesRead grammar number [] contents = contents ≡ no_rules
-AreRulesRead grammar number ([] ∷ texts) contents = AreRulesRead grammar (number + 1) texts contents
-AreRulesRead grammar number ((b ∷ text) ∷ texts) contents =
-    (more : RuleContents) × AreRulesRead grammar (number + 1) texts more
-    × (IsNextRule grammar number (b ∷ text) contents more ⊎ IsNextRuleRefusal grammar number (b ∷ text) contents more)
+-- The contents of a list of rules: the rules, and the line of each rule, in order.
+pub record RuleContents : Type 0 where
+  pub rules : List Rule
+  pub lines : List ContentLine
 
--- These lines, the first with this number, have these rules and refused lines.
-abbrev pub AreRuleLines : Grammar → ℕ → List (List ℕ) → RuleContents → Type 0
-AreRuleLines grammar number lines contents =
-    (texts : List (List ℕ)) × AreContents lines texts × AreRulesRead grammar number texts contents
+-- The contents are the rules of these lines.
+abbrev pub contents_of_rules : List (ContentLine × Rule) → RuleContents
+contents_of_rules items = record { rules = map (λ i. i.1) items; lines = map (λ i. i.0) items }
 
--- The bytes are a list of rules with these contents. Blanks, comments and a byte order mark are as in lists of entries.
+-- The line is this item: the line itself, and the rule that its text is.
+abbrev pub IsRuleOfLine : Grammar → ContentLine → ContentLine × Rule → Type 0
+IsRuleOfLine grammar line item = (item.0 ≡ line) × IsRuleText grammar line.text item.1
+
+-- The bytes are a list of rules with these contents and refused lines. Blanks, comments and a byte order mark are as in
+-- lists of entries.
 -- Example: `permit 10.0.0.0/8 # ours\n\nallow ::1\n` has a rule on line 1, and line 3 is refused.
-abbrev pub IsRuleList : Grammar → List ℕ → RuleContents → Type 0
-IsRuleList grammar bytes contents = AreRuleLines grammar 1 (lines_of (after_mark bytes)) contents
+pub record IsRuleList (grammar : Grammar) (bytes : List ℕ) (contents : RuleContents)
+    (refused : List (RefusalFor RuleCause)) : Type 0 where
+  pub items : List (ContentLine × Rule)
+  pub read : IsItemList (IsRuleOfLine grammar) (IsRefusedRule grammar) bytes items refused
+  pub is : contents ≡ contents_of_rules items

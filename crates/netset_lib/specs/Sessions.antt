@@ -1,6 +1,6 @@
 -- The lists that a session has read.
-use Rattle.std.specs.Prelude.{◌≡◌, ◌≢◌, ◌↔◌, IsTrue, ℕ, Bool, true, not, List, [], ◌∷◌, ◌++◌, length, string_bytes}
-use Rattle.std.specs.Prelude.{Option, Some}
+use Rattle.std.specs.Prelude.{◌≡◌, ◌≢◌, ◌↔◌, IsTrue, ℕ, Bool, true, false, not, List, [], ◌∷◌, ◌++◌, length}
+use Rattle.std.specs.Prelude.{string_bytes, Option, Some}
 use Rattle.ipnet_sets.specs.declared.set.IpSet.{IpSet}
 use Rattle.ipnet_sets.specs.Members.{HasNoAddress}
 use Rattle.ipnet.specs.declared.parser.Grammar.{Grammar}
@@ -15,12 +15,13 @@ use Rattle.netset_lib.specs.declared.query.Query.TheVariants.{Count, Compare, Fi
 use Rattle.netset_lib.specs.declared.session.Session.{Session}
 use Rattle.netset_lib.specs.Answering.{IsAnswererFor, AreAnswersBy}
 use Rattle.netset_lib.specs.Answers.{AreListsRead, IsSetText, IsNamedComplement}
-use Rattle.netset_lib.specs.Counts.{Names, IsCountText, IsComparison}
+use Rattle.ipnet_lists.specs.Names.{Names}
+use Rattle.netset_lib.specs.Counts.{IsCountText, IsComparison}
 use Rattle.ipnet_lists.specs.Lists.{ListEntry, Refusal, IsListRead, IsInEntries}
 use Rattle.netset_lib.specs.ListSets.{HaveMembers}
 use Rattle.netset_lib.specs.Operations.{IsInResult}
 use Rattle.ipnet_lists.specs.Reading.{WasMadeOf}
-use Rattle.ipnet_lists.specs.RefusedLines.{AreRefused}
+use Rattle.ipnet_lists.specs.RefusedLines.{RefusedLines, AreRefused}
 use Rattle.netset_lib.specs.Replies.{work_grammar, TakesCount}
 
 -- A filter or a route has its answerer after the first list, and the lines of the answer after the second.
@@ -45,6 +46,7 @@ IsState (Ask Route grammar) s entries = IsAskState Route s entries
 pub record ReadsNext (State : Session → List (List ListEntry) → Type 0) (left left_after : Option (List ℕ))
     (old new : Session) : Type 0 where
   pub same_work : new.work ≡ old.work
+  pub same_broken : new.is_broken ≡ old.is_broken
   pub read : WasMadeOf left left_after old.reading new.reading
       (λ entries. (before : List (List ListEntry)) → length before ≡ old.reading.lines.list → State old before
       → State new (before ++ entries ∷ []))
@@ -67,9 +69,14 @@ IsReplyOf (Ask (Filter side) grammar) names sets answers answer =
 IsReplyOf (Ask Route grammar) names sets answers answer =
     (answer.text ≡ answers.text) × (answer.succeeded ≡ not answers.found)
 
+-- A list could not be read. Then every later call fails.
+abbrev pub IsBroken : Session → Type 0
+IsBroken s = s.is_broken ≡ true
+
 -- The session of this work has read exactly these lists, in this order.
 pub record WereRead (work : Work) (lists : List (List ℕ)) (s : Session) : Type 0 where
   pub same_work : s.work ≡ work
+  pub sound : s.is_broken ≡ false
   pub same_grammar : s.reading.lines.grammar ≡ work_grammar work
   pub count : s.reading.lines.list ≡ length lists
   pub entries : List (List ListEntry)
@@ -97,7 +104,11 @@ WereCompared grammar = WereRead (Ask Compare grammar)
 abbrev pub has_entry : Session → Bool
 has_entry s = s.reading.lines.has_entry
 
--- How many lines of the lists that the session has read were refused (`WereRead` has them in `kept`).
+-- The refused lines of the lists that the session has read (`WereRead` has them in `kept`).
+abbrev pub refused_lines : Session → RefusedLines
+refused_lines s = s.reading.lines.refused
+
+-- How many lines of the lists that the session has read were refused.
 abbrev pub refused_count : Session → ℕ
 refused_count s = s.reading.lines.refused.count
 

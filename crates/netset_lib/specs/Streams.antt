@@ -101,6 +101,7 @@ abbrev pub IsNoStart : Work → List (List ℕ) → Failure → Type 0
 IsNoStart work lists Failures.Count = ¬ (CanStream work (length lists))
 IsNoStart work lists (Failures.Refused lines) = HasRefused (work_grammar work) lists lines
 IsNoStart work lists Failures.NoFamily = ⊥
+IsNoStart work lists Failures.Unreadable = ⊥
 IsNoStart work lists Failures.Memory = ⊥
 
 -- Why a stream ended, and what was written then. When a read, a write or memory fails is not specified.

@@ -1,10 +1,10 @@
 -- Why a table with texts has no answers to the entries of a list.
-use Rattle.std.specs.Prelude.{ℕ, List, map}
+use Rattle.std.specs.Prelude.{ℕ, List}
 use Rattle.ipnet.specs.declared.parser.Grammar.{Grammar}
 use Rattle.netset_lib.specs.declared.text_route.TextFailure.{TextFailure}
 use Rattle.netset_lib.specs.declared.text_route.TextFailure.TheVariants as Failures
-use Rattle.ipnet_lists.specs.ContentLineOf.{refused_of}
-use Rattle.ipnet_lists.specs.Lists.{Refusal}
+use Rattle.netset_lib.specs.declared.text_line.NotTextLine.{NotTextLine}
+use Rattle.ipnet_lists.specs.Lists.{Refusal, RefusalFor}
 use Rattle.ipnet_lists.specs.RefusedLines.{AreRefused}
 use Rattle.netset_lib.specs.TextTables.{HasRefusedTextLines, HasRefusedEntries}
 
@@ -12,7 +12,8 @@ use Rattle.netset_lib.specs.TextTables.{HasRefusedTextLines, HasRefusedEntries}
 -- memory runs out is not specified.
 abbrev pub IsTextFailure : Grammar → (table list : List ℕ) → TextFailure → Type 0
 IsTextFailure grammar table list (Failures.Table lines) =
-    HasRefusedTextLines grammar table (map refused_of lines.items)
+    (refusals : List (RefusalFor NotTextLine)) × HasRefusedTextLines grammar table refusals
+    × AreRefused lines refusals
 IsTextFailure grammar table list (Failures.List lines) =
     (refusals : List Refusal) × HasRefusedEntries grammar list refusals × AreRefused lines refusals
 IsTextFailure grammar table list Failures.Memory = Unit {0}

@@ -1,7 +1,7 @@
 -- The private steps of reading tables with texts, and of looking up entries in them.
 -- Only private contracts use these.
 use Rattle.std.specs.Prelude.{◌≡◌, ◌≢◌, ◌⊎◌, ◌↔◌, ℕ, true, List, [], ◌∷◌, ◌++◌, codes, length, map, slice_index}
-use Rattle.std.specs.Prelude.{string_bytes, Contains, Option, Result, Ok, Err}
+use Rattle.std.specs.Prelude.{string_bytes, Contains}
 use Rattle.std.specs.Borrow.{Bor}
 use Rattle.std.specs.Str.{IsUtf8}
 use Rattle.ipnet_base.specs.Network.{Network}
@@ -16,16 +16,15 @@ use Rattle.ipnet_routes.specs.RoutesOf.{routes_of}
 use Rattle.ipnet_sets.specs.SetRanges.{IsInRange}
 use Rattle.ipnet_routes.specs.declared.routes.RouteTable.{RouteTable}
 use Rattle.netset_lib.specs.declared.answerer.Answers.{Answers}
-use Rattle.ipnet_lists.specs.declared.cause.Cause.{Cause}
+use Rattle.netset_lib.specs.declared.text_line.NotTextLine.{NotTextLine}
 use Rattle.netset_lib.specs.declared.text_line.TableLine.{TableLine}
 use Rattle.netset_lib.specs.declared.text_table.TextRoutes.{TextRoutes}
 use Rattle.ipnet_lists.specs.Causes.{Has, HasMaskWord}
-use Rattle.ipnet_lists.specs.ContentLineOf.{refused_of}
-use Rattle.ipnet_lists.specs.ContentLines as content
 use Rattle.netset_lib.specs.EntryAnswers.{AreAnswers, IsFoundIn}
 use Rattle.ipnet_lists.specs.EntryOf.{entry_range}
 use Rattle.ipnet_lists.specs.Comments.{IsCommentAt}
-use Rattle.ipnet_lists.specs.Lists.{ListEntry}
+use Rattle.ipnet_lists.specs.Lists.{ListEntry, RefusalFor}
+use Rattle.ipnet_lists.specs.RefusedLines.{AreRefused}
 use Rattle.netset_lib.specs.RouteAnswers.{IsLongest, HaveNone}
 use Rattle.netset_lib.specs.Routing.{InTable, HoldsEnds}
 use Rattle.netset_lib.specs.TextTables.{TextLine, IsLinesNetwork, IsTextOf, IsTextTable, text_part}
@@ -63,19 +62,10 @@ pub record AreRoutesOf (lines : List TextLine) (routes : List (Route (List ℕ))
   pub networks : (n : Network) → Contains (networks_of routes) n ↔ IsLinesNetwork lines n
   pub texts : (n : Network) (text : List ℕ) → IsLastOf routes n text → IsTextOf lines n text
 
--- The routes of the line, or the line as a refused one, are added.
-abbrev pub AddsTableLine : content.ContentLine → Result TableLine (Option Cause) → TextRoutes → TextRoutes → Type 0
-AddsTableLine line (Ok l) old new =
-    AddsBlocks (texts_in old.routes.items) (entry_range l.entry) l.text.now (texts_in new.routes.items)
-    × (map refused_of new.refused.items ≡ map refused_of old.refused.items)
-AddsTableLine line (Err cause) old new = (texts_in new.routes.items ≡ texts_in old.routes.items)
-    × (map refused_of new.refused.items
-    ≡ map refused_of old.refused.items ++ record { number = line.number; text = line.text; cause = cause } ∷ [])
-
 -- The routes and the refused lines of the bytes.
 abbrev pub AreTextsRead : Grammar → List ℕ → TextRoutes → Type 0
-AreTextsRead grammar bytes made = (lines : List TextLine)
-    × IsTextTable grammar bytes lines (map refused_of made.refused.items)
+AreTextsRead grammar bytes made = (lines : List TextLine) × (refusals : List (RefusalFor NotTextLine))
+    × IsTextTable grammar bytes lines refusals × AreRefused made.refused refusals
     × AreRoutesOf lines (without_host_bits (texts_in made.routes.items))
 
 -- The line of an entry with this network and this text after it.

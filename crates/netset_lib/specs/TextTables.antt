@@ -13,12 +13,13 @@ use Rattle.ipnet_routes.specs.RoutesOf.{routes_of}
 use Rattle.ipnet_sets.specs.SetRanges.{IsInRange}
 use Rattle.ipnet_routes.specs.declared.routes.RouteTable.{RouteTable}
 use Rattle.ipnet_lists.specs.declared.cause.Cause.{Cause}
+use Rattle.netset_lib.specs.declared.text_line.NotTextLine.{NotTextLine}
 use Rattle.ipnet_lists.specs.Causes.{Has, HasMaskWord, IsReportedCause}
-use Rattle.ipnet_lists.specs.ContentLines.{ContentLine, RefusedContent, AreContentLines, AreItems}
+use Rattle.ipnet_lists.specs.ContentLines.{IsItemList}
 use Rattle.ipnet_lists.specs.Entries.{IsEntryText, IsNoEntry}
 use Rattle.netset_lib.specs.EntryAnswers.{AreAnswers, IsFoundIn}
 use Rattle.ipnet_lists.specs.Comments.{IsCommentAt}
-use Rattle.ipnet_lists.specs.Lists.{ListEntry, Refusal, IsListRead}
+use Rattle.ipnet_lists.specs.Lists.{ListEntry, Refusal, RefusalFor, IsListRead}
 use Rattle.netset_lib.specs.RouteAnswers.{Holds, IsLongest, HaveNone}
 use Rattle.ipnet_lists.specs.Words.{leading_word, after_word}
 
@@ -62,19 +63,16 @@ IsTextCause grammar contents cause =
     × IsReportedCause grammar contents cause)
     ⊎ (IsNoEntry grammar (leading_word contents) × IsReportedCause grammar (leading_word contents) cause)
 
--- The contents are not such a line, for this cause.
-pub record IsNoTextLine (grammar : Grammar) (contents : List ℕ) (cause : Option Cause) : Type 0 where
-  pub none : (line : TextLine) → ¬ (IsTextLine grammar contents line)
-  pub reported : IsTextCause grammar contents cause
+-- The contents are not such a line. They and the grammar decide which cause can be named (`IsTextCause`).
+abbrev pub IsNoTextLine : Grammar → List ℕ → NotTextLine → Type 0
+IsNoTextLine grammar contents cause =
+    ((line : TextLine) → ¬ (IsTextLine grammar contents line)) × (cause ≡ record { grammar = grammar })
 
 -- The bytes are a table: each line is an entry with or without a text, or is refused. Blanks, comments and a byte order
 -- mark are as in lists of entries.
 -- Example: `10.0.0.0/8 eth0 # ours\n\nx\n` has the line 10.0.0.0/8 with `eth0`, and line 3 is refused.
-pub record IsTextTable (grammar : Grammar) (bytes : List ℕ) (lines : List TextLine)
-    (refused : List (RefusedContent (Option Cause))) : Type 0 where
-  pub contents : List ContentLine
-  pub has : AreContentLines bytes contents
-  pub items : AreItems (IsTextLine grammar) (IsNoTextLine grammar) contents lines refused
+abbrev pub IsTextTable : Grammar → List ℕ → List TextLine → List (RefusalFor NotTextLine) → Type 0
+IsTextTable grammar = IsItemList (λ line. IsTextLine grammar line.text) (IsNoTextLine grammar)
 
 -- The network is one of the table: a maximal block of the entry of a line.
 -- Example: a table of `10.0.0.0/8 a` and `10.0.0.0-10.0.0.5 b` has 10.0.0.0/8, 10.0.0.0/30 and 10.0.0.4/31.
@@ -131,8 +129,8 @@ pub record IsTextRouteAnswer (grammar : Grammar) (table list : List ℕ) (missin
   pub is_missing : IsFoundIn (HasNoTextRoute lines) missing entries
 
 -- Some lines of the table are refused, and these are all of them.
-pub record HasRefusedTextLines (grammar : Grammar) (table : List ℕ) (refused : List (RefusedContent (Option Cause)))
-    : Type 0 where
+pub record HasRefusedTextLines (grammar : Grammar) (table : List ℕ) (refused : List (RefusalFor NotTextLine)) : Type
+    0 where
   pub lines : List TextLine
   pub read : IsTextTable grammar table lines refused
   pub some : refused ≢ []

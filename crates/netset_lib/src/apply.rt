@@ -1,10 +1,11 @@
 //! The addresses that a list of changes makes of a set.
-ghost use Rattle.std.specs.Prelude.{◌≡◌, ◌↔◌, IfOk, IfErr, OnOk, All, map, string_bytes};
+ghost use Rattle.std.specs.Prelude.{◌↔◌, IfOk, IfErr, OnOk, All, string_bytes};
 ghost use Rattle.ipnet_base.specs.Address.{Address};
 ghost use Rattle.ipnet_sets.specs.Members.{IsMember};
 ghost use Rattle.netset_lib.specs.ApplySteps.{AreChangesRead, AreParts, AddsPart, parts_of};
 ghost use Rattle.netset_lib.specs.ApplySteps.{IsChangeFailure};
-ghost use Rattle.netset_lib.specs.ChangeLists.{IsAnswerNetwork, Fits, IsInChanged, IsChangedText};
+ghost use Rattle.netset_lib.specs.ChangeLists.{IsAnswerNetwork, Fits, IsFittingChange, IsChangeCause, IsInChanged};
+ghost use Rattle.netset_lib.specs.ChangeLists.{IsChangedText};
 ghost use Rattle.netset_lib.specs.ChangeSteps.{change_of};
 
 pub mod laws;
@@ -13,35 +14,9 @@ use crate::answer::{Form, set_text};
 use crate::change_line::{ChangeCause, read_change};
 use crate::changes::Change;
 use ipnet::{Grammar, IpNet};
-use ipnet_lists::{ListFailure, RefusedText, content_lines, keep_read};
+use ipnet_lists::{ContentLine, LineHandler, ListFailure, Refusals, read_lines};
 use ipnet_sets::IpSet;
 use std::alloc::{AllocError, Global};
-
-/// The changes of a set's networks that were read, and the refused lines.
-#[derive(Drop)]
-struct ChangeList {
-    changes: Vec<Change>,
-    refused: Vec<RefusedText<ChangeCause>>,
-}
-
-/// Reads the changes of the set's networks. Fails if memory runs out.
-fn read_changes(
-    alloc: Global,
-    set: &IpSet,
-    bytes: &[u8],
-    grammar: Grammar,
-) -> Result<ChangeList, AllocError>
-    ensures { IfOk result (AreChangesRead grammar (IsAnswerNetwork (IsMember set.now)) bytes.now) }
-{
-    let lines = content_lines(alloc, bytes)?;
-    let mut changes = Vec::new(alloc);
-    let mut refused = Vec::new(alloc);
-    for line in lines.as_slice() {
-        let read = read_change(set, line.text, grammar);
-        keep_read(alloc, &mut changes, &mut refused, *line, read)?;
-    }
-    Ok(ChangeList { changes, refused })
-}
 
 /// The networks that changes add, and those that they remove.
 #[derive(Drop)]
@@ -65,27 +40,66 @@ fn push_part(parts: &mut Parts, change: Change) -> Result<(), AllocError>
     Ok(())
 }
 
-/// Parts the networks of the changes into those that are added and those that are removed.
-fn part_changes(alloc: Global, changes: &[Change]) -> Result<Parts, AllocError>
-    ensures { IfOk result (λ parts. AreParts (map change_of changes.now) (parts_of parts)) }
+/// The networks of the changes of a set that were read, and the refused lines.
+#[derive(Drop)]
+struct ChangeList {
+    parts: Parts,
+    refused: Refusals<ChangeCause>,
+}
+
+/// Takes the changes of a set's networks.
+#[derive(Drop)]
+struct ChangeReader<'s> {
+    set: &'s IpSet,
+    grammar: Grammar,
+}
+
+impl<'a, 's> LineHandler<'a, Parts, ChangeCause> for ChangeReader<'s> {
+    ghost takes = { λ h line old new. (change : _)
+        × IsFittingChange h.grammar (IsAnswerNetwork (IsMember h.set.now)) line.text change
+        × AddsPart change (parts_of old) (parts_of new) };
+
+    ghost is_cause = { λ h. IsChangeCause h.grammar (IsAnswerNetwork (IsMember h.set.now)) };
+
+    fn take(
+        &self,
+        made: &mut Parts,
+        line: ContentLine<'a>,
+    ) -> Result<Result<(), ChangeCause>, AllocError> {
+        match read_change(self.set, line.text, self.grammar) {
+            Ok(change) => {
+                push_part(made, change)?;
+                Ok(Ok(()))
+            }
+            Err(cause) => Ok(Err(cause)),
+        }
+    }
+}
+
+/// Reads the changes of the set's networks. Fails if memory runs out.
+fn read_changes(
+    alloc: Global,
+    set: &IpSet,
+    bytes: &[u8],
+    grammar: Grammar,
+) -> Result<ChangeList, AllocError>
+    ensures { IfOk result (AreChangesRead grammar (IsAnswerNetwork (IsMember set.now)) bytes.now) }
 {
     let mut parts = Parts {
         added: Vec::new(alloc),
         removed: Vec::new(alloc),
     };
-    for change in changes {
-        push_part(&mut parts, *change)?;
-    }
-    Ok(parts)
+    let refused = read_lines(alloc, bytes, &ChangeReader { set, grammar }, &mut parts)?;
+    Ok(ChangeList { parts, refused })
 }
 
 /// Returns the addresses of the set's networks after the changes.
-fn changed_set(alloc: Global, set: &IpSet, changes: &[Change]) -> Result<IpSet, AllocError>
-    requires { All (Fits (IsAnswerNetwork (IsMember set.now))) (map change_of changes.now) }
-    ensures { IfOk result (λ s. (x : Address) → IsMember s x
-        ↔ IsInChanged (IsAnswerNetwork (IsMember set.now)) (map change_of changes.now) x) }
+fn changed_set(alloc: Global, set: &IpSet, parts: Parts) -> Result<IpSet, AllocError>
+    ensures { IfOk result (λ s. (changes : _) → AreParts changes (parts_of parts)
+        → All (Fits (IsAnswerNetwork (IsMember set.now))) changes
+        → (x : Address) → IsMember s x ↔ IsInChanged (IsAnswerNetwork (IsMember set.now)) changes x) }
 {
-    let Parts { added, removed } = part_changes(alloc, changes)?;
+    let Parts { added, removed } = parts;
     let added = IpSet::from_networks(alloc, added.as_slice())?;
     let removed = IpSet::from_networks(alloc, removed.as_slice())?;
     let kept = set.difference(alloc, &removed)?;
@@ -97,7 +111,7 @@ fn changed_set(alloc: Global, set: &IpSet, changes: &[Change]) -> Result<IpSet, 
 /// and a byte order mark do not matter, nor do the order of the lines and repeated lines.
 ///
 /// The error is `Refused` if a line is not a change, adds a network that is one of the set's, or removes one that is
-/// not; it has all such lines. The error is `Memory` if memory runs out.
+/// not; it has the first ten such lines and their number. The error is `Memory` if memory runs out.
 ///
 /// ```text
 /// of 10.0.0.0/8, "- 10.0.0.0/8\n+ 10.0.0.0/9\n+ ::1\n": "10.0.0.0/9\n::1/128\n"
@@ -115,10 +129,10 @@ pub fn changed_text(
         IsChangedText form grammar (IsMember set.now) bytes.now (string_bytes text)) }
     ensures failure { IfErr result (IsChangeFailure grammar (IsMember set.now) bytes.now) }
 {
-    let list = read_changes(alloc, set, bytes, grammar)?;
-    if !list.refused.is_empty() {
-        return Err(ListFailure::Refused(list.refused));
+    let ChangeList { parts, refused } = read_changes(alloc, set, bytes, grammar)?;
+    if refused.count != 0 {
+        return Err(ListFailure::Refused(refused));
     }
-    let changed = changed_set(alloc, set, list.changes.as_slice())?;
+    let changed = changed_set(alloc, set, parts)?;
     Ok(set_text(alloc, form, &changed)?)
 }

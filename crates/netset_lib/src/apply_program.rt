@@ -1,17 +1,16 @@
 //! The command `apply` of the program.
-ghost use Rattle.std.specs.Prelude.{IsTrue, ⊤};
+ghost use Rattle.std.specs.Prelude.{IsTrue};
+ghost use Rattle.ipnet_sets.specs.Members.{IsMember};
+ghost use Rattle.netset_lib.specs.ApplySteps.{IsChangeFailure};
 ghost use Rattle.netset_lib.specs.ChangeLists.{IsChangedAnswer};
-ghost use Rattle.netset_lib.specs.Runs.{OfCombined, IsFault, HasNoResult};
+ghost use Rattle.netset_lib.specs.Runs.{OfCombined, HoldsOfSet, IsFault, HasNoResult};
 
 use crate::apply::changed_text;
 use crate::change_line::ChangeCause;
 use crate::failure::Failure;
-use crate::network_entry::NetworkCause;
 use crate::runs::{Fault, TextCommand};
 use crate::session::Session;
-use ipnet_lists::{LineCause, ListFailure, NO_ENTRY, report_text};
-use std::io;
-use std::io::Write;
+use ipnet_lists::ListFailure;
 
 /// The addresses that the changes make of the session's result, as `changed_text` makes them. The session has read the
 /// lists of an operation; its request has the form of the answer and the grammar of the changes.
@@ -48,7 +47,9 @@ impl<'a> TextCommand for ApplyCommand<'a> {
 
     ghost is_outcome = { λ _ succeeded. IsTrue succeeded };
 
-    ghost is_failure = { λ command. IsFault (HasNoResult command.session) (λ _. ⊤) };
+    ghost is_failure = { λ command. IsFault (HasNoResult command.session) (λ failure. OfCombined (λ request lists.
+        HoldsOfSet request lists (λ set. IsChangeFailure request.grammar (IsMember set) command.changes.now failure))
+        command.session) };
 
     fn answer(self) -> Result<(String, bool), Fault<Failure, ListFailure<ChangeCause>>> {
         let ApplyCommand { session, changes } = self;
@@ -61,39 +62,5 @@ impl<'a> TextCommand for ApplyCommand<'a> {
             Ok(text) => Ok((text, true)),
             Err(failure) => Err(Fault::Other(failure)),
         }
-    }
-}
-
-impl LineCause for ChangeCause {
-    fn report<X: Write>(
-        &self,
-        faults: &mut X,
-        name: &str,
-        number: usize,
-        text: &[u8],
-    ) -> io::Result<()> {
-        report_text(faults, name, number, "not a change of the list", text)?;
-        match *self {
-            ChangeCause::UnknownSign => {
-                writeln!(faults, " (a change begins with + or - and a blank)")
-            }
-            ChangeCause::Present => writeln!(faults, " (the list has this network already)"),
-            ChangeCause::Absent => writeln!(faults, " (the list has no such network)"),
-            ChangeCause::NoNetwork(cause) => report_network_cause(faults, cause),
-        }
-    }
-}
-
-/// Reports why a text is not a network.
-pub(crate) fn report_network_cause<X: Write>(
-    faults: &mut X,
-    cause: NetworkCause,
-) -> io::Result<()> {
-    match cause {
-        NetworkCause::Missing => writeln!(faults, " (no network follows)"),
-        NetworkCause::Range => writeln!(faults, " (a range: write its networks)"),
-        NetworkCause::TwoWords => writeln!(faults, " (more than one word follows)"),
-        NetworkCause::NoEntry(None) => writeln!(faults, " ({NO_ENTRY})"),
-        NetworkCause::NoEntry(Some(cause)) => writeln!(faults, " ({cause})"),
     }
 }

@@ -3,18 +3,16 @@ ghost use Rattle.std.specs.Prelude.{◌≡◌, ◌++◌, List, ℕ, OnOk, IfOk, 
 ghost use Rattle.ipnet_base.specs.Address.{IPv6};
 ghost use Rattle.ipnet_sets.specs.Members.{IsCountOf, IsMember, IsMemberOf};
 ghost use Rattle.netset_lib.specs.Counts.{IsCountsLine, IsCountLine, AreCountLines, IsTotalText, IsCountText};
-ghost use Rattle.netset_lib.specs.Counts.{IsComparison, name_at};
+ghost use Rattle.netset_lib.specs.Counts.{IsComparison};
 ghost use Rattle.ipnet_lists.specs.Lists.{ListEntry, IsInEntries};
 ghost use Rattle.netset_lib.specs.ListSets.{HaveMembers};
 
+use ipnet_lists::name_of;
 use ipnet_sets::IpSet;
 use std::alloc::{AllocError, Global};
 
 /// How many IPv6 addresses there are, 2^128: no `u128` holds the number.
 const ALL_IPV6: &str = "340282366920938463463374607431768211456";
-
-/// The name of a list that has none.
-const NO_NAME: &str = "list";
 
 /// The name of the line of all lists together.
 const TOTAL: &str = "total";
@@ -31,7 +29,11 @@ fn push_ipv6_count(text: &mut String, set: &IpSet) -> Result<(), AllocError>
 }
 
 /// Appends how many addresses of each family the set has, on one line.
-fn push_counts(text: &mut String, set: &IpSet) -> Result<(), AllocError>
+///
+/// ```text
+/// of 10.0.0.0-10.0.0.5: "IPv4 6, IPv6 0\n"
+/// ```
+pub fn push_counts(text: &mut String, set: &IpSet) -> Result<(), AllocError>
     ensures { OnOk result ((line : List ℕ) × IsCountsLine (IsMember set.now) line
         × (string_bytes text.new ≡ string_bytes text.old ++ line)) }
 {
@@ -55,16 +57,6 @@ fn push_count_line(text: &mut String, name: &str, set: &IpSet) -> Result<(), All
     text.push_str("\t")?;
     push_ipv6_count(text, set)?;
     text.push_str("\n")
-}
-
-/// The name of the list with this index.
-fn name_of<'a>(names: &[&'a str], index: usize) -> &'a str
-    ensures { result.now ≡ name_at names.now index }
-{
-    match names.get(index) {
-        Some(name) => *name,
-        None => NO_NAME,
-    }
 }
 
 /// Appends a line for each set, with its name.

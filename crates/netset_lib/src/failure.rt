@@ -14,6 +14,8 @@ pub enum Failure {
     NoFamily,
     /// Some lines are not entries.
     Refused(RefusedLines),
+    /// A list could not be read.
+    Unreadable,
     /// Memory ran out.
     Memory,
 }

@@ -1,4 +1,4 @@
-//! Prefix lengths, as words of a command line.
+//! Numbers and prefix lengths, as words of a command line.
 ghost use Rattle.std.specs.Prelude.{◌≡◌, ◌↔◌, ℕ, Some};
 ghost use Rattle.ipnet.specs.Numerals.{IsDecimal};
 ghost use Rattle.ipnet.specs.declared.parser.Grammar.TheVariants.{Strict};
@@ -26,6 +26,30 @@ pub(crate) fn read_decimal(digits: &str) -> Option<u8>
     match digits.parse::<u8>() {
         Ok(number) if number <= GREATEST => Some(number),
         _ => None,
+    }
+}
+
+/// Returns the number up to 4294967295 that the text is, in decimal without leading zeros, or `None` if it is not one.
+///
+/// ```text
+/// "60" and "0" are 60 and 0; "060", "+60", "4294967296" and "" are None
+/// ```
+pub fn read_number(text: &str) -> Option<u32>
+    ensures { (n : ℕ) → (result ≡ Some n) ↔ IsDecimal Strict 10 4294967295 text.now n }
+{
+    let bytes = text.as_bytes();
+    if bytes.is_empty() || bytes.len() > 10 {
+        return None;
+    }
+    if !are_digits(bytes) {
+        return None;
+    }
+    if bytes[0] == b'0' && bytes.len() > 1 {
+        return None;
+    }
+    match text.parse::<u32>() {
+        Ok(number) => Some(number),
+        Err(_) => None,
     }
 }
 

@@ -9,18 +9,20 @@ use std::alloc::{AllocError, Global};
 use std::io;
 use std::io::Write;
 
-/// A writer whose bytes take effect only when they are published, such as a file that is renamed at the end.
+/// A writer whose bytes take effect only when they are published: a file that is renamed at the end, or standard output
+/// that is flushed.
 pub trait Output: Write {
     /// Whether the bytes that were written have taken effect.
     ghost is_published: { Self → Type 0 };
 
-    /// Lets the bytes that were written take effect.
+    /// Lets the bytes that were written take effect: flushes them, and renames the file, if there is one.
     fn publish(&mut self) -> io::Result<()>
         ensures published { IsOk result ↔ is_published self.new }
         ensures contents { Keeps (Self.contents self.old) (Self.contents self.new) };
 }
 
-/// Ends a run with this exit status: publishes its output if the status is 0 or 1, and returns the exit status.
+/// Ends a run with this exit status: publishes its output if the status is 0 or 1, and returns the exit status. So a
+/// program whose output was not flushed does not end with 0 or 1.
 ///
 /// If the output cannot be published, that is reported on `faults`, and the status is 2. If the report cannot be
 /// written, the status is the same.

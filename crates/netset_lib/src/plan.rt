@@ -1,6 +1,8 @@
 //! Plans: networks of given prefix lengths in the addresses of a set, as text.
 ghost use Rattle.std.specs.Prelude.{◌≡◌, ◌↔◌, ◌⊎◌, ◌<◌, ◌≤◌, Any, All, IfOk, IsOk, IfErr, IsErr, Err};
-ghost use Rattle.std.specs.Prelude.{IfSome, IfNone, None};
+ghost use Rattle.std.specs.Prelude.{IfSome, IfNone, Some, OnOk};
+ghost use Rattle.std.specs.Fmt.{DisplaysOnOk, DisplaysStyledOnOk};
+ghost use Rattle.ipnet_text.specs.Outputs.{IsWritten, IsFrontWritten};
 ghost use Rattle.std.specs.Prelude.{map, string_bytes};
 ghost use Rattle.ipnet_base.specs.Address.{Family, width};
 ghost use Rattle.ipnet.specs.NetworkOf.{ip_network};
@@ -10,34 +12,35 @@ ghost use Rattle.ipnet_pools.specs.Placements.{CanPlace};
 ghost use Rattle.ipnet_pools.specs.Plans.{requests_of, IsPlan, KeepsRoom};
 ghost use Rattle.ipnet_pools.specs.declared.error.PoolError.TheVariants as Pool;
 ghost use Rattle.netset_lib.specs.PlanAnswers.{HasOnly, IsPlanFamily, IsPlanText, HasNoPlacement, IsPlanFailure};
-ghost use Rattle.netset_lib.specs.Planning.{family_of, exit_of_plan};
+ghost use Rattle.netset_lib.specs.Planning.{family_of, exit_of_plan, plan_words};
+ghost use Rattle.netset_lib.specs.Reports.{words_line};
 ghost use Rattle.netset_lib.specs.declared.plan.PlanFailure.TheVariants.{NoPlacement, Memory};
 
 use crate::operation::Families;
+use crate::reports::{OUT_OF_MEMORY, Words, long_words, report_words};
 use crate::runs::Report;
+use arrayvec::ArrayString;
 use ipnet::IpNet;
 use ipnet_pools::PoolError;
 use ipnet_pools::plan::{plan_ipv4, plan_ipv6};
 use ipnet_sets::IpSet;
 use ipnet_text::lines_of_networks;
 use std::alloc::{AllocError, Global};
+use std::error::Error;
+use std::fmt::{Display, Formatter};
 use std::io::Write;
-use thiserror::Error;
+use std::{fmt, io};
 
 /// Why there is no plan.
-#[derive(Clone, Copy, Debug, PartialEq, Eq, Drop, Error)]
+#[derive(Clone, Copy, Debug, PartialEq, Eq, Drop)]
 pub enum PlanFailure {
     /// The family is not chosen: the set has addresses of both families or none, or both families are asked for.
-    #[error("choose one family: --ipv4 or --ipv6")]
     Family,
     /// The first prefix length that is above the greatest of its family, and the greatest: 32 or 128.
-    #[error("/{0}: the prefix length is above {1}")]
     PrefixLen(u8, u8),
     /// The set has no room for networks of all the lengths at once.
-    #[error("no placement: the list has no room for these networks")]
     NoPlacement,
     /// Memory ran out.
-    #[error("out of memory")]
     Memory,
 }
 
@@ -49,17 +52,58 @@ impl From<AllocError> for PlanFailure {
     }
 }
 
+impl PlanFailure {
+    ghost use Rattle.netset_lib.specs.Planning.{plan_words};
+
+    /// Returns the words that report it.
+    ///
+    /// ```text
+    /// PrefixLen(33, 32): "/33: the prefix length is above 32"
+    /// ```
+    pub fn to_words(self) -> Words
+        ensures { result.bytes ≡ plan_words self }
+    {
+        let mut words = ArrayString::new();
+        match self {
+            PlanFailure::Family => words.push_str("choose one family: --ipv4 or --ipv6"),
+            PlanFailure::PrefixLen(length, most) => return long_words(length, most),
+            PlanFailure::NoPlacement => {
+                words.push_str("no placement: the list has no room for these networks")
+            }
+            PlanFailure::Memory => words.push_str(OUT_OF_MEMORY),
+        }
+        words
+    }
+}
+
+impl Display for PlanFailure {
+    ghost use Rattle.netset_lib.specs.Planning.{plan_words};
+
+    ghost output = { λ failure. Some (plan_words failure) };
+
+    fn fmt<W: fmt::Write>(&self, f: &mut Formatter<W>) -> fmt::Result {
+        f.write_str(self.to_words().as_str())
+    }
+}
+
+impl Error for PlanFailure {}
+
 impl Report for PlanFailure {
     ghost exit = { exit_of_plan };
 
-    ghost told = { λ _ _. None };
+    ghost is_reported = { λ failure _. IsWritten (λ t. t ≡ words_line (plan_words failure)) };
 
-    fn tell<X: Write>(self, _: &[&str], faults: &mut X) -> u8 {
-        let _ = writeln!(faults, "netset: {self}");
+    ghost is_begun = { λ failure _. IsFrontWritten (λ t. t ≡ words_line (plan_words failure)) };
+
+    fn status(&self) -> u8 {
         match self {
             PlanFailure::NoPlacement => 1,
             PlanFailure::Family | PlanFailure::PrefixLen(_, _) | PlanFailure::Memory => 2,
         }
+    }
+
+    fn report<X: Write>(&self, _: &[&str], faults: &mut X) -> io::Result<()> {
+        report_words(faults, self.to_words().as_str())
     }
 }
 

@@ -1,17 +1,17 @@
 //! The verdicts of a prefix list on the networks of a list.
-ghost use Rattle.std.specs.Prelude.{◌≡◌, ◌↔◌, IfOk, IfErr, OnOk, IsTrue, map};
+ghost use Rattle.std.specs.Prelude.{◌≡◌, ◌∷◌, ◌++◌, [], IfOk, IfErr, OnOk};
+ghost use Rattle.ipnet.specs.NetworkOf.{ip_network};
 ghost use Rattle.ipnet_rules.specs.CompiledListOf.{rules_of};
-ghost use Rattle.netset_lib.specs.PrefixAnswers.{IsListNetwork, IsNoListNetwork, AreVerdicts, IsOneDenied};
-ghost use Rattle.netset_lib.specs.PrefixAnswers.{IsVerdictAnswer};
-ghost use Rattle.netset_lib.specs.PrefixReading.{ArePrefixesRead, AreNetworksRead, network_in, IsPrefixFailure};
-ghost use Rattle.netset_lib.specs.PrefixReading.{AddsVerdict};
+ghost use Rattle.netset_lib.specs.PrefixAnswers.{IsListNetwork, IsNoListNetwork, IsVerdictAnswer};
+ghost use Rattle.netset_lib.specs.PrefixLines.{IsPrefixText, IsPrefixCause};
+ghost use Rattle.netset_lib.specs.PrefixReading.{ArePrefixesRead, AreJudged, IsPrefixFailure, AddsVerdict};
 ghost use Rattle.netset_lib.specs.RuleLines as lines;
 ghost use Rattle.netset_lib.specs.declared.prefix_answer.PrefixFailure.TheVariants.{Memory};
 
 use crate::network_entry::{NetworkCause, read_network_entry};
 use crate::prefix_line::{PrefixCause, read_prefix_rule};
 use ipnet::{Grammar, IpNet};
-use ipnet_lists::{RefusedText, content_lines, keep_read};
+use ipnet_lists::{ContentLine, LineHandler, Refusals, read_lines};
 use ipnet_rules::{Action, CompiledPrefixList, PrefixList, PrefixRule};
 use std::alloc::{AllocError, Global};
 
@@ -19,9 +19,9 @@ use std::alloc::{AllocError, Global};
 #[derive(Debug, Drop)]
 pub enum PrefixFailure {
     /// These lines of the prefix list are not rules.
-    Prefixes(Vec<RefusedText<PrefixCause>>),
+    Prefixes(Refusals<PrefixCause>),
     /// These lines of the list are not networks.
-    Networks(Vec<RefusedText<NetworkCause>>),
+    Networks(Refusals<NetworkCause>),
     /// Memory ran out.
     Memory,
 }
@@ -47,64 +47,43 @@ pub struct Verdicts {
 #[derive(Drop)]
 struct PrefixLines {
     rules: Vec<PrefixRule>,
-    refused: Vec<RefusedText<PrefixCause>>,
+    refused: Refusals<PrefixCause>,
+}
+
+/// Takes the rules of a prefix list.
+#[derive(Drop)]
+struct PrefixReader {
+    grammar: Grammar,
+}
+
+impl<'a> LineHandler<'a, Vec<PrefixRule>, PrefixCause> for PrefixReader {
+    ghost takes = { λ h line old new. (rule : _) × IsPrefixText h.grammar line.text rule
+        × (new.items ≡ old.items ++ rule ∷ []) };
+
+    ghost is_cause = { λ h. IsPrefixCause h.grammar };
+
+    fn take(
+        &self,
+        made: &mut Vec<PrefixRule>,
+        line: ContentLine<'a>,
+    ) -> Result<Result<(), PrefixCause>, AllocError> {
+        match read_prefix_rule(line.text, self.grammar) {
+            Ok(rule) => {
+                made.push(rule)?;
+                Ok(Ok(()))
+            }
+            Err(cause) => Ok(Err(cause)),
+        }
+    }
 }
 
 /// Reads the prefix list. Fails if memory runs out.
 fn read_prefixes(alloc: Global, bytes: &[u8], grammar: Grammar) -> Result<PrefixLines, AllocError>
     ensures { IfOk result (ArePrefixesRead grammar bytes.now) }
 {
-    let lines = content_lines(alloc, bytes)?;
     let mut rules = Vec::new(alloc);
-    let mut refused = Vec::new(alloc);
-    for line in lines.as_slice() {
-        let read = read_prefix_rule(line.text, grammar);
-        keep_read(alloc, &mut rules, &mut refused, *line, read)?;
-    }
+    let refused = read_lines(alloc, bytes, &PrefixReader { grammar }, &mut rules)?;
     Ok(PrefixLines { rules, refused })
-}
-
-/// A network of a list, and its text.
-#[derive(Clone, Copy)]
-struct ListNetwork<'a> {
-    text: &'a [u8],
-    network: IpNet,
-}
-
-/// The networks of a list that were read, and its refused lines.
-#[derive(Drop)]
-struct NetworkLines<'a> {
-    networks: Vec<ListNetwork<'a>>,
-    refused: Vec<RefusedText<NetworkCause>>,
-}
-
-/// Returns the network that the text is, with the text, or why it is not one.
-fn read_list_network<'a>(text: &'a [u8], grammar: Grammar) -> Result<ListNetwork<'a>, NetworkCause>
-    ensures network { IfOk result (λ n. IsListNetwork grammar text.now (network_in n)) }
-    ensures cause { IfErr result (IsNoListNetwork grammar text.now) }
-{
-    match read_network_entry(text, grammar) {
-        Ok(network) => Ok(ListNetwork { text, network }),
-        Err(cause) => Err(cause),
-    }
-}
-
-/// Reads the networks of the list. Fails if memory runs out.
-fn read_networks<'a>(
-    alloc: Global,
-    bytes: &'a [u8],
-    grammar: Grammar,
-) -> Result<NetworkLines<'a>, AllocError>
-    ensures { IfOk result (AreNetworksRead grammar bytes.now) }
-{
-    let lines = content_lines(alloc, bytes)?;
-    let mut networks = Vec::new(alloc);
-    let mut refused = Vec::new(alloc);
-    for line in lines.as_slice() {
-        let read = read_list_network(line.text, grammar);
-        keep_read(alloc, &mut networks, &mut refused, *line, read)?;
-    }
-    Ok(NetworkLines { networks, refused })
 }
 
 /// The word of the action.
@@ -117,55 +96,76 @@ fn word_of(action: Action) -> &'static [u8]
     }
 }
 
-/// Appends the verdict of the list on the network. Fails if memory runs out.
+/// Appends the verdict of the list on the network, which is written so. Fails if memory runs out.
 fn push_verdict(
     verdicts: &mut Verdicts,
     list: &CompiledPrefixList,
-    n: ListNetwork<'_>,
+    network: &IpNet,
+    text: &[u8],
 ) -> Result<(), AllocError>
-    ensures { OnOk result (AddsVerdict (rules_of list.now) (network_in n.entry) verdicts.old verdicts.new) }
+    ensures { OnOk result (AddsVerdict (rules_of list.now)
+        (record { text = text.now; network = ip_network network.now }) verdicts.old verdicts.new) }
 {
-    let action = list.verdict(&n.network);
+    let action = list.verdict(network);
     verdicts.text.extend_from_slice(word_of(action))?;
     verdicts.text.extend_from_slice(b" ")?;
-    verdicts.text.extend_from_slice(n.text)?;
+    verdicts.text.extend_from_slice(text)?;
     verdicts.text.extend_from_slice(b"\n")?;
     verdicts.denied = verdicts.denied || action == Action::Deny;
     Ok(())
 }
 
-/// Returns the verdicts of the list on the networks, in order. Fails if memory runs out.
-fn verdicts_of(
+/// Takes networks, and makes the verdicts of a prefix list on them.
+#[derive(Drop)]
+struct Judge {
+    list: CompiledPrefixList,
+    grammar: Grammar,
+}
+
+impl<'a> LineHandler<'a, Verdicts, NetworkCause> for Judge {
+    ghost takes = { λ h line old new. (n : _) × IsListNetwork h.grammar line.text n
+        × AddsVerdict (rules_of h.list) n old new };
+
+    ghost is_cause = { λ h. IsNoListNetwork h.grammar };
+
+    fn take(
+        &self,
+        made: &mut Verdicts,
+        line: ContentLine<'a>,
+    ) -> Result<Result<(), NetworkCause>, AllocError> {
+        match read_network_entry(line.text, self.grammar) {
+            Ok(network) => {
+                push_verdict(made, &self.list, &network, line.text)?;
+                Ok(Ok(()))
+            }
+            Err(cause) => Ok(Err(cause)),
+        }
+    }
+}
+
+/// The verdicts on the networks of a list, and the refused lines of the list.
+#[derive(Drop)]
+struct JudgedNetworks {
+    verdicts: Verdicts,
+    refused: Refusals<NetworkCause>,
+}
+
+/// Compiles the rules, and makes their verdicts on the networks of the list. Fails if memory runs out.
+fn judge_networks(
     alloc: Global,
-    list: &CompiledPrefixList,
-    networks: &[ListNetwork<'_>],
-) -> Result<Verdicts, AllocError>
-    ensures text { IfOk result (λ v. AreVerdicts (rules_of list.now) (map network_in networks.now) v.text.items) }
-    ensures denied { IfOk result (λ v.
-        IsTrue v.denied ↔ IsOneDenied (rules_of list.now) (map network_in networks.now)) }
+    rules: Vec<PrefixRule>,
+    networks: &[u8],
+    grammar: Grammar,
+) -> Result<JudgedNetworks, AllocError>
+    ensures { IfOk result (AreJudged grammar networks.now rules.items) }
 {
+    let list = CompiledPrefixList::from_list(alloc, PrefixList { list: rules })?;
     let mut verdicts = Verdicts {
         text: Vec::new(alloc),
         denied: false,
     };
-    for network in networks {
-        push_verdict(&mut verdicts, list, *network)?;
-    }
-    Ok(verdicts)
-}
-
-/// Compiles the rules, and returns their verdicts on the networks, in order. Fails if memory runs out.
-fn compiled_verdicts(
-    alloc: Global,
-    rules: Vec<PrefixRule>,
-    networks: &[ListNetwork<'_>],
-) -> Result<Verdicts, AllocError>
-    ensures text { IfOk result (λ v. AreVerdicts rules.items (map network_in networks.now) v.text.items) }
-    ensures denied { IfOk result (λ v.
-        IsTrue v.denied ↔ IsOneDenied rules.items (map network_in networks.now)) }
-{
-    let list = CompiledPrefixList::from_list(alloc, PrefixList { list: rules })?;
-    verdicts_of(alloc, &list, networks)
+    let refused = read_lines(alloc, networks, &Judge { list, grammar }, &mut verdicts)?;
+    Ok(JudgedNetworks { verdicts, refused })
 }
 
 /// Returns the verdicts of a prefix list on the networks of a list: a line for each network, in order, with `permit` or
@@ -189,14 +189,13 @@ pub fn prefix_verdicts(
         IsVerdictAnswer grammar prefixes.now networks.now v.denied v.text.items) }
     ensures failure { IfErr result (IsPrefixFailure grammar prefixes.now networks.now) }
 {
-    let lines = read_prefixes(alloc, prefixes, grammar)?;
-    if !lines.refused.is_empty() {
-        return Err(PrefixFailure::Prefixes(lines.refused));
+    let PrefixLines { rules, refused } = read_prefixes(alloc, prefixes, grammar)?;
+    if refused.count != 0 {
+        return Err(PrefixFailure::Prefixes(refused));
     }
-    let read = read_networks(alloc, networks, grammar)?;
-    if !read.refused.is_empty() {
-        return Err(PrefixFailure::Networks(read.refused));
+    let JudgedNetworks { verdicts, refused } = judge_networks(alloc, rules, networks, grammar)?;
+    if refused.count != 0 {
+        return Err(PrefixFailure::Networks(refused));
     }
-    let networks = read.networks.as_slice();
-    Ok(compiled_verdicts(alloc, lines.rules, networks)?)
+    Ok(verdicts)
 }

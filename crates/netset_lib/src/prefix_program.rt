@@ -1,16 +1,15 @@
 //! The command `prefix-list` of the program.
-ghost use Rattle.std.specs.Prelude.{◌≡◌, not, List, ℕ, None};
+ghost use Rattle.std.specs.Prelude.{◌≡◌, not, List, ℕ};
+ghost use Rattle.ipnet_text.specs.Outputs.{IsWritten, IsFrontWritten};
+ghost use Rattle.netset_lib.specs.ListReports.{IsVerdictReport, IsVerdictBegun};
 ghost use Rattle.netset_lib.specs.PrefixAnswers.{IsVerdictAnswer};
 ghost use Rattle.netset_lib.specs.PrefixReading.{IsPrefixFailure};
 
-use crate::apply_program::report_network_cause;
-use crate::network_entry::NetworkCause;
 use crate::prefix_answer::{PrefixFailure, prefix_verdicts};
-use crate::prefix_line::PrefixCause;
-use crate::program::name_of;
+use crate::reports::{OUT_OF_MEMORY, report_words};
 use crate::runs::{Report, TextCommand};
 use ipnet::Grammar;
-use ipnet_lists::{LineCause, report_refused, report_text};
+use ipnet_lists::report_refused;
 use std::alloc::Global;
 use std::io;
 use std::io::Write;
@@ -65,52 +64,19 @@ impl<'a> TextCommand for PrefixListCommand<'a> {
 impl Report for PrefixFailure {
     ghost exit = { λ _. 2 };
 
-    ghost told = { λ _ _. None };
+    ghost is_reported = { λ failure names. IsWritten (IsVerdictReport failure names) };
 
-    fn tell<X: Write>(self, names: &[&str], faults: &mut X) -> u8 {
-        let _ = match self {
-            PrefixFailure::Memory => writeln!(faults, "netset: out of memory"),
-            PrefixFailure::Prefixes(lines) => {
-                report_refused(faults, name_of(names, 0), lines.as_slice())
-            }
-            PrefixFailure::Networks(lines) => {
-                report_refused(faults, name_of(names, 1), lines.as_slice())
-            }
-        };
+    ghost is_begun = { λ failure names. IsFrontWritten (IsVerdictBegun failure names) };
+
+    fn status(&self) -> u8 {
         2
     }
-}
 
-impl LineCause for PrefixCause {
-    fn report<X: Write>(
-        &self,
-        faults: &mut X,
-        name: &str,
-        number: usize,
-        text: &[u8],
-    ) -> io::Result<()> {
-        report_text(faults, name, number, "not a rule of a prefix list", text)?;
+    fn report<X: Write>(&self, names: &[&str], faults: &mut X) -> io::Result<()> {
         match self {
-            PrefixCause::UnknownWord => writeln!(faults, " (a rule begins with permit or deny)"),
-            PrefixCause::NoNetwork(cause) => report_network_cause(faults, *cause),
-            PrefixCause::BadBounds => writeln!(
-                faults,
-                " (after the network: ge or le and a number, each at most once)"
-            ),
-            PrefixCause::RefusedBounds(error) => writeln!(faults, " ({error})"),
+            PrefixFailure::Memory => report_words(faults, OUT_OF_MEMORY),
+            PrefixFailure::Prefixes(lines) => report_refused(faults, names, 0, lines),
+            PrefixFailure::Networks(lines) => report_refused(faults, names, 1, lines),
         }
-    }
-}
-
-impl LineCause for NetworkCause {
-    fn report<X: Write>(
-        &self,
-        faults: &mut X,
-        name: &str,
-        number: usize,
-        text: &[u8],
-    ) -> io::Result<()> {
-        report_text(faults, name, number, "not a network", text)?;
-        report_network_cause(faults, *self)
     }
 }

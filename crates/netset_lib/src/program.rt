@@ -1,6 +1,8 @@
 //! The program, over any writers.
-ghost use Rattle.std.specs.Prelude.{◌≡◌, ◌≤◌, ◌==◌, ◌⊎◌, ◌↔◌, List, ℕ};
+ghost use Rattle.std.specs.Prelude.{◌≡◌, ◌≤◌, ◌==◌, ◌⊎◌, ◌↔◌, List, ℕ, OnOk};
 ghost use Rattle.std.specs.Io.KnownBytes.{Keeps};
+ghost use Rattle.ipnet_text.specs.Outputs.{IsWritten, IsFrontWritten};
+ghost use Rattle.netset_lib.specs.Reports.{IsFailureReport, IsFailureBegun};
 ghost use Rattle.netset_lib.specs.Replies.{IsWorkAnswer, IsOutcome, IsWorkFailure};
 ghost use Rattle.netset_lib.specs.Sessions.{WereRead};
 ghost use Rattle.netset_lib.specs.Streams.{IsWorkStreamed, IsWorkStreamedInPart};
@@ -8,20 +10,22 @@ ghost use Rattle.netset_lib.specs.declared.command.Work.{Work};
 
 use crate::answer::Answer;
 use crate::failure::Failure;
+use crate::reports::{OUT_OF_MEMORY, UNWRITABLE, report_words};
 use crate::runs::TextCommand;
 use crate::session::Session;
 use crate::session::stream::{StreamFailure, Streamed};
-use ipnet_lists::report_since;
+use ipnet_lists::{name_of, report_since};
 use std::io;
 use std::io::{Read, Write};
 
 /// The report of a complement that has no family.
-const NO_FAMILY: &str = "netset: the list has no entries: choose --ipv4 or --ipv6, or both";
+const NO_FAMILY: &str = "the list has no entries: choose --ipv4 or --ipv6, or both";
 
 /// The answer of the session, whose lists have these names.
 ///
 /// | Status | On `faults` | When |
 /// |---|---|---|
+/// | 2 | `netset: a list could not be read` | `Session::read` failed |
 /// | 2 | `netset: another number of lists is wanted` | the work takes another number of lists |
 /// | 2 | `NAME:LINE: not a network, an address or a range: TEXT (CAUSE)`, ten at most | some lines are not entries |
 /// | 2 | `netset: the list has no entries: choose --ipv4 or --ipv6, or both` | as `Failure::NoFamily` says |
@@ -136,33 +140,27 @@ fn report_stream<X: Write>(
             let name = name_of(names, 1).as_bytes().escape_ascii();
             writeln!(faults, "netset: {name}: {failure}")
         }
-        StreamFailure::Unwritable => writeln!(faults, "netset: output cannot be written"),
+        StreamFailure::Unwritable => report_words(faults, UNWRITABLE),
     }
 }
 
-/// Returns the name of the list with this index.
+/// Reports the failure of a session on `faults`, as `AnswerCommand` says. `names` are the names of the lists. After a
+/// failed write, a front of the report has been written.
 ///
 /// ```text
-/// 1 of a and b: "b"; 2: "list"
+/// Memory: "netset: out of memory\n"
 /// ```
-pub fn name_of<'a>(names: &[&'a str], index: usize) -> &'a str {
-    names.get(index).copied().unwrap_or("list")
-}
-
-/// Reports the failure of a session on `faults`, as `AnswerCommand` says. `names` are the names of the lists.
-///
-/// ```text
-/// Memory: "netset: out of memory"
-/// ```
-pub fn report_failure<X: Write>(
-    faults: &mut X,
-    names: &[&str],
-    failure: &Failure,
-) -> io::Result<()> {
+pub fn report_failure<X: Write>(faults: &mut X, names: &[&str], failure: &Failure) -> io::Result<()>
+    ensures whole { OnOk result (IsWritten (IsFailureReport failure.now names.now)
+        (X.contents faults.old) (X.contents faults.new)) }
+    ensures front { IsFrontWritten (IsFailureBegun failure.now names.now)
+        (X.contents faults.old) (X.contents faults.new) }
+{
     match failure {
-        Failure::Count => writeln!(faults, "netset: another number of lists is wanted"),
-        Failure::NoFamily => writeln!(faults, "{NO_FAMILY}"),
-        Failure::Memory => writeln!(faults, "netset: out of memory"),
+        Failure::Count => report_words(faults, "another number of lists is wanted"),
+        Failure::NoFamily => report_words(faults, NO_FAMILY),
+        Failure::Memory => report_words(faults, OUT_OF_MEMORY),
+        Failure::Unreadable => report_words(faults, "a list could not be read"),
         Failure::Refused(lines) => report_since(faults, names, lines, (0, 0)),
     }
 }

@@ -2,21 +2,21 @@
 ghost use Rattle.std.specs.Prelude.{◌≡◌, ◌↔◌, ◌++◌, IfOk, IfErr, OnOk, map, codes, decimal};
 ghost use Rattle.ipnet_base.specs.Address.{Address};
 ghost use Rattle.ipnet_sets.specs.Members.{IsMember};
+ghost use Rattle.ipnet_lists.specs.RefusedLines.{refusal_of, shown_refusals};
 ghost use Rattle.netset_lib.specs.RuleAnswers.{IsPermittedBy, line_text, line_at, covering_lines};
-ghost use Rattle.netset_lib.specs.RuleAnswers.{IsUnreachedText, IsRuleFailure, unreached_lines, AreUnreachedLines};
-ghost use Rattle.netset_lib.specs.RuleAnswers.{IsPermittedSet};
-ghost use Rattle.netset_lib.specs.RuleContentsOf.{contents_of, line_of_rule, rule_refusal};
+ghost use Rattle.netset_lib.specs.RuleAnswers.{IsRuleFailure, unreached_lines, AreUnreachedLines, IsPermittedSet};
+ghost use Rattle.netset_lib.specs.RuleContentsOf.{contents_of, line_of_rule};
 
 use crate::rule_line::RuleCause;
 use crate::rule_list::{RuleLine, RuleList};
-use ipnet_lists::{ListFailure, RefusedText};
+use ipnet_lists::{ListFailure, Refused};
 use ipnet_rules::{Action, Rule, Rules, Unreached};
 use ipnet_sets::IpSet;
 use std::alloc::{AllocError, Global};
 
 /// Returns the set of the addresses that the rules permit.
 fn permitted_set(alloc: Global, rules: Vec<Rule>, default: Action) -> Result<IpSet, AllocError>
-    ensures { IfOk result (λ set. (x : Address) → IsMember set x ↔ IsPermittedBy rules.items default x) }
+    ensures { IfOk result (IsPermittedSet default rules.items) }
 {
     let rules = Rules {
         list: rules,
@@ -129,15 +129,15 @@ impl RuleList {
         self.lines.as_slice()
     }
 
-    /// The lines that are not rules, in order.
+    /// The first ten lines that are not rules, in order.
     ///
     /// ```text
     /// of "permit 10.0.0.0/8\n\nallow ::1\n": line 3, "allow ::1", with the cause UnknownWord
     /// ```
-    pub fn refused(&self) -> &[RefusedText<RuleCause>]
-        ensures { map rule_refusal result.now ≡ (contents_of self.now).refused }
+    pub fn refused(&self) -> &[Refused<RuleCause>]
+        ensures { map refusal_of result.now ≡ shown_refusals self.now.refused }
     {
-        self.refused.as_slice()
+        self.refused.shown.as_slice()
     }
 
     /// Returns the rules, in order, with this action for the addresses that no rule matches. Refused lines are left
@@ -158,15 +158,16 @@ impl RuleList {
 
     /// Returns the set of the addresses that the rules permit. `default` is for the addresses that no rule matches.
     ///
-    /// If lines are not rules, the error is `Refused`, with all of them. Otherwise it is `Memory`, only if memory runs
-    /// out.
+    /// If lines are not rules, the error is `Refused`, with the first ten of them and their number. Otherwise it is
+    /// `Memory`, only if memory runs out.
     ///
     /// ```text
     /// Deny of "deny 10.0.0.0/9\npermit 10.0.0.0/8\n": 10.128.0.0/9
     /// ```
     pub fn permitted(self, default: Action) -> Result<IpSet, ListFailure<RuleCause>>
-        ensures set { IfOk result (IsPermittedSet default (contents_of self)) }
-        ensures failure { IfErr result (IsRuleFailure (contents_of self)) }
+        ensures none { IfOk result (λ _. self.refused.count ≡ 0) }
+        ensures set { IfOk result (IsPermittedSet default (contents_of self).rules) }
+        ensures failure { IfErr result (IsRuleFailure self) }
     {
         let RuleList {
             alloc,
@@ -174,7 +175,7 @@ impl RuleList {
             refused,
             ..
         } = self;
-        if !refused.is_empty() {
+        if refused.count != 0 {
             return Err(ListFailure::Refused(refused));
         }
         match permitted_set(alloc, rules, default) {
@@ -186,18 +187,19 @@ impl RuleList {
     /// Returns the lines of the rules that decide on no address. After each are the lines of the earlier rules that
     /// decide on its addresses.
     ///
-    /// If lines are not rules, the error is `Refused`, with all of them. Otherwise it is `Memory`, only if memory runs
-    /// out.
+    /// If lines are not rules, the error is `Refused`, with the first ten of them and their number. Otherwise it is
+    /// `Memory`, only if memory runs out.
     ///
     /// ```text
     /// of "deny 10.0.0.0/9\npermit 10.0.0.0/8\npermit 10.1.0.0/16\n":
     /// "line 3: permit 10.1.0.0/16\n  line 1: deny 10.0.0.0/9\n"
     /// ```
     pub fn unreached(self) -> Result<Vec<u8>, ListFailure<RuleCause>>
-        ensures text { IfOk result (λ text. IsUnreachedText (contents_of self) text.items) }
-        ensures failure { IfErr result (IsRuleFailure (contents_of self)) }
+        ensures none { IfOk result (λ _. self.refused.count ≡ 0) }
+        ensures text { IfOk result (λ text. AreUnreachedLines (contents_of self) text.items) }
+        ensures failure { IfErr result (IsRuleFailure self) }
     {
-        if !self.refused.is_empty() {
+        if self.refused.count != 0 {
             return Err(ListFailure::Refused(self.refused));
         }
         match unreached_text(self) {

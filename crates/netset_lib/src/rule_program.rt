@@ -2,15 +2,12 @@
 ghost use Rattle.std.specs.Prelude.{◌≡◌, List, ℕ};
 ghost use Rattle.ipnet.specs.declared.parser.Grammar.{Grammar};
 ghost use Rattle.netset_lib.specs.RuleAnswers.{IsUnreachedAnswer, IsRuleFailure, IsReachedOutcome};
-ghost use Rattle.netset_lib.specs.RuleContentsOf.{contents_of};
-ghost use Rattle.netset_lib.specs.RuleLines.{IsRuleList};
+ghost use Rattle.netset_lib.specs.RuleContentsOf.{WasRuleListRead};
 
 use crate::rule_line::RuleCause;
 use crate::rule_list::RuleList;
 use crate::runs::TextCommand;
-use ipnet_lists::{LineCause, ListFailure, NO_ENTRY, report_text};
-use std::io;
-use std::io::Write;
+use ipnet_lists::ListFailure;
 
 /// The lines of the rules that decide on no address.
 ///
@@ -39,35 +36,16 @@ impl TextCommand for UnreachedCommand {
     type Failure = ListFailure<RuleCause>;
 
     ghost is_answer = { λ command text. (grammar : Grammar) → (bytes : List ℕ)
-        → IsRuleList grammar bytes (contents_of command.list) → IsUnreachedAnswer grammar bytes text };
+        → WasRuleListRead grammar bytes command.list → IsUnreachedAnswer grammar bytes text };
 
     ghost is_outcome = { λ command reached. (grammar : Grammar) → (bytes : List ℕ)
-        → IsRuleList grammar bytes (contents_of command.list) → IsReachedOutcome grammar bytes reached };
+        → WasRuleListRead grammar bytes command.list → IsReachedOutcome grammar bytes reached };
 
-    ghost is_failure = { λ command. IsRuleFailure (contents_of command.list) };
+    ghost is_failure = { λ command. IsRuleFailure command.list };
 
     fn answer(self) -> Result<(Vec<u8>, bool), ListFailure<RuleCause>> {
         let text = self.list.unreached()?;
         let all_reached = text.is_empty();
         Ok((text, all_reached))
-    }
-}
-
-impl LineCause for RuleCause {
-    fn report<X: Write>(
-        &self,
-        faults: &mut X,
-        name: &str,
-        number: usize,
-        text: &[u8],
-    ) -> io::Result<()> {
-        report_text(faults, name, number, "not a rule", text)?;
-        match *self {
-            RuleCause::UnknownWord => writeln!(faults, " (a rule begins with permit or deny)"),
-            RuleCause::NoEntry => writeln!(faults, " (no network, address or range follows)"),
-            RuleCause::TwoEntries => writeln!(faults, " (more than one word follows)"),
-            RuleCause::BadEntry(None) => writeln!(faults, " ({NO_ENTRY})"),
-            RuleCause::BadEntry(Some(cause)) => writeln!(faults, " ({cause})"),
-        }
     }
 }

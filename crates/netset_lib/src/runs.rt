@@ -1,16 +1,22 @@
 //! Commands as values, and the run of any command over any writers.
-ghost use Rattle.std.specs.Prelude.{◌≡◌, ◌≤◌, ◌⊎◌, ℕ, Bool, true, false, List, Option, Some, None, IfOk, IfErr};
+ghost use Rattle.std.specs.Prelude.{◌≡◌, ◌≤◌, ◌⊎◌, ℕ, Bool, true, false, List, Option, IsTrue, IfOk, IfErr, OnOk};
 ghost use Rattle.std.specs.Prelude.{string_bytes};
 ghost use Rattle.std.specs.Io.KnownBytes.{Keeps};
+ghost use Rattle.ipnet_lists.specs.Names.{Names};
+ghost use Rattle.ipnet_lists.specs.Reports.{OfNew, IsReport};
+ghost use Rattle.ipnet_lists.specs.Reports as lists;
 ghost use Rattle.ipnet_text.specs.Outputs.{IsWritten, IsFrontWritten};
-ghost use Rattle.netset_lib.specs.Counts.{Names};
-ghost use Rattle.netset_lib.specs.Runs.{IsReported, exit_of_fault, told_of_fault};
+ghost use Rattle.netset_lib.specs.ListReports.{IsListReport, IsListBegun};
+ghost use Rattle.netset_lib.specs.Reports.{IsFailureReport, IsFailureBegun, words_line, unwritable};
+ghost use Rattle.netset_lib.specs.Runs.{IsReported, IsReportBegun, OfFault, exit_of_fault};
 ghost use Rattle.netset_lib.specs.declared.runs.Fault.TheVariants.{Lists};
 
 use crate::failure::Failure;
 use crate::program::report_failure;
+use crate::reports::{OUT_OF_MEMORY, UNWRITABLE, report_words};
 use crate::write::write_and_flush;
-use ipnet_lists::{LineCause, ListFailure, Refusals, report_since};
+use ipnet_lists::{LineCause, ListFailure, Refusals, report_refused, report_since};
+use std::io;
 use std::io::Write;
 
 /// Why a command has no answer, or only a part of it.
@@ -18,16 +24,23 @@ pub trait Report: Drop {
     /// The exit status.
     ghost exit: { Self → ℕ };
 
-    /// The text of its report on lists with these names, if that is promised.
-    ghost told: { Self → Names → Option (List ℕ) };
+    /// Its report on lists with these names was written. A writer had the first bytes before it, and then the others.
+    ghost is_reported: { Self → Names → Option (List ℕ) → Option (List ℕ) → Type 0 };
 
-    /// Reports it on `faults`, and returns the exit status: 1 or 2. `names` are the names of the lists.
-    fn tell<X: Write>(self, names: &[&str], faults: &mut X) -> u8
-        ensures status { result ≡ exit self }
+    /// A front of such a report was written, perhaps all of it.
+    ghost is_begun: { Self → Names → Option (List ℕ) → Option (List ℕ) → Type 0 };
+
+    /// Returns the exit status: 1 or 2.
+    fn status(&self) -> u8
+        ensures status { result ≡ exit self.now }
         ensures least { 1 ≤ result }
-        ensures most { result ≤ 2 }
-        ensures told { (text : List ℕ) → told self names.now ≡ Some text
-            → IsFrontWritten (λ t. t ≡ text) (X.contents faults.old) (X.contents faults.new) };
+        ensures most { result ≤ 2 };
+
+    /// Reports it on `faults`. `names` are the names of the lists. If a write fails, a front of the report has been
+    /// written.
+    fn report<X: Write>(&self, names: &[&str], faults: &mut X) -> io::Result<()>
+        ensures whole { OnOk result (is_reported self.now names.now (X.contents faults.old) (X.contents faults.new)) }
+        ensures front { is_begun self.now names.now (X.contents faults.old) (X.contents faults.new) };
 }
 
 /// A command: it writes its answer, or says why there is none.
@@ -124,45 +137,230 @@ impl<F: Drop> From<Failure> for Fault<Failure, F> {
 impl Report for Failure {
     ghost exit = { λ _. 2 };
 
-    ghost told = { λ _ _. None };
+    ghost is_reported = { λ failure names. IsWritten (IsFailureReport failure names) };
 
-    fn tell<X: Write>(self, names: &[&str], faults: &mut X) -> u8 {
-        let _ = report_failure(faults, names, &self);
+    ghost is_begun = { λ failure names. IsFrontWritten (IsFailureBegun failure names) };
+
+    fn status(&self) -> u8 {
         2
+    }
+
+    fn report<X: Write>(&self, names: &[&str], faults: &mut X) -> io::Result<()> {
+        report_failure(faults, names, self)
     }
 }
 
 impl<C: LineCause> Report for ListFailure<C> {
     ghost exit = { λ _. 2 };
 
-    ghost told = { λ _ _. None };
+    ghost is_reported = { λ failure names. IsWritten (IsListReport C.explains failure names) };
 
-    fn tell<X: Write>(self, names: &[&str], faults: &mut X) -> u8 {
-        self.report(faults, names.last().copied().unwrap_or("list"))
+    ghost is_begun = { λ failure names. IsFrontWritten (IsListBegun C.explains failure names) };
+
+    fn status(&self) -> u8 {
+        2
+    }
+
+    fn report<X: Write>(&self, names: &[&str], faults: &mut X) -> io::Result<()> {
+        match self {
+            ListFailure::Refused(lines) => {
+                report_refused(faults, names, names.len().saturating_sub(1), lines)
+            }
+            ListFailure::Memory => report_words(faults, OUT_OF_MEMORY),
+        }
     }
 }
 
 impl<C: LineCause> Report for Refusals<C> {
     ghost exit = { λ _. 2 };
 
-    ghost told = { λ _ _. None };
+    ghost is_reported = { λ lines names. IsWritten (OfNew (IsReport C.explains names) lines 0 0) };
 
-    fn tell<X: Write>(self, names: &[&str], faults: &mut X) -> u8 {
-        let _ = report_since(faults, names, &self, (0, 0));
+    ghost is_begun = { λ lines names. IsFrontWritten (OfNew (lists.IsReportBegun C.explains names) lines 0 0) };
+
+    fn status(&self) -> u8 {
         2
+    }
+
+    fn report<X: Write>(&self, names: &[&str], faults: &mut X) -> io::Result<()> {
+        report_since(faults, names, self, (0, 0))
     }
 }
 
 impl<L: Report, F: Report> Report for Fault<L, F> {
     ghost exit = { exit_of_fault L.exit F.exit };
 
-    ghost told = { told_of_fault L.told F.told };
+    ghost is_reported = { OfFault L.is_reported F.is_reported };
 
-    fn tell<X: Write>(self, names: &[&str], faults: &mut X) -> u8 {
+    ghost is_begun = { OfFault L.is_begun F.is_begun };
+
+    fn status(&self) -> u8 {
         match self {
-            Fault::Lists(failure) => failure.tell(names, faults),
-            Fault::Other(failure) => failure.tell(names, faults),
+            Fault::Lists(failure) => failure.status(),
+            Fault::Other(failure) => failure.status(),
         }
+    }
+
+    fn report<X: Write>(&self, names: &[&str], faults: &mut X) -> io::Result<()> {
+        match self {
+            Fault::Lists(failure) => failure.report(names, faults),
+            Fault::Other(failure) => failure.report(names, faults),
+        }
+    }
+}
+
+/// How a run ended.
+#[derive(Clone, Copy, Debug, PartialEq, Eq)]
+pub struct Ended {
+    /// The exit status.
+    pub status: u8,
+    /// Whether the report on `faults` is whole. If there is none, it is.
+    pub is_reported: bool,
+}
+
+impl Ended {
+    /// A run with this exit status that reports nothing.
+    fn quiet(status: u8) -> Ended
+        ensures { result.status ≡ status }
+    {
+        Ended {
+            status,
+            is_reported: true,
+        }
+    }
+}
+
+/// Reports the failure, and ends with its status. If a write fails, a front of the report has been written.
+///
+/// ```text
+/// out of memory: status 2, and faults gets "netset: out of memory\n"
+/// ```
+pub fn end_with<F: Report, X: Write>(failure: &F, names: &[&str], faults: &mut X) -> Ended
+    ensures status { result.status ≡ F.exit failure.now }
+    ensures least { 1 ≤ result.status }
+    ensures most { result.status ≤ 2 }
+    ensures whole { IsTrue result.is_reported
+        → F.is_reported failure.now names.now (X.contents faults.old) (X.contents faults.new) }
+    ensures front { F.is_begun failure.now names.now (X.contents faults.old) (X.contents faults.new) }
+{
+    let status = failure.status();
+    match failure.report(names, faults) {
+        Ok(()) => Ended {
+            status,
+            is_reported: true,
+        },
+        Err(_) => Ended {
+            status,
+            is_reported: false,
+        },
+    }
+}
+
+/// Reports that the output cannot be written, and ends with status 2. If a write fails, a front of the report has been
+/// written.
+///
+/// ```text
+/// status 2, and faults gets "netset: output cannot be written\n"
+/// ```
+pub fn end_unwritable<X: Write>(faults: &mut X) -> Ended
+    ensures status { result.status ≡ 2 }
+    ensures whole { IsTrue result.is_reported → IsWritten (λ t. t ≡ words_line unwritable)
+        (X.contents faults.old) (X.contents faults.new) }
+    ensures front { IsFrontWritten (λ t. t ≡ words_line unwritable)
+        (X.contents faults.old) (X.contents faults.new) }
+{
+    match report_words(faults, UNWRITABLE) {
+        Ok(()) => Ended {
+            status: 2,
+            is_reported: true,
+        },
+        Err(_) => Ended {
+            status: 2,
+            is_reported: false,
+        },
+    }
+}
+
+/// Runs the command as [`run`] does, and returns how it ended: also whether its report is whole. The report is whole
+/// unless a write to `faults` failed.
+///
+/// ```text
+/// the hosts of 10.0.0.9/30: status 0, nothing is reported, and out gets "10.0.0.9\n10.0.0.10\n"
+/// ```
+pub fn run_to_end<C: Command, W: Write, X: Write>(
+    command: C,
+    names: &[&str],
+    out: &mut W,
+    faults: &mut X,
+) -> Ended
+    ensures status { result.status ≤ 2 }
+    ensures answered { result.status ≡ 0 → IsWritten (C.is_answer command) (W.contents out.old) (W.contents out.new)
+        × C.is_outcome command true }
+    ensures other { result.status ≡ 1
+        → (IsWritten (C.is_answer command) (W.contents out.old) (W.contents out.new)
+        × C.is_outcome command false × Keeps (X.contents faults.old) (X.contents faults.new))
+        ⊎ (Keeps (W.contents out.old) (W.contents out.new)
+        × IsReported (C.is_failure command) C.Failure.exit (λ f. C.Failure.is_reported f names.now)
+        (λ f. C.Failure.is_begun f names.now) 1 (X.contents faults.old) (X.contents faults.new)
+        (IsTrue result.is_reported)) }
+    ensures failed { result.status ≡ 2 → IsReported (C.is_failure command) C.Failure.exit
+        (λ f. C.Failure.is_reported f names.now) (λ f. C.Failure.is_begun f names.now) 2
+        (X.contents faults.old) (X.contents faults.new) (IsTrue result.is_reported) }
+    ensures cut_short { result.status ≡ 2 → Keeps (W.contents out.old) (W.contents out.new)
+        ⊎ IsFrontWritten (C.is_answer command) (W.contents out.old) (W.contents out.new) }
+    ensures faultless { result.status ≡ 0 → Keeps (X.contents faults.old) (X.contents faults.new) }
+{
+    match command.write(out) {
+        Ok(true) => Ended::quiet(0),
+        Ok(false) => Ended::quiet(1),
+        Err(failure) => end_with(&failure, names, faults),
+    }
+}
+
+/// Runs the command as [`run_text`] does, and returns how it ended: also whether its report is whole. The report is
+/// whole unless a write to `faults` failed.
+///
+/// ```text
+/// the union of "10.0.0.0/9\n10.128.0.0/9\n": status 0, nothing is reported, and out gets "10.0.0.0/8\n"
+/// ```
+pub fn run_text_to_end<C: TextCommand, W: Write, X: Write>(
+    command: C,
+    names: &[&str],
+    out: &mut W,
+    faults: &mut X,
+) -> Ended
+    ensures status { result.status ≤ 2 }
+    ensures answered { result.status ≡ 0 → IsWritten (C.is_answer command) (W.contents out.old) (W.contents out.new)
+        × C.is_outcome command true }
+    ensures other { result.status ≡ 1
+        → (IsWritten (C.is_answer command) (W.contents out.old) (W.contents out.new)
+        × C.is_outcome command false × Keeps (X.contents faults.old) (X.contents faults.new))
+        ⊎ (Keeps (W.contents out.old) (W.contents out.new)
+        × IsReported (C.is_failure command) C.Failure.exit (λ f. C.Failure.is_reported f names.now)
+        (λ f. C.Failure.is_begun f names.now) 1 (X.contents faults.old) (X.contents faults.new)
+        (IsTrue result.is_reported)) }
+    ensures cut_short { result.status ≡ 2 → (Keeps (W.contents out.old) (W.contents out.new)
+        × IsReported (C.is_failure command) C.Failure.exit (λ f. C.Failure.is_reported f names.now)
+        (λ f. C.Failure.is_begun f names.now) 2 (X.contents faults.old) (X.contents faults.new)
+        (IsTrue result.is_reported))
+        ⊎ (IsFrontWritten (C.is_answer command) (W.contents out.old) (W.contents out.new)
+        × IsFrontWritten (λ t. t ≡ words_line unwritable) (X.contents faults.old) (X.contents faults.new)
+        × (IsTrue result.is_reported
+        → IsWritten (λ t. t ≡ words_line unwritable) (X.contents faults.old) (X.contents faults.new))) }
+    ensures faultless { result.status ≡ 0 → Keeps (X.contents faults.old) (X.contents faults.new) }
+{
+    match command.answer() {
+        Ok((text, succeeded)) => {
+            if !write_and_flush(out, text.lend()) {
+                return end_unwritable(faults);
+            }
+            if succeeded {
+                Ended::quiet(0)
+            } else {
+                Ended::quiet(1)
+            }
+        }
+        Err(why) => end_with(&why, names, faults),
     }
 }
 
@@ -187,19 +385,15 @@ pub fn run<C: Command, W: Write, X: Write>(
     ensures other { result ≡ 1 → (IsWritten (C.is_answer command) (W.contents out.old) (W.contents out.new)
         × C.is_outcome command false × Keeps (X.contents faults.old) (X.contents faults.new))
         ⊎ (Keeps (W.contents out.old) (W.contents out.new)
-        × IsReported (C.is_failure command) C.Failure.exit (λ f. C.Failure.told f names.now) 1
+        × IsReportBegun (C.is_failure command) C.Failure.exit (λ f. C.Failure.is_begun f names.now) 1
         (X.contents faults.old) (X.contents faults.new)) }
-    ensures failed { result ≡ 2 → IsReported (C.is_failure command) C.Failure.exit
-        (λ f. C.Failure.told f names.now) 2 (X.contents faults.old) (X.contents faults.new) }
+    ensures failed { result ≡ 2 → IsReportBegun (C.is_failure command) C.Failure.exit
+        (λ f. C.Failure.is_begun f names.now) 2 (X.contents faults.old) (X.contents faults.new) }
     ensures cut_short { result ≡ 2 → Keeps (W.contents out.old) (W.contents out.new)
         ⊎ IsFrontWritten (C.is_answer command) (W.contents out.old) (W.contents out.new) }
     ensures faultless { result ≡ 0 → Keeps (X.contents faults.old) (X.contents faults.new) }
 {
-    match command.write(out) {
-        Ok(true) => 0,
-        Ok(false) => 1,
-        Err(failure) => failure.tell(names, faults),
-    }
+    run_to_end(command, names, out, faults).status
 }
 
 /// Runs the command as `run` does, and writes its answer as a whole. If a write fails, or the flush after it, the
@@ -220,22 +414,14 @@ pub fn run_text<C: TextCommand, W: Write, X: Write>(
     ensures other { result ≡ 1 → (IsWritten (C.is_answer command) (W.contents out.old) (W.contents out.new)
         × C.is_outcome command false × Keeps (X.contents faults.old) (X.contents faults.new))
         ⊎ (Keeps (W.contents out.old) (W.contents out.new)
-        × IsReported (C.is_failure command) C.Failure.exit (λ f. C.Failure.told f names.now) 1
+        × IsReportBegun (C.is_failure command) C.Failure.exit (λ f. C.Failure.is_begun f names.now) 1
         (X.contents faults.old) (X.contents faults.new)) }
     ensures cut_short { result ≡ 2 → (Keeps (W.contents out.old) (W.contents out.new)
-        × IsReported (C.is_failure command) C.Failure.exit (λ f. C.Failure.told f names.now) 2
+        × IsReportBegun (C.is_failure command) C.Failure.exit (λ f. C.Failure.is_begun f names.now) 2
         (X.contents faults.old) (X.contents faults.new))
-        ⊎ IsFrontWritten (C.is_answer command) (W.contents out.old) (W.contents out.new) }
+        ⊎ (IsFrontWritten (C.is_answer command) (W.contents out.old) (W.contents out.new)
+        × IsFrontWritten (λ t. t ≡ words_line unwritable) (X.contents faults.old) (X.contents faults.new)) }
     ensures faultless { result ≡ 0 → Keeps (X.contents faults.old) (X.contents faults.new) }
 {
-    match command.answer() {
-        Ok((text, succeeded)) => {
-            if !write_and_flush(out, text.lend()) {
-                let _ = writeln!(faults, "netset: output cannot be written");
-                return 2;
-            }
-            if succeeded { 0 } else { 1 }
-        }
-        Err(why) => why.tell(names, faults),
-    }
+    run_text_to_end(command, names, out, faults).status
 }

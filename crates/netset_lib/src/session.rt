@@ -1,6 +1,6 @@
 //! Lists that are read one after another, and the answer to what is asked of them.
-ghost use Rattle.std.specs.Prelude.{◌≡◌, ◌++◌, ◌∷◌, ◌↔◌, ℕ, List, [], length, IsTrue, IfOk, IfErr, OnOk};
-ghost use Rattle.std.specs.Prelude.{string_bytes, Err, false};
+ghost use Rattle.std.specs.Prelude.{◌≡◌, ◌≢◌, ◌++◌, ◌∷◌, ◌↔◌, ℕ, List, [], length, IsTrue, IfOk, IfErr, OnOk};
+ghost use Rattle.std.specs.Prelude.{string_bytes, Err, false, IsErr, OnErr};
 ghost use Rattle.ipnet_text.specs.Inputs.{GaveWhole};
 ghost use Rattle.netset_lib.specs.Answers.{IsSetText};
 ghost use Rattle.netset_lib.specs.Counts.{IsComparison};
@@ -33,7 +33,8 @@ use std::io::Read;
 
 /// The lists of a call, which are read one after another, and what is asked of them.
 ///
-/// The bytes of a list are not kept: of a list of addresses its set is, of a filter or a route the answer's text.
+/// The bytes of a list are not kept: of a list of addresses its set is, of a filter or a route the answer's text. After
+/// a list could not be read, every later call fails that reads a list or asks for an answer.
 ///
 /// ```text
 /// new(Union), read("10.0.0.0/9\n"), read("10.128.0.0/9\n"), answer(): "10.0.0.0/8\n"
@@ -45,6 +46,8 @@ pub struct Session {
     sets: Vec<IpSet>,
     answerer: Option<Answerer>,
     answers: Answers,
+    /// Whether a list could not be read.
+    is_broken: bool,
 }
 
 /// The grammar of the entries.
@@ -156,7 +159,7 @@ fn answer_of(
 
 impl Session {
     ghost use Rattle.netset_lib.specs.Sessions.{WereRead, ReadsNext, IsState, IsAskState};
-    ghost use Rattle.netset_lib.specs.Sessions.{IsNoted, IsGood, has_entry, refused_count};
+    ghost use Rattle.netset_lib.specs.Sessions.{IsNoted, IsGood, IsBroken, has_entry, refused_count, refused_lines};
 
     /// Returns a session that has read no list. Fails if memory runs out.
     pub fn new(alloc: Global, work: Work) -> Result<Session, AllocError>
@@ -168,6 +171,7 @@ impl Session {
             sets: Vec::new(alloc),
             answerer: None,
             answers: Answers::new(alloc),
+            is_broken: false,
         })
     }
 
@@ -215,18 +219,41 @@ impl Session {
     }
 
     /// Reads the next list up to its end.
-    ///
-    /// A list has an entry a line. Blanks around an entry do not count, nor do a comment, a carriage return at the end
-    /// of a line, lines that contain nothing else, and a byte order mark at the start. A comment begins at "#", or at
-    /// ";" at the start of the line or after a blank. A line that is not an entry is no error here: `answer` reports
-    /// it. A line that has an entry before the ";", and whose comment has an entry as its first word, is not an entry.
-    pub fn read<R: Read>(&mut self, input: &mut R) -> Result<(), ReadFailure>
+    fn read_list<R: Read>(&mut self, input: &mut R) -> Result<(), ReadFailure>
         ensures { OnOk result ((work : Work) → (lists : List (List ℕ)) → WereRead work lists self.old
             → ((bytes : List ℕ) × GaveWhole (R.remaining input.old) (R.remaining input.new) bytes
             × WereRead work (lists ++ bytes ∷ []) self.new
             × IsNoted (work_grammar work) (length lists) bytes (has_entry self.new))) }
     {
         self.read_for_work(input)
+    }
+
+    /// Reads the next list up to its end.
+    ///
+    /// A list has an entry a line. Blanks around an entry do not count, nor do a comment, a carriage return at the end
+    /// of a line, lines that contain nothing else, and a byte order mark at the start. A comment begins at "#", or at
+    /// ";" at the start of the line or after a blank. A line that is not an entry is no error here: `answer` reports
+    /// it. A line that has an entry before the ";", and whose comment has an entry as its first word, is not an entry.
+    ///
+    /// The error is `Unreadable` if a read fails, now or in a call before, and `Memory` if memory runs out.
+    pub fn read<R: Read>(&mut self, input: &mut R) -> Result<(), ReadFailure>
+        ensures read { OnOk result ((work : Work) → (lists : List (List ℕ)) → WereRead work lists self.old
+            → ((bytes : List ℕ) × GaveWhole (R.remaining input.old) (R.remaining input.new) bytes
+            × WereRead work (lists ++ bytes ∷ []) self.new
+            × IsNoted (work_grammar work) (length lists) bytes (has_entry self.new))) }
+        ensures broken { OnErr result (IsBroken self.new) }
+        ensures fails { IsBroken self.old → IsErr result }
+    {
+        if self.is_broken {
+            return Err(ReadFailure::Unreadable);
+        }
+        match self.read_list(input) {
+            Ok(()) => Ok(()),
+            Err(failure) => {
+                self.is_broken = true;
+                Err(failure)
+            }
+        }
     }
 
     /// How many lines of the lists are not entries.
@@ -251,15 +278,23 @@ impl Session {
         self.reading.lines.has_entry
     }
 
-    /// Returns the session as it is, if its work takes as many lists as were read, no line of them is refused, and its
-    /// complement has a family.
+    /// Returns the session as it is, if each list could be read, its work takes as many lists as were read, no line of
+    /// them is refused, and its complement has a family. Allocates nothing, so the error is never `Memory`.
     fn into_good(self) -> Result<Session, Failure>
         ensures good { IfOk result (λ good. (good ≡ self) × IsGood good) }
         ensures failure { IfErr result (λ failure. (work : Work) → (lists : List (List ℕ)) → WereRead work lists self
             → IsWorkFailure work lists failure) }
+        ensures sure { IfErr result (λ failure. failure ≢ Failure.Memory) }
         ensures count { (work : Work) → (lists : List (List ℕ)) → WereRead work lists self
             → ¬ (TakesCount work (length lists)) → result ≡ Err Failure.Count }
+        ensures refused { (work : Work) → (lists : List (List ℕ)) → WereRead work lists self
+            → TakesCount work (length lists) → refused_count self ≢ 0
+            → result ≡ Err (Failure.Refused (refused_lines self)) }
+        ensures broken { IsBroken self → result ≡ Err Failure.Unreadable }
     {
+        if self.is_broken {
+            return Err(Failure::Unreadable);
+        }
         if !takes(self.work, self.reading.lines.list) {
             return Err(Failure::Count);
         }
@@ -277,9 +312,9 @@ impl Session {
     /// Returns the answer over the lists that were read. `names` are the names of the lists, in order; `Count` prints
     /// them.
     ///
-    /// The error is `Count` if the work takes another number of lists; `Refused` if lines are not entries, with the
-    /// first ten of these and their number; `NoFamily` for the complement of a list without entries, if no family is
-    /// chosen; and `Memory` if memory runs out.
+    /// The error is `Unreadable` if a list could not be read; `Count` if the work takes another number of lists;
+    /// `Refused` if lines are not entries, with the first ten of these and their number; `NoFamily` for the complement
+    /// of a list without entries, if no family is chosen; and otherwise `Memory`, if memory runs out.
     ///
     /// ```text
     /// Difference of "10.0.0.0/8 # ours\n" and "10.0.0.0-10.127.255.255\r\n":  "10.128.0.0/9\n", succeeded
@@ -295,6 +330,10 @@ impl Session {
             → IsWorkFailure work lists failure) }
         ensures count { (work : Work) → (lists : List (List ℕ)) → WereRead work lists self
             → ¬ (TakesCount work (length lists)) → result ≡ Err Failure.Count }
+        ensures refused { (work : Work) → (lists : List (List ℕ)) → WereRead work lists self
+            → TakesCount work (length lists) → refused_count self ≢ 0
+            → result ≡ Err (Failure.Refused (refused_lines self)) }
+        ensures broken { IsBroken self → result ≡ Err Failure.Unreadable }
     {
         let Session {
             work,

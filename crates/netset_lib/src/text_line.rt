@@ -1,9 +1,9 @@
 //! A line of a table with texts: an entry, and the text after it.
-ghost use Rattle.std.specs.Prelude.{◌↔◌, length, IsTrue, IfErr, IfOk};
+ghost use Rattle.std.specs.Prelude.{◌↔◌, length, IsTrue};
 ghost use Rattle.ipnet_lists.specs.Entries.{IsNoEntry, ReadsAs};
 ghost use Rattle.ipnet_lists.specs.Comments.{IsCommentAt};
 ghost use Rattle.netset_lib.specs.TextSteps.{line_in, IsAllowed};
-ghost use Rattle.netset_lib.specs.TextTables.{IsTextLine, IsNoTextLine, IsTextCause};
+ghost use Rattle.netset_lib.specs.TextTables.{IsTextLine, IsTextCause};
 
 use ipnet::Grammar;
 use ipnet_lists::{
@@ -42,8 +42,16 @@ fn is_allowed(contents: &[u8], text: &str) -> bool
     !has_mask_word(line)
 }
 
+/// Says that a line of a table is refused because its contents are not an entry, with or without a text. `text_cause`
+/// finds the cause when the line is reported.
+#[derive(Clone, Copy, Debug, Drop)]
+pub struct NotTextLine {
+    /// The grammar.
+    pub(crate) grammar: Grammar,
+}
+
 /// Returns why contents that are not an entry with a text are not such a line.
-fn text_cause(contents: &[u8], grammar: Grammar) -> Option<Cause>
+pub(crate) fn text_cause(contents: &[u8], grammar: Grammar) -> Option<Cause>
     ensures { IsTextCause grammar contents.now result }
 {
     let (word, _) = cut_word(contents);
@@ -73,7 +81,7 @@ fn read_after<'a>(contents: &'a [u8], grammar: Grammar) -> Option<TableLine<'a>>
 }
 
 /// Returns the entry and the text that the contents of a line are, or `None` if they are not such a line.
-fn read_some<'a>(contents: &'a [u8], grammar: Grammar) -> Option<TableLine<'a>>
+pub(crate) fn read_table_line<'a>(contents: &'a [u8], grammar: Grammar) -> Option<TableLine<'a>>
     ensures { ReadsAs line_in (IsTextLine grammar) contents.now result }
 {
     match read_text(contents, grammar) {
@@ -82,19 +90,5 @@ fn read_some<'a>(contents: &'a [u8], grammar: Grammar) -> Option<TableLine<'a>>
             Some(TableLine { entry, text: "" })
         }
         None => read_after(contents, grammar),
-    }
-}
-
-/// Returns the entry and the text that the contents of a line are, or why they are not such a line.
-pub(crate) fn read_table_line<'a>(
-    contents: &'a [u8],
-    grammar: Grammar,
-) -> Result<TableLine<'a>, Option<Cause>>
-    ensures line { IfOk result (λ l. IsTextLine grammar contents.now (line_in l)) }
-    ensures cause { IfErr result (IsNoTextLine grammar contents.now) }
-{
-    match read_some(contents, grammar) {
-        Some(line) => Ok(line),
-        None => Err(text_cause(contents, grammar)),
     }
 }

@@ -1,15 +1,18 @@
 //! The command `route --with-text` of the program.
-ghost use Rattle.std.specs.Prelude.{◌≡◌, not, List, ℕ, None, IfSome};
+ghost use Rattle.std.specs.Prelude.{◌≡◌, not, List, ℕ, IfSome};
 ghost use Rattle.std.specs.Io.KnownBytes.{Keeps};
+ghost use Rattle.ipnet_text.specs.Outputs.{IsWritten, IsFrontWritten};
+ghost use Rattle.netset_lib.specs.ListReports.{IsRouteReport, IsRouteBegun};
+ghost use Rattle.netset_lib.specs.TextReasons.{ExplainsTextLine};
 ghost use Rattle.netset_lib.specs.TextReplies.{IsTextFailure};
 ghost use Rattle.netset_lib.specs.TextTables.{IsTextRouteAnswer, IsTableOfTexts};
 
-use crate::failure::Failure;
-use crate::program::{name_of, report_failure};
+use crate::reports::{OUT_OF_MEMORY, report_words};
 use crate::runs::{Report, TextCommand};
+use crate::text_line::{NotTextLine, text_cause};
 use crate::text_route::{TextFailure, table_of_texts, text_route_answers};
 use ipnet::Grammar;
-use ipnet_lists::{Cause, MOST_LINES, RefusedText, report_more, report_text};
+use ipnet_lists::{Explanation, LineCause, explain_cause, report_refused};
 use ipnet_routes::RouteTable;
 use std::alloc::Global;
 use std::io;
@@ -76,17 +79,20 @@ impl<'a> TextCommand for TextRoutesCommand<'a> {
 impl Report for TextFailure {
     ghost exit = { λ _. 2 };
 
-    ghost told = { λ _ _. None };
+    ghost is_reported = { λ failure names. IsWritten (IsRouteReport failure names) };
 
-    fn tell<X: Write>(self, names: &[&str], faults: &mut X) -> u8 {
-        let _ = match self {
-            TextFailure::Table(lines) => report_lines(faults, name_of(names, 0), lines.as_slice()),
-            TextFailure::List(lines) => {
-                report_failure(faults, &[name_of(names, 1)], &Failure::Refused(lines))
-            }
-            TextFailure::Memory => writeln!(faults, "netset: out of memory"),
-        };
+    ghost is_begun = { λ failure names. IsFrontWritten (IsRouteBegun failure names) };
+
+    fn status(&self) -> u8 {
         2
+    }
+
+    fn report<X: Write>(&self, names: &[&str], faults: &mut X) -> io::Result<()> {
+        match self {
+            TextFailure::Table(lines) => report_refused(faults, names, 0, lines),
+            TextFailure::List(lines) => report_refused(faults, names, 1, lines),
+            TextFailure::Memory => report_words(faults, OUT_OF_MEMORY),
+        }
     }
 }
 
@@ -112,26 +118,19 @@ pub fn table_or_report<'a, X: Write>(
     match table_of_texts(alloc, bytes, grammar) {
         Ok(table) => Some(table),
         Err(failure) => {
-            let _ = failure.tell(&[name], faults);
+            let _ = failure.report(&[name], faults);
             None
         }
     }
 }
 
-/// Reports the first refused lines of a table, and the number of the others.
-fn report_lines<X: Write>(
-    faults: &mut X,
-    name: &str,
-    lines: &[RefusedText<Option<Cause>>],
-) -> io::Result<()> {
-    let shown = lines.len().min(MOST_LINES);
-    for line in &lines[..shown] {
-        let text = line.text.as_slice();
-        report_text(faults, name, line.number, NO_TEXT_LINE, text)?;
-        match line.cause {
-            Some(cause) => writeln!(faults, " ({cause})")?,
-            None => writeln!(faults)?,
+impl LineCause for NotTextLine {
+    ghost explains = { ExplainsTextLine };
+
+    fn explain(&self, text: &[u8]) -> Explanation {
+        Explanation {
+            what: NO_TEXT_LINE,
+            ..explain_cause(text_cause(text, self.grammar))
         }
     }
-    report_more(faults, lines.len() - shown)
 }

@@ -9,9 +9,10 @@ ghost use Rattle.netset_lib.specs.declared.text_route.TextFailure.TheVariants.{M
 
 use crate::answerer::{Answers, entry_text, push_missing};
 use crate::route::longest_holding;
+use crate::text_line::NotTextLine;
 use crate::text_table::{TextRoutes, read_text_routes};
 use ipnet::{Grammar, IpNet};
-use ipnet_lists::{Cause, Collector, Entry, LineReader, RefusedLines, RefusedText, skip_mark};
+use ipnet_lists::{Collector, Entry, LineReader, Refusals, RefusedLines, skip_mark};
 use ipnet_routes::RouteTable;
 use std::alloc::{AllocError, Global};
 
@@ -19,7 +20,7 @@ use std::alloc::{AllocError, Global};
 #[derive(Debug, Drop)]
 pub enum TextFailure {
     /// These lines of the table are not an entry with a text.
-    Table(Vec<RefusedText<Option<Cause>>>),
+    Table(Refusals<NotTextLine>),
     /// Lines of the list are not entries.
     List(RefusedLines),
     /// Memory ran out.
@@ -119,7 +120,7 @@ pub(crate) fn table_of_texts<'a>(
     ensures failure { (list : List ℕ) → IfErr result (IsTextFailure grammar bytes.now list) }
 {
     let TextRoutes { routes, refused } = read_text_routes(alloc, bytes, grammar)?;
-    if !refused.is_empty() {
+    if refused.count != 0 {
         return Err(TextFailure::Table(refused));
     }
     let table = RouteTable::from_routes(alloc, routes)?;

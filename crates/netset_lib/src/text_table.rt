@@ -1,19 +1,19 @@
 //! Tables of networks with texts, read line by line.
 ghost use Rattle.std.specs.Prelude.{IfOk, OnOk};
-ghost use Rattle.ipnet_lists.specs.ContentLineOf.{line_of};
 ghost use Rattle.ipnet_lists.specs.EntryOf.{entry_range};
-ghost use Rattle.netset_lib.specs.TextSteps.{AddsBlocks, AddsTableLine, AreTextsRead, texts_in};
+ghost use Rattle.netset_lib.specs.TextSteps.{AddsBlocks, AreTextsRead, texts_in};
+ghost use Rattle.netset_lib.specs.TextTables.{IsTextLine, IsNoTextLine};
 
-use crate::text_line::{TableLine, read_table_line};
+use crate::text_line::{NotTextLine, read_table_line};
 use ipnet::{Grammar, IpNet};
-use ipnet_lists::{Cause, ContentLine, Entry, RefusedText, content_lines};
+use ipnet_lists::{ContentLine, Entry, LineHandler, Refusals, read_lines};
 use std::alloc::{AllocError, Global};
 
 /// The routes of a table in the order of its lines, and its refused lines.
 #[derive(Drop)]
 pub(crate) struct TextRoutes<'a> {
     pub(crate) routes: Vec<(IpNet, &'a str)>,
-    pub(crate) refused: Vec<RefusedText<Option<Cause>>>,
+    pub(crate) refused: Refusals<NotTextLine>,
 }
 
 /// Puts the networks of the entry at the end of the routes, each with this text.
@@ -31,26 +31,31 @@ fn push_blocks<'a>(
     Ok(())
 }
 
-/// Adds the routes of the line that was read, or the line as a refused one. Fails if memory runs out.
-fn add_line<'a>(
-    alloc: Global,
-    made: &mut TextRoutes<'a>,
-    line: ContentLine<'_>,
-    read: Result<TableLine<'a>, Option<Cause>>,
-) -> Result<(), AllocError>
-    ensures { OnOk result (AddsTableLine (line_of line.entry) read.entry made.old made.new) }
-{
-    match read {
-        Ok(found) => push_blocks(&mut made.routes, found.entry, found.text),
-        Err(cause) => {
-            let text = line.text.to_vec(alloc)?;
-            let number = line.number;
-            made.refused.push(RefusedText {
-                number,
-                text,
-                cause,
-            })?;
-            Ok(())
+/// Takes the lines of a table.
+#[derive(Drop)]
+struct TableLines {
+    grammar: Grammar,
+}
+
+impl<'a> LineHandler<'a, Vec<(IpNet, &'a str)>, NotTextLine> for TableLines {
+    ghost takes = { λ h line old new. (l : _) × IsTextLine h.grammar line.text l
+        × AddsBlocks (texts_in old.items) l.range l.text (texts_in new.items) };
+
+    ghost is_cause = { λ h. IsNoTextLine h.grammar };
+
+    fn take(
+        &self,
+        made: &mut Vec<(IpNet, &'a str)>,
+        line: ContentLine<'a>,
+    ) -> Result<Result<(), NotTextLine>, AllocError> {
+        match read_table_line(line.text, self.grammar) {
+            Some(found) => {
+                push_blocks(made, found.entry, found.text)?;
+                Ok(Ok(()))
+            }
+            None => Ok(Err(NotTextLine {
+                grammar: self.grammar,
+            })),
         }
     }
 }
@@ -63,14 +68,7 @@ pub(crate) fn read_text_routes<'a>(
 ) -> Result<TextRoutes<'a>, AllocError>
     ensures { IfOk result (AreTextsRead grammar bytes.now) }
 {
-    let mut made = TextRoutes {
-        routes: Vec::new(alloc),
-        refused: Vec::new(alloc),
-    };
-    let lines = content_lines(alloc, bytes)?;
-    for line in lines.as_slice() {
-        let read = read_table_line(line.text, grammar);
-        add_line(alloc, &mut made, *line, read)?;
-    }
-    Ok(made)
+    let mut routes = Vec::new(alloc);
+    let refused = read_lines(alloc, bytes, &TableLines { grammar }, &mut routes)?;
+    Ok(TextRoutes { routes, refused })
 }

@@ -9,7 +9,7 @@ use Rattle.ipnet_bars.specs.declared.marks.RowWidth.{RowWidth}
 use Rattle.ipnet_bars.specs.declared.marks.RowWidth.TheVariants.{Four, Eight, Sixteen, ThirtyTwo, SixtyFour}
 use Rattle.ipnet_bars.specs.Bars.{IsBar}
 use Rattle.ipnet_bars.specs.ComparisonBars.{IsComparisonBar}
-use Rattle.ipnet_bars.specs.Frames.{IsFrame}
+use Rattle.ipnet_bars.specs.Frames.{IsFrame, HasNoFrame}
 use Rattle.ipnet_sets.specs.declared.set.IpSet.{IpSet}
 use Rattle.ipnet_sets.specs.Members.{IsMember, IsUnion}
 use Rattle.netset_lib.specs.declared.answer.Request.{Request}
@@ -54,3 +54,7 @@ pub record IsComparisonAnswer (grammar : Grammar) (lists : List (List ℕ)) (fra
   pub after : IpSet
   pub pair : ArePairSets grammar lists before after
   pub right : IsFramedComparison before after frame form text
+
+-- The two sets together have no address around which to draw a frame.
+abbrev pub HasNoCommonFrame : Frame → IpSet → IpSet → Type 0
+HasNoCommonFrame frame before after = (all : IpSet) × IsUnion all before after × HasNoFrame frame (IsMember all)

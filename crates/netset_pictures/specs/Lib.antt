@@ -3,3 +3,4 @@ pub mod BarAnswers
 pub mod Locales
 pub mod MapAnswers
 pub mod PlanBars
+pub mod PictureWords

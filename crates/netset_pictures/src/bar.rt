@@ -1,5 +1,9 @@
 //! Bars of lists: the network that a bar shows, and its text.
-ghost use Rattle.std.specs.Prelude.{◌≡◌, ◌↔◌, Some, None, Err, IfOk, string_bytes};
+ghost use Rattle.std.specs.Prelude.{◌≡◌, ◌↔◌, Some, Err, IfOk, OnOk, string_bytes};
+ghost use Rattle.std.specs.Fmt.{DisplaysOnOk, DisplaysStyledOnOk};
+ghost use Rattle.ipnet_text.specs.Outputs.{IsWritten, IsFrontWritten};
+ghost use Rattle.netset_lib.specs.Reports.{words_line};
+ghost use Rattle.netset_pictures.specs.PictureWords.{picture_words};
 ghost use Rattle.ipnet_bars.specs.declared.marks.RowWidth.{RowWidth};
 ghost use Rattle.ipnet_bars.specs.Frames.{HasNoFrame};
 ghost use Rattle.ipnet_sets.specs.Members.{IsMember, IsUnion};
@@ -10,20 +14,21 @@ ghost use Rattle.netset_pictures.specs.declared.bar.PictureFailure.TheVariants.{
 
 use ipnet_bars::{BarForm, Frame, RowWidth, bar_text, comparison_bar_text, frame_of};
 use ipnet_sets::IpSet;
+use netset_lib::reports::{OUT_OF_MEMORY, report_words};
 use netset_lib::runs::Report;
 use netset_lib::{Failure, Fault};
 use std::alloc::{AllocError, Global};
+use std::error::Error;
+use std::fmt::{Display, Formatter};
 use std::io::Write;
-use thiserror::Error;
+use std::{fmt, io};
 
 /// Why a bar or a map cannot be drawn.
-#[derive(Clone, Copy, Debug, PartialEq, Eq, Drop, Error)]
+#[derive(Clone, Copy, Debug, PartialEq, Eq, Drop)]
 pub enum PictureFailure {
     /// No network is named, and the lists have no address around which to draw one.
-    #[error("no address to draw: name a network with --in")]
     NoFrame,
     /// Memory ran out.
-    #[error("out of memory")]
     Memory,
 }
 
@@ -43,14 +48,45 @@ impl From<PictureFailure> for Fault<Failure, PictureFailure> {
     }
 }
 
+impl PictureFailure {
+    /// Returns the words that report it.
+    ///
+    /// ```text
+    /// NoFrame: "no address to draw: name a network with --in"
+    /// ```
+    pub fn words(self) -> &'static str
+        ensures { result.now ≡ picture_words self }
+    {
+        match self {
+            PictureFailure::NoFrame => "no address to draw: name a network with --in",
+            PictureFailure::Memory => OUT_OF_MEMORY,
+        }
+    }
+}
+
+impl Display for PictureFailure {
+    ghost output = { λ failure. Some (picture_words failure) };
+
+    fn fmt<W: fmt::Write>(&self, f: &mut Formatter<W>) -> fmt::Result {
+        f.write_str(self.words())
+    }
+}
+
+impl Error for PictureFailure {}
+
 impl Report for PictureFailure {
     ghost exit = { λ _. 2 };
 
-    ghost told = { λ _ _. None };
+    ghost is_reported = { λ failure _. IsWritten (λ t. t ≡ words_line (picture_words failure)) };
 
-    fn tell<X: Write>(self, _: &[&str], faults: &mut X) -> u8 {
-        let _ = writeln!(faults, "netset: {self}");
+    ghost is_begun = { λ failure _. IsFrontWritten (λ t. t ≡ words_line (picture_words failure)) };
+
+    fn status(&self) -> u8 {
         2
+    }
+
+    fn report<X: Write>(&self, _: &[&str], faults: &mut X) -> io::Result<()> {
+        report_words(faults, self.words())
     }
 }
 

@@ -1,8 +1,12 @@
 //! The command `bar` of the program.
-ghost use Rattle.std.specs.Prelude.{IsTrue, ⊤};
+ghost use Rattle.std.specs.Prelude.{◌≡◌, IsTrue};
+ghost use Rattle.ipnet_bars.specs.Frames.{HasNoFrame};
+ghost use Rattle.ipnet_sets.specs.Members.{IsMember};
 ghost use Rattle.netset_lib.specs.Replies.{AreCompared};
-ghost use Rattle.netset_lib.specs.Runs.{OfCombined, OfCompared, IsFault, HasNoResult, HasNoPair};
-ghost use Rattle.netset_pictures.specs.BarAnswers.{IsBarAnswer, IsComparisonAnswer};
+ghost use Rattle.netset_lib.specs.Runs.{OfCombined, OfCompared, OfResult, OfPair, IsFault};
+ghost use Rattle.netset_lib.specs.Runs.{HasNoResult, HasNoPair};
+ghost use Rattle.netset_pictures.specs.BarAnswers.{IsBarAnswer, IsComparisonAnswer, HasNoCommonFrame};
+ghost use Rattle.netset_pictures.specs.declared.bar.PictureFailure.TheVariants.{NoFrame};
 
 use crate::bar::{BarRequest, PictureFailure, framed_bar_text, framed_comparison_text};
 use netset_lib::{Failure, Fault, Session, TextCommand, are_same};
@@ -38,14 +42,17 @@ impl TextCommand for BarCommand {
 
     ghost is_outcome = { λ _ succeeded. IsTrue succeeded };
 
-    ghost is_failure = { λ c. IsFault (HasNoResult c.session) (λ _. ⊤) };
+    ghost is_failure = { λ c. IsFault (HasNoResult c.session) (λ failure. OfResult (λ set.
+        failure ≡ NoFrame → HasNoFrame c.request.frame (IsMember set)) c.session) };
 
     fn answer(self) -> Result<(String, bool), Fault<Failure, PictureFailure>> {
         let BarCommand { session, request } = self;
         let alloc = session.alloc();
         let set = session.into_set()?;
-        let text = framed_bar_text(alloc, &set, request)?;
-        Ok((text, true))
+        match framed_bar_text(alloc, &set, request) {
+            Ok(text) => Ok((text, true)),
+            Err(failure) => Err(Fault::Other(failure)),
+        }
     }
 }
 
@@ -83,13 +90,16 @@ impl TextCommand for ComparisonBarCommand {
 
     ghost is_outcome = { λ c same. OfCompared (λ grammar lists. AreCompared grammar lists same) c.session };
 
-    ghost is_failure = { λ c. IsFault (HasNoPair c.session) (λ _. ⊤) };
+    ghost is_failure = { λ c. IsFault (HasNoPair c.session) (λ failure. OfPair (λ before after.
+        failure ≡ NoFrame → HasNoCommonFrame c.request.frame before after) c.session) };
 
     fn answer(self) -> Result<(String, bool), Fault<Failure, PictureFailure>> {
         let ComparisonBarCommand { session, request } = self;
         let alloc = session.alloc();
         let (before, after) = session.into_pair()?;
-        let text = framed_comparison_text(alloc, &before, &after, request)?;
-        Ok((text, are_same(&before, &after)))
+        match framed_comparison_text(alloc, &before, &after, request) {
+            Ok(text) => Ok((text, are_same(&before, &after))),
+            Err(failure) => Err(Fault::Other(failure)),
+        }
     }
 }

@@ -1,8 +1,16 @@
 //! The command `map` of the program.
-ghost use Rattle.std.specs.Prelude.{IsTrue, map, ⊤};
+ghost use Rattle.std.specs.Prelude.{◌≡◌, List, IsTrue, map};
+ghost use Rattle.ipnet_bars.specs.Frames.{HasNoFrame};
+ghost use Rattle.ipnet_sets.specs.ManySets.{IsInSome};
+ghost use Rattle.ipnet_sets.specs.Members.{IsMember};
+ghost use Rattle.ipnet_sets.specs.declared.set.IpSet.{IpSet};
 ghost use Rattle.netset_lib.specs.Replies.{AreCompared};
-ghost use Rattle.netset_lib.specs.Runs.{OfCombined, OfCompared, IsFault, HasNoResult, HasNoPair};
+ghost use Rattle.netset_lib.specs.Runs.{OfCombined, OfCompared, OfResult, OfPair, IsFault};
+ghost use Rattle.netset_lib.specs.Runs.{HasNoResult, HasNoPair};
+ghost use Rattle.netset_lib.specs.SetsOf.{AreSetsOf};
+ghost use Rattle.netset_pictures.specs.BarAnswers.{HasNoCommonFrame};
 ghost use Rattle.netset_pictures.specs.MapAnswers.{IsMapAnswer, IsSetsMapAnswer, IsChangeMapAnswer};
+ghost use Rattle.netset_pictures.specs.declared.bar.PictureFailure.TheVariants.{NoFrame};
 
 use crate::bar::PictureFailure;
 use crate::map::{MapRequest, framed_change_map_text, framed_map_text, framed_sets_map_text};
@@ -37,14 +45,17 @@ impl<'a> TextCommand for MapCommand<'a> {
 
     ghost is_outcome = { λ _ succeeded. IsTrue succeeded };
 
-    ghost is_failure = { λ c. IsFault (HasNoResult c.session) (λ _. ⊤) };
+    ghost is_failure = { λ c. IsFault (HasNoResult c.session) (λ failure. OfResult (λ set.
+        failure ≡ NoFrame → HasNoFrame c.request.frame (IsMember set)) c.session) };
 
     fn answer(self) -> Result<(String, bool), Fault<Failure, PictureFailure>> {
         let MapCommand { session, request } = self;
         let alloc = session.alloc();
         let set = session.into_set()?;
-        let text = framed_map_text(alloc, &set, request)?;
-        Ok((text, true))
+        match framed_map_text(alloc, &set, request) {
+            Ok(text) => Ok((text, true)),
+            Err(failure) => Err(Fault::Other(failure)),
+        }
     }
 }
 
@@ -81,7 +92,9 @@ impl<'a> TextCommand for SetsMapCommand<'a> {
 
     ghost is_outcome = { λ _ succeeded. IsTrue succeeded };
 
-    ghost is_failure = { λ c. IsFault (HasNoResult c.session) (λ _. ⊤) };
+    ghost is_failure = { λ c. IsFault (HasNoResult c.session) (λ failure. OfCombined (λ r lists.
+        (sets : List IpSet) × AreSetsOf r.grammar lists sets
+        × (failure ≡ NoFrame → HasNoFrame c.request.frame (IsInSome IsMember sets))) c.session) };
 
     fn answer(self) -> Result<(String, bool), Fault<Failure, PictureFailure>> {
         let SetsMapCommand {
@@ -91,8 +104,10 @@ impl<'a> TextCommand for SetsMapCommand<'a> {
         } = self;
         let alloc = session.alloc();
         let sets = session.into_sets()?;
-        let text = framed_sets_map_text(alloc, sets.as_slice(), names, request)?;
-        Ok((text, true))
+        match framed_sets_map_text(alloc, sets.as_slice(), names, request) {
+            Ok(text) => Ok((text, true)),
+            Err(failure) => Err(Fault::Other(failure)),
+        }
     }
 }
 
@@ -128,13 +143,16 @@ impl<'a> TextCommand for ChangeMapCommand<'a> {
 
     ghost is_outcome = { λ c same. OfCompared (λ grammar lists. AreCompared grammar lists same) c.session };
 
-    ghost is_failure = { λ c. IsFault (HasNoPair c.session) (λ _. ⊤) };
+    ghost is_failure = { λ c. IsFault (HasNoPair c.session) (λ failure. OfPair (λ before after.
+        failure ≡ NoFrame → HasNoCommonFrame c.request.frame before after) c.session) };
 
     fn answer(self) -> Result<(String, bool), Fault<Failure, PictureFailure>> {
         let ChangeMapCommand { session, request } = self;
         let alloc = session.alloc();
         let (before, after) = session.into_pair()?;
-        let text = framed_change_map_text(alloc, &before, &after, request)?;
-        Ok((text, are_same(&before, &after)))
+        match framed_change_map_text(alloc, &before, &after, request) {
+            Ok(text) => Ok((text, are_same(&before, &after))),
+            Err(failure) => Err(Fault::Other(failure)),
+        }
     }
 }

@@ -10,3 +10,4 @@ pub mod LogLines
 pub mod LogSteps
 pub mod FilterSteps
 pub mod Logs
+pub mod WordReports

@@ -1,7 +1,8 @@
 //! The lines that are refused for one of their words.
-use ipnet_lists::{LineCause, Refusals, Refused, report_text};
-use std::io;
-use std::io::Write;
+ghost use Rattle.std.specs.Prelude.{◌≡◌};
+ghost use Rattle.netset_words.specs.WordReports.{word_words, ExplainsWord};
+
+use ipnet_lists::{Explanation, LineCause, Refusals, Refused};
 
 /// Why a line is refused.
 #[derive(Clone, Copy, Debug, PartialEq, Eq, Drop)]
@@ -16,7 +17,9 @@ pub enum WordCause {
 
 impl WordCause {
     /// The words of a report.
-    fn words(self) -> &'static str {
+    fn words(self) -> &'static str
+        ensures { result.now ≡ word_words self }
+    {
         match self {
             WordCause::NulByte => "a NUL byte: is the file UTF-16?",
             WordCause::Netmask => "a mask: write ADDRESS/LENGTH",
@@ -26,15 +29,13 @@ impl WordCause {
 }
 
 impl LineCause for WordCause {
-    fn report<X: Write>(
-        &self,
-        faults: &mut X,
-        name: &str,
-        number: usize,
-        text: &[u8],
-    ) -> io::Result<()> {
-        report_text(faults, name, number, self.words(), text)?;
-        writeln!(faults)
+    ghost explains = { ExplainsWord };
+
+    fn explain(&self, _: &[u8]) -> Explanation {
+        Explanation {
+            what: self.words(),
+            why: None,
+        }
     }
 }
 

@@ -47,11 +47,30 @@ impl Place {
     }
 }
 
-/// The bucket for a search in all of a list.
-pub(crate) fn all(count: usize) -> Bucket {
-    Bucket {
-        start: 0,
-        end: count,
+/// The place at which a search begins: a chunk, and two indices of routes in it. A search is right for any hint; a good
+/// one makes it short.
+#[derive(Clone, Copy)]
+pub(crate) struct Hint {
+    pub(crate) chunk: usize,
+    pub(crate) bucket: Bucket,
+}
+
+impl Hint {
+    /// The hint at the start of all chunks.
+    pub(crate) fn none() -> Hint {
+        Hint {
+            chunk: 0,
+            bucket: Bucket { start: 0, end: 0 },
+        }
+    }
+
+    /// The bucket beside the chunk.
+    fn beside(self) -> Bucket {
+        let next = self.chunk.saturating_add(1);
+        Bucket {
+            start: next,
+            end: next,
+        }
     }
 }
 
@@ -76,10 +95,39 @@ pub(crate) fn chunk_after<V>(chunks: &[Chunk<V>], bucket: Bucket, network: &IpNe
     low
 }
 
+/// Whether the place lies between two routes of its chunk, the first of which is this network or comes before it, and
+/// the second comes after it.
+fn is_between<V>(chunks: &[Chunk<V>], place: Place, network: &IpNet) -> bool
+    requires table { IsTable (ip_networks (all_of chunks.now)) }
+    ensures chunk { IsTrue result → place.chunk < length chunks.now }
+    ensures some { IsTrue result → 0 < place.index }
+    ensures index { IsTrue result → place.index ≤ length (chunk_at chunks.now place.chunk) }
+    ensures place { IsTrue result → IsPlaceAfter (ip_networks (all_of chunks.now)) (ip_network network.now)
+        (position_of chunks.now place.chunk place.index) }
+{
+    ip_nets_compare_by_network();
+    if place.index == 0 {
+        return false;
+    }
+    if place.chunk >= chunks.len() {
+        return false;
+    }
+    let routes = chunks[place.chunk].as_slice();
+    if place.index >= routes.len() {
+        return false;
+    }
+    let first = routes[place.index - 1].0;
+    if *network < first {
+        return false;
+    }
+    let second = routes[place.index].0;
+    *network < second
+}
+
 /// The last route whose network is this one or comes before it.
 pub(crate) fn last_up_to<'a, V>(
     chunks: &'a [Chunk<V>],
-    bucket: Bucket,
+    hint: Hint,
     network: &IpNet,
 ) -> Option<&'a (IpNet, V)>
     requires table { IsTable (ip_networks (all_of chunks.now)) }
@@ -89,17 +137,15 @@ pub(crate) fn last_up_to<'a, V>(
     ensures none { IfNone result ((k : Network) → Contains (ip_networks (all_of chunks.now)) k
         → IsBefore (ip_network network.now) k) }
 {
-    let after = chunk_after(chunks, bucket, network);
-    if after == 0 {
+    let place = place_after_all(chunks, hint, network);
+    if place.index == 0 {
         return None;
     }
-    let chunk = chunks[after - 1].as_slice();
-    let place = place_after(chunk, all(chunk.len()), network);
-    Some(&chunk[place - 1])
+    Some(&chunks[place.chunk][place.index - 1])
 }
 
 /// The place after the routes whose networks are this one or come before it; in the chunk of the last of them.
-pub(crate) fn place_after_all<V>(chunks: &[Chunk<V>], bucket: Bucket, network: &IpNet) -> Place
+pub(crate) fn place_after_all<V>(chunks: &[Chunk<V>], hint: Hint, network: &IpNet) -> Place
     requires table { IsTable (ip_networks (all_of chunks.now)) }
     requires filled { AreFilled chunks.now }
     ensures chunk { 0 < length chunks.now → result.chunk < length chunks.now }
@@ -108,13 +154,20 @@ pub(crate) fn place_after_all<V>(chunks: &[Chunk<V>], bucket: Bucket, network: &
     ensures place { IsPlaceAfter (ip_networks (all_of chunks.now)) (ip_network network.now)
         (position_of chunks.now result.chunk result.index) }
 {
+    let place = Place {
+        chunk: hint.chunk,
+        index: hint.bucket.end,
+    };
+    if is_between(chunks, place, network) {
+        return place;
+    }
     let count = chunks.len();
     if count == 0 {
         return Place { chunk: 0, index: 0 };
     }
-    let chunk = chunk_after(chunks, bucket, network).saturating_sub(1);
+    let chunk = chunk_after(chunks, hint.beside(), network).saturating_sub(1);
     let routes = chunks[chunk].as_slice();
-    let index = place_after(routes, all(routes.len()), network);
+    let index = place_after(routes, hint.bucket, network);
     Place { chunk, index }
 }
 
@@ -137,7 +190,7 @@ pub(crate) fn is_behind<V>(chunks: &[Chunk<V>], place: Place, network: &IpNet) -
 }
 
 /// The place of the network; if the chunks do not have it, the place of the next one.
-pub(crate) fn place_of_all<V>(chunks: &[Chunk<V>], bucket: Bucket, network: &IpNet) -> Place
+pub(crate) fn place_of_all<V>(chunks: &[Chunk<V>], hint: Hint, network: &IpNet) -> Place
     requires table { IsTable (ip_networks (all_of chunks.now)) }
     requires filled { AreFilled chunks.now }
     ensures chunk { 0 < length chunks.now → result.chunk < length chunks.now }
@@ -145,7 +198,7 @@ pub(crate) fn place_of_all<V>(chunks: &[Chunk<V>], bucket: Bucket, network: &IpN
     ensures place { IsPlaceOf (ip_networks (all_of chunks.now)) (ip_network network.now)
         (position_of chunks.now result.chunk result.index) }
 {
-    let place = place_after_all(chunks, bucket, network);
+    let place = place_after_all(chunks, hint, network);
     if is_behind(chunks, place, network) {
         return place.before();
     }
@@ -280,7 +333,8 @@ pub(crate) fn put_in_order<V: Drop>(
         return put_at(chunks, place, route);
     }
     split(chunks, place.chunk)?;
-    let place = place_after_all(chunks.as_slice(), all(chunks.len()), &route.0);
+    let hint = Hint::none();
+    let place = place_after_all(chunks.as_slice(), hint, &route.0);
     put_at(chunks, place, route)
 }
 

@@ -3,10 +3,12 @@ ghost use Rattle.std.specs.Iterator.{YieldsFirstBy, item_count};
 ghost use Rattle.ipnet_routes.specs.Routes.{ip_route, ip_networks};
 ghost use Rattle.ipnet_routes.specs.RouteSteps.{IsTable};
 ghost use Rattle.ipnet_routes.specs.RouteMapSteps.{all_of, AreFilled};
+ghost use Rattle.ipnet_routes.specs.RouteLengths.{AreKnown};
 
 use super::chunks::Chunk;
-use super::covering_in;
+use super::covering::covering_in;
 use super::index::ChunkIndex;
+use super::lengths::KnownLengths;
 use ipnet::IpNet;
 use std::iter::FusedIterator;
 
@@ -20,9 +22,11 @@ use std::iter::FusedIterator;
 pub struct MapMatches<'a, V> {
     pub(crate) chunks: &'a [Chunk<V>],
     pub(crate) index: &'a ChunkIndex,
+    pub(crate) lengths: &'a KnownLengths,
     pub(crate) wanted: Option<IpNet>,
     ghost table: { IsTable (ip_networks (all_of chunks.now)) },
     ghost filled: { AreFilled chunks.now },
+    ghost known: { AreKnown lengths.now.masks.items lengths.now.width (ip_networks (all_of chunks.now)) },
 }
 
 impl<'a, V> Iterator for MapMatches<'a, V> {
@@ -39,7 +43,7 @@ impl<'a, V> Iterator for MapMatches<'a, V> {
         let Some(wanted) = self.wanted else {
             return None;
         };
-        let Some(route) = covering_in(self.chunks, self.index, &wanted) else {
+        let Some(route) = covering_in(self.chunks, self.index, self.lengths, &wanted) else {
             self.wanted = None;
             return None;
         };

@@ -37,13 +37,7 @@ impl<V: Clone + Drop> Clone for RouteMap<V> {
     /// value fails.
     fn clone(&self) -> Result<RouteMap<V>, AllocError> {
         let chunks = self.chunks.clone()?;
-        let index = self.index.clone()?;
-        Ok(RouteMap {
-            alloc: self.alloc,
-            chunks,
-            index,
-            count: self.count,
-        })
+        Ok(RouteMap::from_chunks(self.alloc, chunks, self.count))
     }
 }
 

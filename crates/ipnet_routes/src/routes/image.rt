@@ -3,17 +3,18 @@
 //!
 //! The format is in `specs/TableImages`: a header of 32 bytes, then the routes, then the index. Each table of fewer
 //! than 2^32 routes has exactly one image.
-ghost use Rattle.std.specs.Prelude.{◌≡◌, ℕ, ◌↔◌, List, length, IsTrue, IsNone, IfSome, IfOk, MatchResult, Contains};
+ghost use Rattle.std.specs.Prelude.{◌≡◌, ℕ, ◌<◌, ◌↔◌, List, length, IsTrue, IsNone, IfSome, IsSomeAnd, IfOk};
+ghost use Rattle.std.specs.Prelude.{MatchResult, Contains};
 ghost use Rattle.ipnet_base.specs.Address.{ip_address};
-ghost use Rattle.ipnet_base.specs.Network.{Network, InBlock, IsSubnetOf};
+ghost use Rattle.ipnet_base.specs.Network.{Network, IsNetwork, InBlock, IsSubnetOf};
 ghost use Rattle.ipnet_base.specs.Blocks.{IsCoveredBy};
 ghost use Rattle.ipnet.specs.NetworkOf.{ip_network};
 ghost use Rattle.ipnet_routes.specs.Routes.{Route, networks_of, IsLongestMatch, IsLongestHolder};
-ghost use Rattle.ipnet_routes.specs.TableImages.{HasTableHeader, IsStoredRoute, IsTableImageOf, IsTableImage};
-ghost use Rattle.ipnet_routes.specs.TableImages.{IsTableRefusal};
+ghost use Rattle.ipnet_routes.specs.TableImages.{route_count, HasTableHeader, IsStoredRoute, HasRouteAt};
+ghost use Rattle.ipnet_routes.specs.TableImages.{IsTableImageOf, IsTableImage, IsTableRefusal, HasOtherValues};
 
 pub(crate) mod buckets;
-pub mod byte_table;
+mod other_values;
 mod restored;
 pub(crate) mod rows;
 pub(crate) mod stored_table;
@@ -23,6 +24,7 @@ use super::RouteTable;
 use buckets::Buckets;
 use ipnet::{IpAddr, IpNet};
 use ipnet_sets::read_u64;
+use other_values::write_values;
 use restored::restored_table;
 use std::alloc::{AllocError, Global};
 use std::fmt;
@@ -125,7 +127,8 @@ impl<'a> RouteTableImage<'a> {
     /// of the image of 10.0.0.0/8 with 1 and 10.1.0.0/16 with 2: 2
     /// ```
     pub fn len(&self) -> usize
-        ensures { (t : List (Route ℕ)) → IsTableImageOf self.now.table.bytes.now t → result ≡ length t }
+        ensures table { (t : List (Route ℕ)) → IsTableImageOf self.now.table.bytes.now t → result ≡ length t }
+        ensures stated { result ≡ route_count self.now.table.bytes.now }
     {
         self.table.len()
     }
@@ -135,6 +138,44 @@ impl<'a> RouteTableImage<'a> {
         ensures { (t : List (Route ℕ)) → IsTableImageOf self.now.table.bytes.now t → IsTrue result ↔ (length t ≡ 0) }
     {
         self.len() == 0
+    }
+
+    /// Returns the route with this index, in the order of `RouteTable::routes`; `None` if the index is too high, or if
+    /// the bytes there are not a route. Allocates nothing.
+    ///
+    /// ```text
+    /// of the image of 10.0.0.0/8 with 1 and 10.1.0.0/16 with 2: 10.1.0.0/16 with 2 at 1, and None at 2
+    /// ```
+    pub fn route(&self, index: usize) -> Option<(IpNet, u32)>
+        ensures table { (t : List (Route ℕ)) → IsTableImageOf self.now.table.bytes.now t → (r : Route ℕ)
+            (c : Contains t r) → c.0 ≡ index → IsSomeAnd result (λ route. (ip_network route.0, route.1) ≡ r) }
+        ensures stored { IfSome result (λ route. (index < route_count self.now.table.bytes.now)
+            × HasRouteAt self.now.table.bytes.now index (ip_network route.0, route.1)) }
+        ensures read { index < route_count self.now.table.bytes.now → (r : Route ℕ) → IsNetwork r.0
+            → HasRouteAt self.now.table.bytes.now index r
+            → IsSomeAnd result (λ route. (ip_network route.0, route.1) ≡ r) }
+    {
+        if index >= self.table.len() {
+            return None;
+        }
+        let stored = self.table.route(index)?;
+        Some((stored.network, stored.value))
+    }
+
+    /// Writes the image of the table with the same networks and these values into `copy`. There is one value for each
+    /// route, in the order of `RouteTable::routes`, and `copy` is as long as the image. Allocates nothing.
+    ///
+    /// ```text
+    /// of the image of 10.0.0.0/8 with 1 and 10.1.0.0/16 with 2, and 7, 8: the image of 10.0.0.0/8 with 7 and
+    /// 10.1.0.0/16 with 8
+    /// ```
+    pub fn copy_with_values(&self, values: &[u32], copy: &mut [u8])
+        requires as_many { length values.now ≡ route_count self.now.table.bytes.now }
+        requires as_long { length copy.old ≡ length self.now.table.bytes.now }
+        ensures { HasOtherValues self.now.table.bytes.now values.now copy.new }
+    {
+        copy.copy_from_slice(self.table.bytes);
+        write_values(copy, self.table.ipv4_len(), values);
     }
 
     /// Returns the route of the longest network that contains the network's whole block, as `RouteTable::covering`

@@ -7,7 +7,6 @@ ghost use Rattle.ipnet_routes.specs.Routes.{Route, networks_of, IsLongestMatch, 
 ghost use Rattle.ipnet_routes.specs.RouteValues.{AreClones, AreEqual};
 ghost use Rattle.ipnet_routes.specs.RoutesOf.{routes_of};
 ghost use Rattle.ipnet_routes.specs.TableImages.{IsTableImageOf};
-ghost use Rattle.ipnet_routes.specs.ByteTableImages.{IsByteTableImageOf};
 ghost use Rattle.ipnet_routes.specs.declared.routes.RouteTable.{RouteTable};
 
 use super::RouteTable;
@@ -48,13 +47,4 @@ pub fn a_table_has_one_image()
     ensures image { (routes : List (Route ℕ)) (a b : List ℕ) → All (λ byte. byte < 2 ^ 8) a
         → All (λ byte. byte < 2 ^ 8) b → IsTableImageOf a routes → IsTableImageOf b routes → a ≡ b }
     ensures table { (bytes : List ℕ) (r s : List (Route ℕ)) → IsTableImageOf bytes r → IsTableImageOf bytes s → r ≡ s }
-{}
-
-/// Each table whose values are bytes has at most one image, and bytes are the image of at most one such table. A table
-/// of 2^32 routes or more has none.
-pub fn a_byte_table_has_one_image()
-    ensures image { (routes : List (Route (List ℕ))) (a b : List ℕ) → All (λ byte. byte < 2 ^ 8) a
-        → All (λ byte. byte < 2 ^ 8) b → IsByteTableImageOf a routes → IsByteTableImageOf b routes → a ≡ b }
-    ensures table { (bytes : List ℕ) (r s : List (Route (List ℕ)))
-        → IsByteTableImageOf bytes r → IsByteTableImageOf bytes s → r ≡ s }
 {}

@@ -1,5 +1,5 @@
 //! The addresses of each of the two lists of a session.
-ghost use Rattle.std.specs.Prelude.{◌≡◌, ◌≢◌, List, ℕ, length, Err, IfOk, IfErr};
+ghost use Rattle.std.specs.Prelude.{◌≡◌, ◌≢◌, List, ℕ, length, Err, IfOk, IfErr, IsErr};
 ghost use Rattle.ipnet.specs.declared.parser.Grammar.{Grammar};
 ghost use Rattle.netset_lib.specs.PairSets.{ArePairSets};
 ghost use Rattle.netset_lib.specs.Replies.{AreCompared, IsWorkFailure, TakesCount};
@@ -13,7 +13,7 @@ use crate::query::Query;
 use ipnet_sets::IpSet;
 
 impl Session {
-    ghost use Rattle.netset_lib.specs.Sessions.{WereRead};
+    ghost use Rattle.netset_lib.specs.Sessions.{WereRead, IsBroken, refused_count, refused_lines};
 
     /// Returns the addresses of each of the two lists that a comparison has read.
     ///
@@ -29,6 +29,10 @@ impl Session {
             → WereRead (Ask Compare grammar) lists self → IsWorkFailure (Ask Compare grammar) lists failure) }
         ensures count { (grammar : Grammar) → (lists : List (List ℕ)) → WereRead (Ask Compare grammar) lists self
             → ¬ (TakesCount (Ask Compare grammar) (length lists)) → result ≡ Err Failure.Count }
+        ensures refused { (grammar : Grammar) → (lists : List (List ℕ)) → WereRead (Ask Compare grammar) lists self
+            → TakesCount (Ask Compare grammar) (length lists) → refused_count self ≢ 0
+            → result ≡ Err (Failure.Refused (refused_lines self)) }
+        ensures broken { IsBroken self → IsErr result }
         ensures other { (work : Work) → (lists : List (List ℕ)) → WereRead work lists self
             → ((grammar : Grammar) → work ≢ Ask Compare grammar) → result ≡ Err Failure.Count }
     {

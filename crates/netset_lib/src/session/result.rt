@@ -1,5 +1,5 @@
 //! The addresses that an operation makes of the lists of a session.
-ghost use Rattle.std.specs.Prelude.{◌≡◌, List, ℕ, IfOk, IfErr, Err, Some, length};
+ghost use Rattle.std.specs.Prelude.{◌≡◌, ◌≢◌, List, ℕ, IfOk, IfErr, IsErr, Err, Some, length};
 ghost use Rattle.netset_lib.specs.PlanAnswers.{IsResultSet};
 ghost use Rattle.netset_lib.specs.Replies.{IsWorkFailure, TakesCount};
 ghost use Rattle.ipnet.specs.declared.parser.Grammar.{Grammar};
@@ -16,7 +16,7 @@ use ipnet_sets::IpSet;
 use std::alloc::Global;
 
 impl Session {
-    ghost use Rattle.netset_lib.specs.Sessions.{WereRead};
+    ghost use Rattle.netset_lib.specs.Sessions.{WereRead, IsBroken, refused_count, refused_lines};
 
     /// Returns the allocator of the session.
     pub fn alloc(&self) -> Global {
@@ -47,6 +47,10 @@ impl Session {
             → WereRead (Combine request) lists self → IsWorkFailure (Combine request) lists failure) }
         ensures count { (request : Request) → (lists : List (List ℕ)) → WereRead (Combine request) lists self
             → ¬ (TakesCount (Combine request) (length lists)) → result ≡ Err Failure.Count }
+        ensures refused { (request : Request) → (lists : List (List ℕ)) → WereRead (Combine request) lists self
+            → TakesCount (Combine request) (length lists) → refused_count self ≢ 0
+            → result ≡ Err (Failure.Refused (refused_lines self)) }
+        ensures broken { IsBroken self → IsErr result }
         ensures query { (query : Query) → (grammar : Grammar) → (lists : List (List ℕ))
             → WereRead (Ask query grammar) lists self → result ≡ Err Failure.Count }
     {

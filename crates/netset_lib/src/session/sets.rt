@@ -1,5 +1,5 @@
 //! The addresses of each of the lists of a session.
-ghost use Rattle.std.specs.Prelude.{◌≡◌, List, ℕ, length, Err, IfOk, IfErr};
+ghost use Rattle.std.specs.Prelude.{◌≡◌, ◌≢◌, List, ℕ, length, Err, IfOk, IfErr, IsErr};
 ghost use Rattle.ipnet.specs.declared.parser.Grammar.{Grammar};
 ghost use Rattle.netset_lib.specs.Replies.{IsWorkFailure, TakesCount};
 ghost use Rattle.netset_lib.specs.SetsOf.{AreSetsOf};
@@ -13,7 +13,7 @@ use crate::failure::Failure;
 use ipnet_sets::IpSet;
 
 impl Session {
-    ghost use Rattle.netset_lib.specs.Sessions.{WereRead, WereCombined};
+    ghost use Rattle.netset_lib.specs.Sessions.{WereRead, WereCombined, IsBroken, refused_count, refused_lines};
 
     /// Returns the addresses of each list that an operation has read, in the order of the lists. A list without entries
     /// has the empty set.
@@ -30,6 +30,11 @@ impl Session {
             → WereCombined request lists self → IsWorkFailure (Combine request) lists failure) }
         ensures count { (request : Request) → (lists : List (List ℕ)) → WereCombined request lists self
             → ¬ (TakesCount (Combine request) (length lists)) → result ≡ Err Failure.Count }
+        ensures refused { (request : Request) → (lists : List (List ℕ)) → WereCombined request lists self
+            → TakesCount (Combine request) (length lists) → refused_count self ≢ 0
+            → result ≡ Err (Failure.Refused (refused_lines self)) }
+        ensures sure { IfErr result (λ failure. failure ≢ Failure.Memory) }
+        ensures broken { IsBroken self → IsErr result }
         ensures query { (query : Query) → (grammar : Grammar) → (lists : List (List ℕ))
             → WereRead (Ask query grammar) lists self → result ≡ Err Failure.Count }
     {

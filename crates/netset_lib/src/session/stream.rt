@@ -1,6 +1,6 @@
 //! The answers of a filter or a route, written while the second list is read.
 ghost use Rattle.std.specs.Prelude.{◌≡◌, ◌↔◌, List, ℕ, [], length, IfOk, IfErr, OnOk, Err, IsTrue};
-ghost use Rattle.std.specs.Prelude.{false, string_bytes};
+ghost use Rattle.std.specs.Prelude.{false, string_bytes, IsErr};
 ghost use Rattle.std.specs.Io.{StartsWith};
 ghost use Rattle.std.specs.Io.KnownBytes.{Appends, Keeps};
 ghost use Rattle.ipnet_lists.specs.Reading.{WasMadeOf};
@@ -34,7 +34,7 @@ pub struct Streamed {
 #[derive(Debug, Drop)]
 pub enum StreamFailure {
     /// The stream cannot begin. `Count`: the work is not a filter or a route, or not exactly one list was read.
-    /// `Refused`: that list has lines that are not entries.
+    /// `Refused`: that list has lines that are not entries. `Unreadable`: it could not be read.
     Start(Failure),
     /// The list could not be read, or memory ran out.
     Read(ReadFailure),
@@ -147,6 +147,7 @@ fn stream_entries<R: Read, W: Write, X: Write>(
 }
 
 impl Session {
+    ghost use Rattle.netset_lib.specs.Sessions as sessions;
     ghost use Rattle.netset_lib.specs.Sessions.{WereRead};
 
     /// Reads the second list of a filter or a route, and writes the answer to each entry before more of the list is
@@ -176,13 +177,18 @@ impl Session {
             → IsStreamFailure work lists (R.remaining input.old) (W.contents out.old) (W.contents out.new) failure) }
         ensures count { (work : Work) → (lists : List (List ℕ)) → WereRead work lists self
             → ¬ (CanStream work (length lists)) → result ≡ Err (StreamFailures.Start Failures.Count) }
+        ensures broken { sessions.IsBroken self → IsErr result }
     {
         let Session {
             work,
             reading,
             answerer,
+            is_broken,
             ..
         } = self;
+        if is_broken {
+            return Err(StreamFailure::Start(Failure::Unreadable));
+        }
         let Work::Ask(query, _) = work else {
             return Err(StreamFailure::Start(Failure::Count));
         };

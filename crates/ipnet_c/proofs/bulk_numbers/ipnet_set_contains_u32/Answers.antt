@@ -1,5 +1,5 @@
 -- Each turn writes eight bytes more, and then one.
-use Rattle.std.proofs.Common.{◌≡◌, ◌+◌, ◌*◌, ◌/◌, length, subst, arith}
+use Rattle.std.proofs.Common.{◌≡◌, ◌+◌, ◌*◌, subst, arith}
 use Rattle.ipnet_c.proofs.ColumnLaws.{AreRightTo, IsNumberAnswer, right_eight, right_more}
 use Rattle.ipnet_c.proofs.bulk_numbers.ipnet_set_contains_u32.Goals as goal
 

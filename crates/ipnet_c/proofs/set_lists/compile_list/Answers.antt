@@ -1,5 +1,5 @@
 -- A list with a refused line gives its number, and each other list its image.
-use Rattle.std.proofs.Common.{◌≡◌, ◌<◌, ◌∙◌, length, get_or, sym, ap, subst, arith}
+use Rattle.std.proofs.Common.{◌≡◌, ◌<◌, length, get_or, sym, subst}
 use Rattle.ipnet_sets.specs.Images.{IsImageOf}
 use Rattle.ipnet_text.proofs.LineCuts.{some_bytes, no_bytes}
 use Rattle.ipnet_lists.specs.RefusedLines.{RefusedLine}

@@ -75,6 +75,13 @@ impl<'a> StoredTable<'a> {
         self.ipv4 + self.ipv6
     }
 
+    /// Returns how many of the routes are IPv4 routes.
+    pub(super) fn ipv4_len(&self) -> usize
+        ensures { result ≡ stated_routes self.now.bytes.now IPv4 }
+    {
+        self.ipv4
+    }
+
     /// Returns the route with this index, or `None` if its bytes are not one.
     #[inline(always)]
     pub(crate) fn route(&self, index: usize) -> Option<StoredRoute>

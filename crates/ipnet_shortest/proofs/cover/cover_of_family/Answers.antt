@@ -10,6 +10,7 @@ use Rattle.ipnet_shortest.specs.Covers.{IsBestCover, HasCoverWithin}
 use Rattle.ipnet_shortest.specs.Halves.{AreBlocksIn}
 use Rattle.ipnet_shortest.specs.PartCovers.{IsBestOf}
 use Rattle.ipnet_shortest.specs.Parts.{HasNoCover}
+use Rattle.ipnet_shortest.proofs.OrderLaws.{blocks_in_order, each_truncated}
 use Rattle.ipnet_shortest.proofs.FamilyLaws.{exact_answer, none_of_zero, in_order, best_answer, none_answer}
 use Rattle.ipnet_shortest.proofs.FamilyLaws.{weaker_some, none_exactly}
 use Rattle.ipnet_shortest.proofs.cover.cover_of_family.Goals as goal
@@ -100,7 +101,7 @@ returns-clause-best c =
     c.in_ok-blocks.ensures.blocks in
     let allowed = c.in_ok-allowed.allowed in
     let complement = c.in_ok-allowed.ensures.members in
-    weaker_some (λ list. IsBestOf (IsCoveredBy blocks) (IsMember allowed) c.args.limit (map ip_network list.items))
+    weaker_some (λ list. IsBestOf (IsCoveredBy blocks) (IsMember allowed) c.args.limit 0 (map ip_network list.items))
     (λ list. IsBestCover c.args.limit (IsMemberOf n.family set) (IsMember never) (map ip_network list.items))
     c.best_list.result (λ list best. best_answer set part never n whole w u members blocks given c.args.limit allowed
     (map ip_network list.items) complement best) c.best_list.ensures.best
@@ -120,7 +121,7 @@ returns-clause-none c =
     c.in_ok-blocks.ensures.blocks in
     let allowed = c.in_ok-allowed.allowed in
     let complement = c.in_ok-allowed.ensures.members in
-    none_exactly (λ list. IsBestOf (IsCoveredBy blocks) (IsMember allowed) c.args.limit (map ip_network list.items))
+    none_exactly (λ list. IsBestOf (IsCoveredBy blocks) (IsMember allowed) c.args.limit 0 (map ip_network list.items))
     (HasNoCover blocks (record { allowed = allowed; limit = c.args.limit }))
     (HasCoverWithin c.args.limit (IsMemberOf n.family set) (IsMember never)) c.best_list.result
     (λ list best. (
@@ -130,3 +131,16 @@ returns-clause-none c =
     ))
     (none_answer set part never n whole w u members blocks given c.args.limit allowed complement)
     c.best_list.ensures.best c.best_list.ensures.none
+
+pub returns-then-len-limit-clause-order : goal.returns-then-len-limit-clause-order
+returns-then-len-limit-clause-order c =
+    blocks_in_order (IsMember c.in_ok-part.part) (map ip_network c.in_ok-blocks.blocks.items)
+    c.in_ok-blocks.ensures.blocks
+
+pub returns-clause-order : goal.returns-clause-order
+returns-clause-order c =
+    let part = c.in_ok-part.part in
+    let blocks = map ip_network c.as_slice.result.now in
+    let given = subst (λ z. AreMaximalBlocks (IsMember part) 0 (map ip_network z)) (sym c.as_slice.ensures.value)
+    c.in_ok-blocks.ensures.blocks in
+    c.best_list.ensures.order (each_truncated (IsMember part) blocks given)

@@ -12,10 +12,8 @@ returns c =
     subst (λ other. AreAsked grammar bytes other c.in_ok-joined.field-0) (sym c.in-Some.is) (
       first.entries.items,
       second.entries.items,
-      all_read grammar bytes first c.is_empty-2.result c.in_ok-first.ensures c.is_empty-2.ensures
-          c.if-not-is_empty-2.false,
-      all_read grammar c.in-Some.other.now second c.is_empty-else-not-is_empty-2.result c.in_ok-second.ensures
-          c.is_empty-else-not-is_empty-2.ensures c.if-not-is_empty-3.false,
+      all_read grammar bytes first c.in_ok-first.ensures c.if-first-ne0-2.false,
+      all_read grammar c.in-Some.other.now second c.in_ok-second.ensures c.if-second-ne0.false,
       c.in_ok-joined.ensures.entries,
       c.in_ok-joined.ensures.count,
     )

@@ -31,7 +31,8 @@ returns-then-not-are_digits c = λ n. (
   λ e. absurd cc,
   λ h.
       let clash : true ≡ false =
-      sym (number_digits c.args.digits.now n h) ∙ ap (list_all is_ascii_digit) (sym c.as_bytes-bytes.ensures.value)
+      sym (number_digits 3 128 c.args.digits.now n h)
+      ∙ ap (list_all is_ascii_digit) (sym c.as_bytes-bytes.ensures.value)
       ∙ sym c.are_digits.ensures ∙ c.if-not-are_digits.true in
       absurd cc,
 )

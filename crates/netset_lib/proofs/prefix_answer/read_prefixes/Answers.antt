@@ -1,29 +1,17 @@
--- Each line gives one rule or one refused line.
-use Rattle.std.proofs.Common.{map, ap, sym, subst}
-use Rattle.ipnet_lists.specs.ContentLineOf.{line_of, refused_of}
-use Rattle.ipnet_lists.specs.ContentLines.{AreContentLines}
-use Rattle.netset_lib.specs.PrefixLines.{IsPrefixText, IsPrefixCause}
-use Rattle.ipnet_lists.proofs.ContentLaws.{read_next, read_all}
+use Rattle.std.proofs.Common.{◌≡◌, ◌∷◌, ◌++◌, [], sym, ap, ◌∙◌, subst}
+use Rattle.ipnet_rules.specs.declared.prefix_list.PrefixRule.{PrefixRule}
+use Rattle.ipnet_lists.proofs.ContentLaws.{list_taken}
+use Rattle.netset_lib.specs.PrefixLines.{IsPrefixText, IsPrefixCause, IsPrefixList}
 use Rattle.netset_lib.proofs.prefix_answer.read_prefixes.Goals as goal
-
-pub loop-line-init : goal.loop-line-init
-loop-line-init c = (c.new-rules.ensures.items, ap (map refused_of) c.new-refused.ensures.items)
-
-pub loop-line-preserved : goal.loop-line-preserved
-loop-line-preserved c =
-    read_next (IsPrefixText c.args.grammar) (IsPrefixCause c.args.grammar) line_of c.as_slice-line-items.result.now
-    c.loop-line.line-index _ c.read_prefix_rule-read.result c.loop-line.rules.items c.keep_read.new.items.items
-    (map refused_of c.loop-line.refused.items) (map refused_of c.keep_read.new.refused.items) c.loop-line-test.true
-    c.loop-line.invariant c.read_prefix_rule-read.ensures.rule c.read_prefix_rule-read.ensures.cause
-    c.in_ok-keep_read.ensures
 
 pub returns : goal.returns
 returns c =
-    let items = c.as_slice-line-items.result.now in record {
-      lines = map line_of items;
-      contents = subst (λ z. AreContentLines c.args.bytes.now (map line_of z))
-          (sym c.as_slice-line-items.ensures.value) c.in_ok-lines.ensures;
-      items = read_all (IsPrefixText c.args.grammar) (IsPrefixCause c.args.grammar) line_of items c.loop-line.line-index
-          c.loop-line.rules.items (map refused_of c.loop-line.refused.items) c.loop-line-test.false
-          c.loop-line.invariant;
-    }
+    let grammar = c.args.grammar in
+    let (refusals, taken, kept) = c.in_ok-refused.ensures in
+    let (rules, read, is) = list_taken (λ line. IsPrefixText grammar line.text) (IsPrefixCause grammar)
+    (λ line old new. (rule : PrefixRule) × IsPrefixText grammar line.text rule
+    × (new.items ≡ old.items ++ rule ∷ []))
+    (λ made rules. made.items ≡ rules)
+    (λ line old new (rule, is, adds). (rule, is, λ rules h. adds ∙ ap (λ z. z ++ rule ∷ []) h))
+    c.args.bytes.now _ _ refusals c.new-rules.ensures.items taken in
+    (refusals, subst (λ z. IsPrefixList grammar c.args.bytes.now z refusals) (sym is) read, kept)

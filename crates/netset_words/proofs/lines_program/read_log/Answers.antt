@@ -52,7 +52,7 @@ loop-preserved g c =
           (g.X.Write.contents c.args.faults.now) (g.X.Write.contents c.loop.faults)
           (g.X.Write.contents c.report_since.new.faults) c.args.filter c.loop.filter c.take_bytes.new.filter
           c.loop.window shown c.loop.invariant.reading c.in_ok-take_bytes.ensures c.loop.invariant.quiet
-          c.report_since.ensures;
+          c.report_since.ensures.none;
     }
 
 pub returns-then-not-more-clause-whole : goal.returns-then-not-more-clause-whole
@@ -89,7 +89,7 @@ returns-then-not-more-clause-quiet g c =
     (g.X.Write.contents c.args.faults.now) (g.X.Write.contents c.loop.faults)
     (g.X.Write.contents c.report_since.new.faults) c.args.filter c.loop.filter c.take_bytes.new.filter c.loop.window
     c.held-held.result.now c.loop.invariant.reading c.in_ok-take_bytes.ensures c.loop.invariant.quiet
-    c.report_since.ensures
+    c.report_since.ensures.none
 
 pub returns-in_err-window-clause-part : goal.returns-in_err-window-clause-part
 returns-in_err-window-clause-part g c =

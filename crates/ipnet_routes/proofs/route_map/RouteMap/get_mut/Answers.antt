@@ -14,6 +14,7 @@ use Rattle.ipnet_routes.specs.RouteMaps.{IsWithRoute}
 use Rattle.ipnet_routes.specs.RouteMapSteps.{all_of, chunk_at, position_of}
 use Rattle.ipnet_routes.proofs.ChunkLaws.{chunk_only, read_in_chunk}
 use Rattle.ipnet_routes.proofs.RouteMapLaws.{items, chunk_inside}
+use Rattle.ipnet_routes.proofs.KnownLengthLaws.{known_put}
 use Rattle.ipnet_routes.proofs.RouteMapChanges.{has_cut, out_cut, exchanged, value_of, value_set, Filled}
 use Rattle.ipnet_routes.proofs.route_map.RouteMap.get_mut.Goals as goal
 
@@ -69,7 +70,14 @@ invariant_of-self-lent g c w =
       (
         All-set Filled cs before.chunk (with_item chunk before.index (route.0, w))
             (omega (arith, inside, length-set chunk.items before.index (route.0, w))) c.args.self.now.filled,
-        (c.args.self.now.size ∙ sym made.2, tt),
+        (
+          known_put c.args.self.now.lengths.masks.items c.args.self.now.lengths.width (all_of cs)
+              (all_of (set cs before.chunk (with_item chunk before.index (route.0, w)))) t w made.1
+              c.args.self.now.known (c.args.self.now.known.each t
+              (subst (λ z. Contains (ip_networks (all_of z)) t) value
+              (true_gives c.is_behind.result c.is_behind.ensures.has c.if-not-is_behind.false))),
+          (c.args.self.now.size ∙ sym made.2, tt),
+        ),
       ),
     )
 

@@ -2,6 +2,7 @@
 use Rattle.std.proofs.Common.{ap, arith}
 use Rattle.ipnet.specs.NetworkOf.{ip_network}
 use Rattle.ipnet_routes.specs.RouteMapSteps.{all_of, position_of}
+use Rattle.ipnet_routes.proofs.KnownLengthLaws.{known_put}
 use Rattle.ipnet_routes.proofs.RouteMapChanges.{exchanged, value_of}
 use Rattle.ipnet_routes.proofs.route_map.changes.exchange.Goals as goal
 
@@ -47,3 +48,9 @@ returns-clause-value g c =
     value_of (all_of cs) c.requires.table (ip_network c.args.network.now) (position_of cs place.chunk place.index)
     (position_of cs before.chunk before.index) c.requires.place c.requires.has
     (omega (arith, same, c.before-2.ensures.index)) c.replace_at.result c.replace_at.ensures.value
+
+pub returns-clause-known : goal.returns-clause-known
+returns-clause-known g c masks width known =
+    known_put masks width (all_of c.args.chunks.now.items) (all_of c.replace_at.new.chunks.items)
+    (ip_network c.args.network.now) c.args.value (returns-clause-put g c) known
+    (known.each (ip_network c.args.network.now) c.requires.has)

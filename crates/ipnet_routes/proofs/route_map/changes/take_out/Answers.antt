@@ -2,6 +2,7 @@
 use Rattle.std.proofs.Common.{ap, arith}
 use Rattle.ipnet.specs.NetworkOf.{ip_network}
 use Rattle.ipnet_routes.specs.RouteMapSteps.{all_of, position_of}
+use Rattle.ipnet_routes.proofs.KnownLengthLaws.{known_taken}
 use Rattle.ipnet_routes.proofs.RouteMapChanges.{taken_out, value_of}
 use Rattle.ipnet_routes.proofs.route_map.changes.take_out.Goals as goal
 
@@ -36,3 +37,8 @@ returns-clause-value g c =
     value_of (all_of cs) c.requires.table (ip_network c.args.network.now) (position_of cs place.chunk place.index)
     (position_of cs before.chunk before.index) c.requires.place c.requires.has
     (omega (arith, same, c.before-2.ensures.index)) c.take_at.result.1 (λ d. ap (λ z. z.1) (c.take_at.ensures.route d))
+
+pub returns-clause-known : goal.returns-clause-known
+returns-clause-known g c masks width known =
+    known_taken masks width (all_of c.args.chunks.now.items) (all_of c.take_at.new.chunks.items)
+    (ip_network c.args.network.now) (returns-clause-taken g c) known

@@ -1,13 +1,15 @@
 -- One block, or the blocks in one half, or in both.
-use Rattle.std.proofs.Common.{◌<◌, map, length, IfOk, IfSome, IfNone, subst, arith}
+use Rattle.std.proofs.Common.{◌<◌, ◌++◌, All, map, length, IfOk, IfSome, IfNone, sym, subst, arith}
 use Rattle.ipnet_base.proofs.ResultLaws.{true_gives}
 use Rattle.std.proofs.lemmas.List.{length-map}
-use Rattle.ipnet_base.specs.Network.{IsSubnetOf}
+use Rattle.ipnet_base.specs.Network.{IsSubnetOf, IsTruncated}
 use Rattle.ipnet.specs.NetLaws.{ip_valid}
 use Rattle.ipnet.specs.NetworkOf.{ip_network}
 use Rattle.ipnet_shortest.specs.Parts.{IsPartOf, HasNoCover}
+use Rattle.ipnet_shortest.specs.Plans.{IsOrderly}
 use Rattle.ipnet_shortest.proofs.HalvingLaws.{around_within, half_bits, block_within, block_longer, all_in_half, cut}
-use Rattle.ipnet_shortest.proofs.HalvingLaws.{are_joined, none_if, some_blocks}
+use Rattle.ipnet_shortest.proofs.HalvingLaws.{are_joined, none_if, some_blocks, order_within, are_ordered}
+use Rattle.ipnet_shortest.proofs.HalvingLaws.{cut_both, all_front, all_back, block_at}
 use Rattle.ipnet_shortest.proofs.PartOfLaws.{can_be_joined, none_of_front, none_of_back}
 use Rattle.ipnet_shortest.proofs.part.Terms.+part.Goals as goal
 
@@ -335,3 +337,74 @@ returns-clause-none t c =
     c.in_ok-second.ensures.within) in
     subst (λ z. IfOk c.joined.result (λ o. IfNone o (HasNoCover z terms))) halves.both
     (c.joined.ensures.none fronts backs joined)
+
+pub returns-then-blocks-eq1-clause-order : goal.returns-then-blocks-eq1-clause-order
+returns-then-blocks-eq1-clause-order t c = λ trunc.
+    let a = c.index-blocks-0.result in
+    order_within c.single.result (ip_network a) (ip_network c.args.around.now)
+    (block_within c.args.around.now c.args.blocks.now c.requires.blocks 0 a c.index-blocks-0.is
+    (omega (arith, c.if-blocks-eq1.true)))
+    (c.single.ensures.order (block_at IsTruncated c.args.blocks.now trunc 0 a c.index-blocks-0.is
+    (omega (arith, c.if-blocks-eq1.true))))
+
+pub returns-then-count-blocks-clause-within : goal.returns-then-count-blocks-clause-within
+returns-then-count-blocks-clause-within t c =
+    around_within c.part.result (ip_network c.half_with-first_half.result) (ip_network c.args.around.now)
+    c.half_with-first_half.ensures.within c.part.ensures.within
+
+pub returns-then-count-blocks-clause-order : goal.returns-then-count-blocks-clause-order
+returns-then-count-blocks-clause-order t c = λ trunc.
+    order_within c.part.result (ip_network c.half_with-first_half.result) (ip_network c.args.around.now)
+    c.half_with-first_half.ensures.within (c.part.ensures.order trunc)
+
+pub returns-then-covers-clause-order : goal.returns-then-covers-clause-order
+returns-then-covers-clause-order t c = λ trunc.
+    let around = c.args.around.now in
+    let blocks = c.args.blocks.now in
+    let half = c.half_with-first_half.result in
+    let other = c.half_with-second_half.result in
+    let a = c.index-blocks-0-2.result in
+    let k = c.index-blocks-count.result in
+    let count = c.leading_in-count.result in
+    let front = map ip_network c.split_at.result.0.now in
+    let back = map ip_network c.split_at.result.1.now in
+    let lt = some_blocks blocks c.requires.blocks.some in
+    let two : 1 < length blocks = omega (arith, lt, c.if-blocks-eq1.false) in
+    let less : count < length blocks =
+    omega (arith, c.leading_in-count.ensures.within, length-map blocks ip_network, c.if-count-blocks.false) in
+    let halves = are_ordered around blocks c.requires.blocks half other a k count two c.index-blocks-0-2.is
+    c.half_with-first_half.ensures c.leading_in-count.ensures less c.index-blocks-count.is
+    c.half_with-second_half.ensures in
+    let whole : All IsTruncated (front ++ back) = subst (All IsTruncated) (sym (cut_both blocks count
+    c.split_at.result.0.now c.split_at.result.1.now c.split_at.ensures.front c.split_at.ensures.back)) trunc in
+    let p = subst (λ z. IfSome z (λ p. IsOrderly p.plan (ip_network half))) c.in-Some.is
+    (c.in_ok-first.ensures.order (all_front IsTruncated front back whole)) in
+    let q = subst (λ z. IfSome z (λ p. IsOrderly p.plan (ip_network other))) c.in-Some-2.is
+    (c.in_ok-second.ensures.order (all_back IsTruncated front back whole)) in
+    c.in_ok-part.ensures.order (ip_network half) (ip_network other) c.requires.blocks.truncated halves p q
+
+pub returns-clause-order : goal.returns-clause-order
+returns-clause-order t c = λ trunc.
+    let around = c.args.around.now in
+    let blocks = c.args.blocks.now in
+    let half = c.half_with-first_half.result in
+    let other = c.half_with-second_half.result in
+    let a = c.index-blocks-0-2.result in
+    let k = c.index-blocks-count.result in
+    let count = c.leading_in-count.result in
+    let front = map ip_network c.split_at.result.0.now in
+    let back = map ip_network c.split_at.result.1.now in
+    let lt = some_blocks blocks c.requires.blocks.some in
+    let two : 1 < length blocks = omega (arith, lt, c.if-blocks-eq1.false) in
+    let less : count < length blocks =
+    omega (arith, c.leading_in-count.ensures.within, length-map blocks ip_network, c.if-count-blocks.false) in
+    let halves = are_ordered around blocks c.requires.blocks half other a k count two c.index-blocks-0-2.is
+    c.half_with-first_half.ensures c.leading_in-count.ensures less c.index-blocks-count.is
+    c.half_with-second_half.ensures in
+    let whole : All IsTruncated (front ++ back) = subst (All IsTruncated) (sym (cut_both blocks count
+    c.split_at.result.0.now c.split_at.result.1.now c.split_at.ensures.front c.split_at.ensures.back)) trunc in
+    let p = subst (λ z. IfSome z (λ p. IsOrderly p.plan (ip_network half))) c.in-Some.is
+    (c.in_ok-first.ensures.order (all_front IsTruncated front back whole)) in
+    let q = subst (λ z. IfSome z (λ p. IsOrderly p.plan (ip_network other))) c.in-Some-2.is
+    (c.in_ok-second.ensures.order (all_back IsTruncated front back whole)) in
+    c.joined.ensures.order (ip_network half) (ip_network other) halves p q

@@ -4,7 +4,7 @@ use Rattle.std.proofs.lemmas.Bool.{cases_lt}
 use Rattle.ipnet.specs.NetLaws.{ip_valid}
 use Rattle.ipnet.specs.NetworkOf.{ip_network}
 use Rattle.ipnet_shortest.specs.PartCovers.{costs_from}
-use Rattle.ipnet_shortest.specs.Plans.{IsSound}
+use Rattle.ipnet_shortest.specs.Plans.{IsOrderly, IsSound}
 use Rattle.ipnet_shortest.proofs.CostLaws.{length-costs_from}
 use Rattle.ipnet_shortest.proofs.PartOfLaws.{none_of_both, both_solved, are_shares}
 use Rattle.ipnet_shortest.proofs.ShareLaws.{best_of_slices, costs_of_slices}
@@ -19,6 +19,15 @@ returns-then-count-eq0-clause-none c front back j =
       | inl lt ↦ lt
       | inr le ↦ absurd (omega (arith, c.cost_count-count.ensures.some le, c.if-count-eq0.true))
     ])
+
+pub returns-clause-order : goal.returns-clause-order
+returns-clause-order c = λ l r halves p q. (
+  l,
+  r,
+  halves,
+  subst (λ z. IsOrderly z l) (sym c.in_ok-new.ensures.ok) p,
+  subst (λ z. IsOrderly z r) (sym c.in_ok-new-2.ensures.ok) q,
+)
 
 pub returns-clause-some : goal.returns-clause-some
 returns-clause-some c front back j =

@@ -4,11 +4,24 @@ use Rattle.ipnet.specs.NetLaws.{ip_valid}
 use Rattle.ipnet.specs.NetworkOf.{ip_network}
 use Rattle.ipnet_shortest.specs.declared.plan.Plan.TheVariants.{OneOr}
 use Rattle.ipnet_shortest.specs.PartCovers.{costs_from}
-use Rattle.ipnet_shortest.specs.Plans.{IsSound, size_of, networks_of}
+use Rattle.ipnet_shortest.specs.Plans.{IsOrderly, IsSound, size_of, networks_of}
 use Rattle.ipnet_shortest.proofs.CostLaws.{length-costs_from}
 use Rattle.ipnet_shortest.proofs.PartOfLaws.{whole_solved, are_shares}
 use Rattle.ipnet_shortest.proofs.ShareLaws.{best_of_slices, costs_of_slices}
 use Rattle.ipnet_shortest.proofs.part.Terms.joined_or_whole.Goals as goal
+
+pub returns-clause-order : goal.returns-clause-order
+returns-clause-order c = λ l r t halves p q. (
+  t,
+  λ x a. a,
+  subst (λ z. IsOrderly z (ip_network c.args.around.now)) (sym c.in_ok-new-3.ensures.ok) (
+    l,
+    r,
+    halves,
+    subst (λ z. IsOrderly z l) (sym c.in_ok-new.ensures.ok) p,
+    subst (λ z. IsOrderly z r) (sym c.in_ok-new-2.ensures.ok) q,
+  ),
+)
 
 pub returns-clause-some : goal.returns-clause-some
 returns-clause-some c front back j =

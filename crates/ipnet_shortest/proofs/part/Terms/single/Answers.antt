@@ -14,6 +14,9 @@ returns-then-not-covers-clause-none c =
     one_none (IsMember c.args.self.now.allowed) (ip_network c.args.block.now) c.args.self.now.limit
     (false_gives c.covers.result c.covers.ensures c.if-not-covers.true)
 
+pub returns-clause-order : goal.returns-clause-order
+returns-clause-order c = λ t. (t, λ x a. a)
+
 pub returns-clause-some : goal.returns-clause-some
 returns-clause-some c =
     let b = ip_network c.args.block.now in

@@ -1,3 +1,4 @@
+use Rattle.std.proofs.lemmas.Result.{err_from_is_err_and}
 use Rattle.std.proofs.Common.{string_bytes}
 use Rattle.netset_entries.proofs.SupernetLaws.{supernets_of_lists}
 use Rattle.netset_entries.proofs.supernet_program.SupernetCommandTextCommand.answer.Goals as goal
@@ -6,3 +7,11 @@ pub returns-clause-text : goal.returns-clause-text
 returns-clause-text c = λ r lists h.
     supernets_of_lists r lists c.in_ok-set.set (c.in_ok-set.ensures.set r lists h)
     (string_bytes c.in_ok-text.text) c.in_ok-text.ensures
+
+pub returns-in_err-text-clause-failure : goal.returns-in_err-text-clause-failure
+returns-in_err-text-clause-failure c =
+    let last = c.from_residual-in_err-text in
+    let p = err_from_is_err_and last.result last.ensures.1 in
+    rw (p.1, p.2) (λ r lists h.
+    let of = c.in_ok-set.ensures.set r lists h in
+    record { count = of.count; entries = of.entries; read = of.read; named = of.named })

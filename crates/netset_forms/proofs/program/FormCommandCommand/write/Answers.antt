@@ -20,3 +20,10 @@ returns-in-Err-clause-front g c =
             (g.W.Write.contents c.args.out.now) (g.W.Write.contents c.write_form.new.out) cut,
       )
     ]
+
+pub returns-in-Err-clause-failure : goal.returns-in-Err-clause-failure
+returns-in-Err-clause-failure g c = λ r lists h. record {
+  set = c.in_ok-set.set;
+  result = c.in_ok-set.ensures.set r lists h;
+  right = c.in-Err.ensures.failure;
+}

@@ -1,5 +1,6 @@
 use Rattle.std.proofs.Common.{◌≡◌, ◌⊎◌, refl, inl, inr}
 use Rattle.netset_lib.specs.RuleContentsOf.{contents_of}
+use Rattle.netset_lib.proofs.RuleLaws.{all_rules}
 use Rattle.netset_lib.proofs.RunLaws.{whole_weaker, front_weaker}
 use Rattle.netset_forms.proofs.FormLaws.{text_of_rules}
 use Rattle.netset_forms.proofs.program.PermittedCommandCommand.write.Goals as goal
@@ -8,7 +9,8 @@ pub returns-in-Ok-write_form-clause-whole : goal.returns-in-Ok-write_form-clause
 returns-in-Ok-write_form-clause-whole g c =
     let of = c.args.self in
     whole_weaker (λ text right grammar bytes h.
-    text_of_rules of.default of.form grammar bytes (contents_of of.list) h c.in-Ok.set c.in-Ok.ensures.set text right)
+    text_of_rules of.default of.form grammar bytes (contents_of of.list)
+    (all_rules grammar bytes of.list h c.in-Ok.ensures.none) c.in-Ok.set c.in-Ok.ensures.set text right)
     (g.W.Write.contents c.args.out.now) (g.W.Write.contents c.write_form.new.out) c.in-Ok-write_form.ensures.whole
 
 pub returns-in-Err-write_form-clause-front : goal.returns-in-Err-write_form-clause-front
@@ -19,8 +21,12 @@ returns-in-Err-write_form-clause-front g c =
       | inr cut ↦ inr (
         refl,
         front_weaker (λ text right grammar bytes h.
-            text_of_rules of.default of.form grammar bytes (contents_of of.list) h c.in-Ok.set c.in-Ok.ensures.set
-            text right)
+            text_of_rules of.default of.form grammar bytes (contents_of of.list)
+            (all_rules grammar bytes of.list h c.in-Ok.ensures.none) c.in-Ok.set c.in-Ok.ensures.set text right)
             (g.W.Write.contents c.args.out.now) (g.W.Write.contents c.write_form.new.out) cut,
       )
     ]
+
+pub returns-in-Err-write_form-clause-failure : goal.returns-in-Err-write_form-clause-failure
+returns-in-Err-write_form-clause-failure g c =
+    (c.in-Ok.set, c.in-Ok.ensures.set, c.in-Err-write_form.ensures.failure)

@@ -1,7 +1,5 @@
-use Rattle.std.proofs.Common.{refl, subst, string_bytes}
-use Rattle.ipnet_sets.specs.Members.{IsMember}
-use Rattle.netset_lib.specs.PlanAnswers.{IsPlanFailure}
-use Rattle.netset_lib.proofs.PlanLaws.{plan_of_lists, none_of_lists, placed_of_lists}
+use Rattle.std.proofs.Common.{refl, string_bytes}
+use Rattle.netset_lib.proofs.PlanLaws.{plan_of_lists, failure_of_lists, placed_of_lists}
 use Rattle.netset_lib.proofs.plan_program.PlanCommandTextCommand.answer.Goals as goal
 
 pub returns-in-Ok-clause-text : goal.returns-in-Ok-clause-text
@@ -20,7 +18,7 @@ returns-in-Ok-clause-outcome c = (
 )
 
 pub returns-clause-failure : goal.returns-clause-failure
-returns-clause-failure c = λ none r lists h.
+returns-clause-failure c = λ r lists h.
     let p = c.args.self.request in
-    none_of_lists r lists c.in_ok-set.set p.families p.lengths.now (c.in_ok-set.ensures.set r lists h)
-    (subst (IsPlanFailure (IsMember c.in_ok-set.set) p.families p.lengths.now) none c.in-Err.ensures.failure)
+    failure_of_lists r lists c.in_ok-set.set p.families p.lengths.now (c.in_ok-set.ensures.set r lists h)
+    c.in-Err.failure c.in-Err.ensures.failure

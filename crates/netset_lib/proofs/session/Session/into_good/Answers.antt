@@ -19,3 +19,8 @@ returns-clause-good c = (
         c.has_no_family.ensures.no c.if-has_no_family.false named set (c.as_slice.ensures.value ∙ is);
   },
 )
+
+pub returns-then-self-clause-failure : goal.returns-then-self-clause-failure
+returns-then-self-clause-failure c = λ work lists h.
+    let sound = h.sound in
+    let broken = c.if-self.true in absurd cc

@@ -14,6 +14,14 @@ returns-in_err-sets-clause-count c = λ request lists h none.
     let result = p.1 in
     let same = p.2 in cc
 
+pub returns-in_err-sets-clause-refused : goal.returns-in_err-sets-clause-refused
+returns-in_err-sets-clause-refused c = λ request lists h takes some.
+    let p = err_from_is_err_and c.from_residual.result c.from_residual.ensures.1 in
+    let refused = c.in_err-sets.ensures.refused (Combine request) lists h takes some in
+    let is = c.in_err-sets.was in
+    let result = p.1 in
+    let same = p.2 in cc
+
 pub returns-clause-sets : goal.returns-clause-sets
 returns-clause-sets c = λ request lists h.
     let good = c.in_ok-sets.ensures.good in

@@ -15,8 +15,10 @@ returns-in_ok-read_answerer-in-0 g c =
       sets = old.sets;
       answerer = Some answerer;
       answers = old.answers;
+      is_broken = old.is_broken;
     } in record {
       same_work = refl;
+      same_broken = refl;
       read = made_weaker (g.R.Read.remaining c.args.input.now) (g.R.Read.remaining c.read_answerer.new.input)
           old.reading c.read_answerer.new.reading (IsAnswererFor c.args.query answerer) _
           c.in_ok-read_answerer-in-0.ensures
@@ -34,8 +36,10 @@ returns-in_ok-self-in-1 g c =
       sets = old.sets;
       answerer = old.answerer;
       answers = answers;
+      is_broken = old.is_broken;
     } in record {
       same_work = refl;
+      same_broken = refl;
       read = made_weaker (g.R.Read.remaining c.args.input.now) (g.R.Read.remaining c.read_answers.new.input)
           old.reading c.read_answers.new.reading (AreAnswersBy c.in-Some.answerer answers) _ c.in_ok-self-in-1.ensures
           (λ entries made before one state. asked_second c.args.query old new c.in-Some.answerer entries before

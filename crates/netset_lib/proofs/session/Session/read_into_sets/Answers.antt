@@ -11,6 +11,7 @@ returns g c =
     let old = c.args.self.now in
     let set = c.in_ok-set.set in record {
       same_work = refl;
+      same_broken = refl;
       read = made_weaker (g.R.Read.remaining c.args.input.now) (g.R.Read.remaining c.read_set.new.input) old.reading
           c.read_set.new.reading (HaveAddresses (IsMember set)) _ c.in_ok-set.ensures
           (λ entries same before count state. subst (λ z. HaveMembers z (before ++ entries ∷ []))

@@ -31,3 +31,13 @@ returns-in_err-reading-clause-failure g c =
     (g.W.Write.contents c.stream_entries.new.out) _ h c.in-Ask.is (c.if-not-has_stream.ensures.0 refl)
     c.if-reading-ne1.false c.in-Some.is c.if-reading-ne0.false c.in_err-reading.ensures.part
     c.in_err-reading.ensures.cause)
+
+pub returns-then-is_broken-clause-failure : goal.returns-then-is_broken-clause-failure
+returns-then-is_broken-clause-failure g c = λ work lists h.
+    let sound = h.sound in
+    let broken = c.if-is_broken.true in absurd cc
+
+pub returns-then-is_broken-clause-count : goal.returns-then-is_broken-clause-count
+returns-then-is_broken-clause-count g c = λ work lists h none.
+    let sound = h.sound in
+    let broken = c.if-is_broken.true in absurd cc

@@ -43,7 +43,7 @@ loop-preserved g c =
           c.loop.reading c.take_lines.new.self before then (AreAnswersBy a c.loop.answers) (AreAnswersBy a answers)
           (g.X.Write.contents c.args.faults.now) (g.X.Write.contents c.loop.faults)
           (g.X.Write.contents c.report_since.new.faults) inv.list c.in_ok-take_lines.ensures
-          (ap (λ l. l.refused.count) (sym on.same_lines) ∙ same) inv.quiet c.report_since.ensures;
+          (ap (λ l. l.refused.count) (sym on.same_lines) ∙ same) inv.quiet c.report_since.ensures.none;
     }
 
 pub loop-init : goal.loop-init
@@ -97,7 +97,7 @@ returns-then-not-more-clause-quiet g c = λ same.
     (IsWritten a held (g.W.Write.contents c.loop.out) c.loop.found) (AreAnswersBy a c.loop.answers)
     (AreAnswersBy a c.take_lines.new.made) (g.X.Write.contents c.args.faults.now) (g.X.Write.contents c.loop.faults)
     (g.X.Write.contents c.report_since.new.faults) inv.list c.in_ok-take_lines.ensures
-    (ap (λ r. r.count) (sym c.end_list.ensures.same_refused) ∙ same) inv.quiet c.report_since.ensures
+    (ap (λ r. r.count) (sym c.end_list.ensures.same_refused) ∙ same) inv.quiet c.report_since.ensures.none
 
 pub returns-in_err-more-clause-part : goal.returns-in_err-more-clause-part
 returns-in_err-more-clause-part g c =

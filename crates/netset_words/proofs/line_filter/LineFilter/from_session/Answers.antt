@@ -1,4 +1,5 @@
 use Rattle.std.proofs.Common.{[], ◌↔◌, sym, subst}
+use Rattle.std.proofs.lemmas.Result.{err_from_is_err_and}
 use Rattle.ipnet_sets.specs.Members.{IsMember}
 use Rattle.netset_lib.specs.Filters.{IsOnSide}
 use Rattle.ipnet_lists.specs.Lists.{IsInEntries}
@@ -21,3 +22,11 @@ returns-clause-filter c = λ request lists were.
           (IsInResult IsInEntries request.operation s.entries) x (c.in_ok-side.ensures x fits) (s.right x));
       begun = subst (λ z. IsLogUpTo c.args.how z [] 0 [] c.new.result) (sym c.new.ensures.set) c.new.ensures.begun;
     }
+
+pub returns-in_err-side-clause-failure : goal.returns-in_err-side-clause-failure
+returns-in_err-side-clause-failure c =
+    let last = c.from_residual-in_err-side in
+    let p = err_from_is_err_and last.result last.ensures.1 in
+    rw (p.1, p.2) (λ request lists h.
+    let of = c.in_ok-set.ensures.set request lists h in
+    record { count = of.count; entries = of.entries; read = of.read; named = of.named })

@@ -1,0 +1,4 @@
+-- The lemmas of this crate.
+mod HostFacts
+mod DigitFacts
+mod ZoneFacts

@@ -1,0 +1,8 @@
+-- The payloads of a value of `OriginTable`. Contracts see nothing else of a value.
+use Rattle.std.specs.Prelude.{List}
+use Rattle.ipnet_origins.specs.declared.origins.OriginTable.{OriginTable}
+use Rattle.ipnet_origins.specs.declared.payload.Payload.{Payload}
+
+-- The payloads, in the order of their networks. Example: of 192.0.2.0/24 and then 198.51.100.0/24.
+abbrev pub payloads_of : OriginTable → List Payload
+payloads_of table = table.payloads.items

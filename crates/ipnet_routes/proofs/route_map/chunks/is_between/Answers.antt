@@ -1,0 +1,29 @@
+-- The place between two routes of a chunk is the place among all routes.
+use Rattle.std.proofs.Common.{◌≡◌, ◌-◌, ◌<◌, length, get_or, arith, sym, ap, ◌∙◌, subst}
+use Rattle.ipnet_base.specs.Network.{IsBefore}
+use Rattle.ipnet_base.specs.Stack.{IsBeforeOrEqual}
+use Rattle.ipnet.specs.NetworkOf.{ip_network}
+use Rattle.ipnet_routes.proofs.RouteLaws.{less_gives, not_less_gives}
+use Rattle.ipnet_routes.proofs.RouteMapLaws.{place_between}
+use Rattle.ipnet_routes.proofs.route_map.chunks.is_between.Goals as goal
+
+pub returns-clause-place : goal.returns-clause-place
+returns-clause-place g c less =
+    let cs = c.args.chunks.now in
+    let n = c.args.network.now in
+    let j = c.args.place.index in
+    let chunk = c.index-chunks-place.result in
+    let routes = c.as_slice-routes.result.now in
+    let value : routes ≡ chunk.items = c.as_slice-routes.ensures.value in
+    let r = c.index-routes-place.result in
+    let s = c.index-routes-place-2.result in
+    let first = (get_or routes (j - 1) r).0 in
+    let second = (get_or routes j s).0 in
+    place_between cs c.requires.table c.args.place.chunk chunk (omega arith) (sym c.index-chunks-place.is)
+    (ip_network n) j (omega arith) (omega (arith, ap length value)) r s
+    (c.index-routes-place.is ∙ ap (λ z. get_or z (j - 1) r) value)
+    (c.index-routes-place-2.is ∙ ap (λ z. get_or z j s) value)
+    (subst (λ z. IsBeforeOrEqual (ip_network z.0) (ip_network n)) (sym c.index-routes-place.is)
+    (not_less_gives n first (c.ip_nets_compare_by_network.ensures.compare n first) (sym c.lt.ensures ∙ c.if-lt.false)))
+    (subst (λ z. IsBefore (ip_network n) (ip_network z.0)) (sym c.index-routes-place-2.is)
+    (less_gives n second (c.ip_nets_compare_by_network.ensures.compare n second) (sym c.lt-2.ensures ∙ less)))

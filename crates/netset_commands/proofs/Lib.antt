@@ -1,0 +1,5 @@
+pub mod CommandLaws
+-- Lemmas of this crate.
+pub mod MapLaws
+pub mod WordLaws
+pub mod OnceLaws

@@ -1,0 +1,60 @@
+-- The command line: its commands by name, and their arguments by id.
+use Rattle.std.specs.Prelude.{◌≡◌, ◌∷◌, ◌++◌, ℕ, List, [], codes, map, flat_map}
+use Rattle.std.specs.Borrow.{Bor}
+use Rattle.clap.specs.Facts.{args_of, subcommands_of}
+use Rattle.clap.specs.declared.builder.command.Command.{Command}
+use Rattle.clap.specs.declared.builder.command.Command.TheViews.{out-Command}
+use Rattle.netset_commands.specs.declared.table.Argument.{Argument}
+use Rattle.netset_commands.specs.declared.table.Subcommand.{Subcommand}
+
+-- The ids of arguments, in order.
+abbrev pub ids_in : List Argument → List (List ℕ)
+ids_in arguments = map (λ argument. argument.id.now) arguments
+
+-- The ids of arguments in groups, in order. Example: `a`, `b`, `c` of a group of `a` and `b` and one of `c`.
+abbrev pub ids_in_groups : List (Bor (List Argument)) → List (List ℕ)
+ids_in_groups groups = flat_map (λ arguments. ids_in arguments.now) groups
+
+-- The ids of a command's arguments, in the order in which help lists them.
+abbrev pub ids_of : Command → List (List ℕ)
+ids_of command = map (λ arg. arg.id.now) (args_of command)
+
+-- The name of a command.
+abbrev pub command_name : Command → List ℕ
+command_name command = (out-Command command).name.now
+
+-- The command has the name and the arguments of a row of the table.
+pub record IsOfRow (row : Subcommand) (command : Command) : Type 0 where
+  pub name : command_name command ≡ row.name.now
+  pub ids : ids_of command ≡ ids_in_groups row.arguments.now
+
+-- The names of the commands in the table.
+abbrev pub names_in : List Subcommand → List (List ℕ)
+names_in rows = map (λ row. row.name.now) rows
+
+-- The names of a program's commands, in the order in which help lists them.
+abbrev pub command_names : Command → List (List ℕ)
+command_names command = map command_name (subcommands_of command)
+
+-- The commands that are operations, in the order in which help lists them.
+abbrev pub operation_names : List (List ℕ)
+operation_names = codes "union" ∷ codes "intersection" ∷ codes "difference" ∷ codes "symmetric-difference"
+    ∷ codes "complement" ∷ []
+
+-- The commands that ask about lists, in the order in which help lists them.
+abbrev pub query_names : List (List ℕ)
+query_names = codes "count" ∷ codes "compare" ∷ codes "changes" ∷ codes "apply" ∷ codes "extract" ∷ codes "filter"
+    ∷ codes "route" ∷ []
+
+-- The commands about free space, pictures and limits, in the order in which help lists them.
+abbrev pub space_names : List (List ℕ)
+space_names = codes "plan" ∷ codes "bar" ∷ codes "map" ∷ codes "supernet" ∷ codes "fit" ∷ []
+
+-- The commands about entries, networks and rules, in the order in which help lists them.
+abbrev pub entry_names : List (List ℕ)
+entry_names = codes "redundant" ∷ codes "overlaps" ∷ codes "split" ∷ codes "hosts" ∷ codes "permitted"
+    ∷ codes "unreached" ∷ codes "prefix-list" ∷ []
+
+-- The commands of the program, in the order in which help lists them.
+abbrev pub all_commands : List (List ℕ)
+all_commands = ((operation_names ++ query_names) ++ space_names) ++ entry_names

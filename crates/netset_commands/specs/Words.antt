@@ -1,0 +1,85 @@
+-- Words of a command line that are networks, prefix lengths and choices.
+use Rattle.std.specs.Prelude.{◌≡◌, ◌<◌, ℕ, Bool, true, false, List, [], ◌∷◌, length, codes, Some, None}
+use Rattle.std.specs.Prelude.{unwrap_or, option_map}
+use Rattle.clap.specs.declared.parser.matches.ArgMatches.{ArgMatches}
+use Rattle.clap.specs.Matches.{found_of, first_value}
+use Rattle.ipnet.specs.NetworkOf.{ip_network}
+use Rattle.ipnet.specs.declared.net.IpNet.{IpNet}
+use Rattle.ipnet_bars.specs.declared.frame.Frame.{Frame}
+use Rattle.ipnet_bars.specs.declared.frame.Frame.TheVariants.{Named, Ipv6, FirstFamily}
+use Rattle.ipnet_lists.specs.Entries.{IsNetworkOrMasked}
+use Rattle.netset_commands.specs.Arguments.{IsFlag, input_count}
+use Rattle.netset_commands.specs.Calls.{AreFlags}
+use Rattle.netset_forms.specs.declared.options.FormOptions.{FormOptions}
+use Rattle.netset_lib.specs.Commands.{grammar_of, work_of}
+use Rattle.ipnet_lists.specs.Names.{Names}
+use Rattle.netset_lib.specs.PlanAnswers.{IsLengthText}
+use Rattle.netset_lib.specs.declared.command.Flags.{Flags}
+use Rattle.netset_lib.specs.declared.command.ListCommand.{ListCommand}
+use Rattle.netset_lib.specs.declared.command.ListCommand.TheVariants.{Union, Compare}
+use Rattle.netset_lib.specs.declared.command.Work.{Work}
+use Rattle.netset_pictures.specs.declared.locale.MarkChoice.{MarkChoice}
+use Rattle.netset_pictures.specs.declared.locale.MarkChoice.TheVariants.{Ascii, Utf8, Terminal, File}
+
+-- The word with this id, which is empty if there is none.
+abbrev pub word_of : ArgMatches → List ℕ → List ℕ
+word_of matches id = unwrap_or (first_value (found_of matches) id) []
+
+-- The word is this network, in the grammar that the flag `--legacy` chooses.
+abbrev pub IsNetworkWord : ArgMatches → List ℕ → IpNet → Type 0
+IsNetworkWord matches word n =
+    (flags : Flags) × AreFlags matches flags × IsNetworkOrMasked (grammar_of flags.legacy) word (ip_network n)
+
+-- The word with this id is this network.
+abbrev pub IsNetworkGiven : ArgMatches → List ℕ → IpNet → Type 0
+IsNetworkGiven matches id n = IsNetworkWord matches (word_of matches id) n
+
+-- The network that is drawn: the one of `--in`; or the smallest around the IPv6 addresses, with `--ipv6`; or the
+-- smallest around the addresses of the first family that has any.
+abbrev pub IsFrameOf : ArgMatches → Frame → Type 0
+IsFrameOf matches (Named n) =
+    (word : List ℕ) × (first_value (found_of matches) (codes "in") ≡ Some word) × IsNetworkWord matches word n
+IsFrameOf matches Ipv6 =
+    (first_value (found_of matches) (codes "in") ≡ None) × IsFlag matches (codes "ipv6") true
+IsFrameOf matches FirstFamily =
+    (first_value (found_of matches) (codes "in") ≡ None) × IsFlag matches (codes "ipv6") false
+
+-- Each word is a prefix length, and these are the lengths, in order. Example: `24`, `/8` are 24, 8.
+abbrev pub AreLengths : Names → List ℕ → Type 0
+AreLengths [] [] = Unit {0}
+AreLengths [] (n ∷ lengths) = ⊥
+AreLengths (word ∷ words) [] = ⊥
+AreLengths (word ∷ words) (n ∷ lengths) = IsLengthText word.now n × AreLengths words lengths
+
+-- The choice of the marks of a bar, by the flags `--ascii` and `--utf8`, and whether the output is a terminal.
+abbrev pub mark_choice : Bool → Bool → Bool → MarkChoice
+mark_choice true utf8 terminal = Ascii
+mark_choice false true terminal = Utf8
+mark_choice false false true = Terminal
+mark_choice false false false = File
+
+-- A picture asks for the addresses of all lists; with `--compare`, for what differs between two.
+abbrev pub pictured_command : Bool → ListCommand
+pictured_command true = Compare
+pictured_command false = Union
+
+-- The work of a picture of the lists with these names. At most one of them is standard input, and there are two if they
+-- are compared.
+pub record IsPicturedWork (matches : ArgMatches) (names : Names) (work : Work) : Type 0 where
+  pub compares : Bool
+  pub is_set : IsFlag matches (codes "compare") compares
+  pub flags : Flags
+  pub are_set : AreFlags matches flags
+  pub meant : work ≡ work_of (pictured_command compares) flags
+  pub once : ¬ (1 < input_count names)
+  pub two : compares ≡ true → length names ≡ 2
+
+-- These are the options for the form of an answer.
+pub record AreFormOptions (matches : ArgMatches) (options : FormOptions) : Type 0 where
+  pub format : option_map (λ word. word.now) options.format ≡ first_value (found_of matches) (codes "format")
+  pub ranges : IsFlag matches (codes "ranges") options.ranges
+  pub prefix : option_map (λ word. word.now) options.prefix ≡ first_value (found_of matches) (codes "prefix")
+  pub least : option_map (λ word. word.now) options.min_length ≡ first_value (found_of matches) (codes "min-length")
+  pub ipv4_set : option_map (λ word. word.now) options.sets.ipv4 ≡ first_value (found_of matches) (codes "ipv4-set")
+  pub ipv6_set : option_map (λ word. word.now) options.sets.ipv6 ≡ first_value (found_of matches) (codes "ipv6-set")
+  pub maxelem : option_map (λ word. word.now) options.maxelem ≡ first_value (found_of matches) (codes "maxelem")

@@ -1,0 +1,160 @@
+//! The command `fit`: its arguments, and its run.
+ghost use Rattle.std.specs.Prelude.{◌≡◌, ◌≤◌, map, codes, IfOk, IfErr};
+ghost use Rattle.netset_commands.specs.FitOptions.{fit_names, limit_of, IsFitRequest, IsNumberGiven};
+
+use crate::arguments::{
+    ANY_LISTS, ArgumentFailure, FIRST, SHARED, reads_input_twice, report_argument_failure,
+};
+use crate::input::STANDARD_INPUT;
+use crate::output::Writers;
+use crate::reading::{reading_work, session_of};
+use crate::table::{ARGUMENT, Argument, Form, Subcommand};
+use clap::ArgMatches;
+use netset_entries::{FitCommand, FitLimit, FitRequest, run_fit};
+use netset_lib::read_number;
+use std::alloc::{AllocError, Global};
+use std::io::Write;
+
+/// The name of the command.
+pub const FIT: &str = "fit";
+
+/// The ids of the options.
+const IPV4_LIMIT: &str = "ipv4-limit";
+
+const IPV6_LIMIT: &str = "ipv6-limit";
+
+const SPARE: &str = "spare";
+
+const NEVER: &str = "never";
+
+/// The command `fit`.
+pub const FIT_COMMAND: Subcommand = Subcommand {
+    name: FIT,
+    about: "The best networks within a limit that contain all addresses of the lists; status 1 if none exist",
+    arguments: &[
+        SHARED,
+        &[
+            Argument {
+                id: IPV4_LIMIT,
+                form: Form::Value("ipv4", "N"),
+                help: "At most this number of IPv4 networks, which add as few addresses as possible",
+                ..ARGUMENT
+            },
+            Argument {
+                id: IPV6_LIMIT,
+                form: Form::Value("ipv6", "N"),
+                help: "At most this number of IPv6 networks, which add as few addresses as possible",
+                ..ARGUMENT
+            },
+            Argument {
+                id: SPARE,
+                form: Form::Value(SPARE, "PERCENT"),
+                help: "As few networks as possible, which add at most this percentage of each family's addresses",
+                conflicts: &[IPV4_LIMIT, IPV6_LIMIT],
+                ..ARGUMENT
+            },
+            Argument {
+                id: NEVER,
+                form: Form::Value(NEVER, "FILE"),
+                help: "A list of addresses that the networks may not contain",
+                ..ARGUMENT
+            },
+            ANY_LISTS,
+        ],
+    ],
+};
+
+/// Prints that the word is not a number, and returns the status.
+fn report_number(rt: &HostRuntime, word: &str) -> u8
+    ensures { result ≡ 2 }
+{
+    let word = word.as_bytes().escape_ascii();
+    let _ = writeln!(rt.stderr(), "netset: not a number up to 4294967295: {word}");
+    2
+}
+
+/// Reads the number of the option, or `None` if it is omitted. If the word is not a number, it is reported, and the
+/// error is the exit status.
+fn number_of(rt: &HostRuntime, matches: &ArgMatches, id: &str) -> Result<Option<u32>, u8>
+    ensures number { IfOk result (IsNumberGiven matches.now id.now) }
+    ensures failed { IfErr result (λ status. status ≡ 2) }
+{
+    match matches.get_str(id) {
+        Some(word) => match read_number(word) {
+            Some(number) => Ok(Some(number)),
+            None => Err(report_number(rt, word)),
+        },
+        None => Ok(None),
+    }
+}
+
+/// The limit of a family: the number of networks, or else the percentage.
+fn limit_of(number: Option<u32>, percent: u32) -> FitLimit
+    ensures { result ≡ limit_of number percent }
+{
+    match number {
+        Some(number) => FitLimit::Networks(number as usize),
+        None => FitLimit::Spare(percent),
+    }
+}
+
+/// Reads the limits. If a word is not a number, or if there is no limit, it is reported, and the error is the exit
+/// status. A family without a limit keeps its addresses as they are.
+fn request_of(rt: &HostRuntime, matches: &ArgMatches) -> Result<FitRequest, u8>
+    ensures request { IfOk result (IsFitRequest matches.now) }
+    ensures failed { IfErr result (λ status. status ≡ 2) }
+{
+    let ipv4 = number_of(rt, matches, IPV4_LIMIT)?;
+    let ipv6 = number_of(rt, matches, IPV6_LIMIT)?;
+    let percent = number_of(rt, matches, SPARE)?;
+    if ipv4.is_none() && ipv6.is_none() && percent.is_none() {
+        let _ = writeln!(rt.stderr(), "netset: choose --ipv4, --ipv6 or --spare");
+        return Err(2);
+    }
+    let percent = percent.unwrap_or(0);
+    Ok(FitRequest {
+        ipv4: limit_of(ipv4, percent),
+        ipv6: limit_of(ipv6, percent),
+        has_never: matches.get_str(NEVER).is_some(),
+    })
+}
+
+/// The names of the lists: first the list to avoid, if there is one, and then the others.
+fn names_of<'a>(alloc: Global, matches: &ArgMatches<'a>) -> Result<Vec<&'a str>, AllocError>
+    ensures { IfOk result (λ names. map (λ name. name.now) names.items ≡ fit_names matches.now) }
+{
+    let mut names = Vec::new(alloc);
+    if let Some(never) = matches.get_str(NEVER) {
+        names.push(never)?;
+    }
+    match matches.get_strs(FIRST) {
+        Some(lists) => names.extend_from_slice(lists)?,
+        None => names.push(STANDARD_INPUT)?,
+    }
+    Ok(names)
+}
+
+/// Reads the arguments and the lists, prints the networks within the limits, and returns the exit status.
+#[inline(never)]
+pub fn fit_lists(rt: &HostRuntime, matches: &ArgMatches, writers: &mut Writers<'_>) -> u8
+    ensures { result ≤ 2 }
+{
+    let request = match request_of(rt, matches) {
+        Ok(request) => request,
+        Err(status) => return status,
+    };
+    let Ok(names) = names_of(rt.alloc(), matches) else {
+        return report_argument_failure(rt, ArgumentFailure::Memory);
+    };
+    let names = names.as_slice();
+    if reads_input_twice(names) {
+        return report_argument_failure(rt, ArgumentFailure::InputTwice);
+    }
+    match session_of(rt, reading_work(matches), names, writers.reports) {
+        Ok(session) => {
+            let (out, faults) = (&mut writers.answer, &mut writers.faults);
+            run_fit(FitCommand { session, request }, names, out, faults).status
+        }
+        Err(status) => status,
+    }
+}

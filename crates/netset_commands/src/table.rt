@@ -1,0 +1,140 @@
+//! Commands and their arguments as tables, and what `clap` makes of them.
+ghost use Rattle.std.specs.Prelude.{◌≡◌, ◌++◌, IfOk};
+ghost use Rattle.netset_commands.specs.CommandLines.{command_name, ids_in, ids_of, IsOfRow};
+
+use clap::{Arg, ArgAction, Command};
+use std::alloc::{AllocError, Global};
+
+/// How an argument is written. Help has the name of its value.
+#[derive(Clone, Copy)]
+pub enum Form {
+    /// As `--NAME`.
+    Flag(&'static str),
+    /// As `--NAME VALUE`.
+    Value(&'static str, &'static str),
+    /// As `--NAME VALUE` with one of these values.
+    Choice(&'static str, &'static str, &'static [&'static str]),
+    /// As a word.
+    Word(&'static str),
+    /// As one word or more.
+    Words(&'static str),
+}
+
+/// An argument of a command.
+#[derive(Clone, Copy)]
+pub struct Argument {
+    /// The id by which its value is read.
+    pub id: &'static str,
+    /// How it is written.
+    pub form: Form,
+    /// Its description in help.
+    pub help: &'static str,
+    /// Whether it may not be omitted.
+    pub is_required: bool,
+    /// The letter after the dash, if it may be written so.
+    pub letter: Option<char>,
+    /// The value if it is omitted.
+    pub default: Option<&'static str>,
+    /// Whether its value may begin with a dash.
+    pub may_have_dash: bool,
+    /// The ids of the arguments that may not be beside it.
+    pub conflicts: &'static [&'static str],
+    /// The ids of the arguments that have to be beside it.
+    pub needs: &'static [&'static str],
+}
+
+/// The fields that most arguments have.
+pub const ARGUMENT: Argument = Argument {
+    id: "",
+    form: Form::Word(""),
+    help: "",
+    is_required: false,
+    letter: None,
+    default: None,
+    may_have_dash: false,
+    conflicts: &[],
+    needs: &[],
+};
+
+/// A command of the program.
+#[derive(Clone, Copy)]
+pub struct Subcommand {
+    /// Its name.
+    pub name: &'static str,
+    /// Its description in help.
+    pub about: &'static str,
+    /// Its arguments, in the order in which help lists them.
+    pub arguments: &'static [&'static [Argument]],
+}
+
+/// The argument, written in this form.
+fn with_form<'a>(arg: Arg<'a>, form: Form) -> Arg<'a>
+    ensures { result.id ≡ arg.entry.id }
+{
+    match form {
+        Form::Flag(name) => arg.long(name).action(ArgAction::SetTrue),
+        Form::Value(name, value) => arg.long(name).value_name(value),
+        Form::Choice(name, value, values) => arg.long(name).value_name(value).value_parser(values),
+        Form::Word(value) => arg.value_name(value),
+        Form::Words(value) => arg
+            .value_name(value)
+            .num_args(1..)
+            .action(ArgAction::Append),
+    }
+}
+
+/// The argument with this letter, if there is one, and with this value if it is omitted.
+fn with_choices<'a>(arg: Arg<'a>, letter: Option<char>, default: Option<&'a str>) -> Arg<'a>
+    ensures { result.id ≡ arg.entry.id }
+{
+    let arg = match letter {
+        Some(letter) => arg.short(letter),
+        None => arg,
+    };
+    match default {
+        Some(value) => arg.default_value(value),
+        None => arg,
+    }
+}
+
+/// The argument as `clap` has it.
+#[inline(never)]
+fn arg_of<'a>(alloc: Global, argument: &Argument) -> Result<Arg<'a>, AllocError>
+    ensures { IfOk result (λ arg. arg.id.now ≡ argument.now.id.now) }
+{
+    let arg = Arg::new(alloc, argument.id)
+        .help(argument.help)
+        .required(argument.is_required)
+        .allow_hyphen_values(argument.may_have_dash)
+        .conflicts_with_all(argument.conflicts)?
+        .requires_all(argument.needs)?;
+    let arg = with_form(arg, argument.form);
+    Ok(with_choices(arg, argument.letter, argument.default))
+}
+
+/// The command with these arguments too.
+fn with_arguments<'a>(
+    alloc: Global,
+    mut command: Command<'a>,
+    arguments: &[Argument],
+) -> Result<Command<'a>, AllocError>
+    ensures name { IfOk result (λ r. command_name r ≡ command_name command.entry) }
+    ensures ids { IfOk result (λ r. ids_of r ≡ ids_of command.entry ++ ids_in arguments.now) }
+{
+    for argument in arguments {
+        command = command.arg(arg_of(alloc, argument)?)?;
+    }
+    Ok(command)
+}
+
+/// The command as `clap` has it.
+#[inline(never)]
+pub fn command_of<'a>(alloc: Global, row: &Subcommand) -> Result<Command<'a>, AllocError>
+    ensures { IfOk result (IsOfRow row.now) }
+{
+    let mut command = Command::new(alloc, row.name).about(row.about);
+    for arguments in row.arguments {
+        command = with_arguments(alloc, command, arguments)?;
+    }
+    Ok(command)
+}

@@ -1,0 +1,121 @@
+//! The command `filter --lines`: its flags, and its run.
+ghost use Rattle.std.specs.Prelude.{◌≡◌, ◌≤◌, codes};
+ghost use Rattle.netset_commands.specs.Arguments.{IsFlag};
+ghost use Rattle.netset_commands.specs.Calls.{AreFlags};
+ghost use Rattle.netset_lib.specs.Commands.{grammar_of, side_of};
+ghost use Rattle.netset_lib.specs.declared.command.Flags.{Flags};
+
+use crate::arguments::{flags_of, is_set, two_or_report};
+use crate::input::{open_log, report_unread};
+use crate::output::Writers;
+use crate::reading::{reading_work, session_of};
+use crate::table::{ARGUMENT, Argument, Form};
+use clap::ArgMatches;
+use netset_lib::report_failure;
+use netset_words::{LineFilter, LinesRequest, run_lines};
+use std::io::Write;
+
+/// The name of the flag for whole lines.
+pub const LINES: &str = "lines";
+
+/// The name of the flag for any entry of a line.
+const ANY: &str = "any";
+
+/// The id of the flag `--others`. The id `others` belongs to the lists after the first.
+const OTHER_LINES: &str = "other-lines";
+
+/// The flags for whole lines.
+pub const LINE_FLAGS: &[Argument] = &[
+    Argument {
+        id: LINES,
+        form: Form::Flag(LINES),
+        help: "Print the whole lines of FILE, any text, whose first entry lies inside SET; not with --stream",
+        conflicts: &["stream"],
+        ..ARGUMENT
+    },
+    Argument {
+        id: ANY,
+        form: Form::Flag(ANY),
+        help: "With --lines: the lines of which any entry lies inside SET, or outside it with --outside",
+        needs: &[LINES],
+        ..ARGUMENT
+    },
+    Argument {
+        id: OTHER_LINES,
+        form: Form::Flag("others"),
+        help: "With --lines: the other lines, with those that have no entry",
+        needs: &[LINES],
+        ..ARGUMENT
+    },
+];
+
+/// Which lines the flags choose.
+fn lines_request(matches: &ArgMatches) -> LinesRequest
+    ensures flags { (flags : Flags) × AreFlags matches.now flags
+        × (result.grammar ≡ grammar_of flags.legacy) × (result.side ≡ side_of flags.outside) }
+    ensures any { IsFlag matches.now (codes "any") result.any }
+    ensures others { IsFlag matches.now (codes "other-lines") result.others }
+{
+    let flags = flags_of(matches);
+    LinesRequest {
+        grammar: flags.grammar(),
+        side: flags.side(),
+        any: is_set(matches, ANY),
+        others: is_set(matches, OTHER_LINES),
+    }
+}
+
+/// Reads the set and the arguments, and prints the lines of the log while it is read. Returns the exit status.
+#[inline(never)]
+pub fn filter_lines(rt: &HostRuntime, matches: &ArgMatches, writers: &mut Writers<'_>) -> u8
+    ensures { result ≤ 2 }
+{
+    let names = match two_or_report(rt, matches) {
+        Ok(names) => names.in_order(),
+        Err(status) => return status,
+    };
+    let how = lines_request(matches);
+    let session = match session_of(rt, reading_work(matches), &names[..1], writers.reports) {
+        Ok(session) => session,
+        Err(status) => return status,
+    };
+    match LineFilter::from_session(rt.alloc(), session, how) {
+        Ok(filter) => filter_named(rt, filter, &names, names[1], writers),
+        Err(failure) => {
+            let _ = report_failure(&mut writers.faults, &names, &failure);
+            2
+        }
+    }
+}
+
+/// Opens the log of this name, prints its lines, and returns the exit status. A text of UTF-16 is refused, since its
+/// entries are not found.
+fn filter_named(
+    rt: &HostRuntime,
+    filter: LineFilter,
+    names: &[&str],
+    log: &str,
+    writers: &mut Writers<'_>,
+) -> u8
+    ensures { result ≤ 2 }
+{
+    let (out, faults) = (&mut writers.answer, &mut writers.faults);
+    match open_log(rt, log) {
+        Ok(mut input) => {
+            let status = run_lines(filter, names, &mut input, out, faults);
+            if !input.is_utf16() {
+                return status;
+            }
+            let shown = log.as_bytes().escape_ascii();
+            let _ = writeln!(
+                faults,
+                "netset: {shown}: begins like UTF-16: is the file UTF-16?"
+            );
+            2
+        }
+        Err(unread) => {
+            report_unread(rt, log, &unread);
+            2
+        }
+    }
+}

@@ -1,0 +1,323 @@
+//! The options of a command line for the form of an answer.
+ghost use Rattle.std.specs.Prelude.{◌≡◌, ◌↔◌, ◌⊎◌, ◌==◌, ℕ, Some, IsTrue, IfOk, IfErr, OnOk, option_map};
+ghost use Rattle.std.specs.List.{list_any};
+ghost use Rattle.netset_forms.specs.FormOptions.{form_text, HasLines, HasSets, HasNames, IsMaxelem, IsRequestOf};
+ghost use Rattle.netset_forms.specs.FormOptions.{IsFormNamed, IsFormOf, IsMostElements, IsMinLength, IsGoodPrefix};
+ghost use Rattle.netset_forms.specs.FormOptions.{AreGoodSets, IsGoodName, AreGoodBoth, IsFormFault};
+ghost use Rattle.netset_forms.specs.FormOptions.{fault_value};
+ghost use Rattle.netset_forms.specs.declared.options.FormName.{FormName};
+
+use crate::form::{AnswerForm, FormRequest, SetNames};
+use crate::names::{are_ipset_sets, are_nft_sets, is_ipset_name, is_nft_name};
+use netset_lib::{read_length, read_number};
+
+/// The `maxelem` of a set of ipset without the option: the greatest that the kernel has.
+pub const MOST_ELEMENTS: u32 = 4_294_967_295;
+
+/// The name of a form, as `--format` has it.
+#[derive(Clone, Copy, Debug, PartialEq, Eq)]
+pub enum FormName {
+    /// Networks, one a line.
+    Plain,
+    /// Ranges, one a line.
+    Ranges,
+    /// A JSON array.
+    Json,
+    /// A table of comma-separated values.
+    Csv,
+    /// Commands of `nft`.
+    Nft,
+    /// Commands of `ipset`.
+    Ipset,
+}
+
+/// The options for the form of an answer, as they were given.
+#[derive(Clone, Copy, Debug, PartialEq, Eq)]
+pub struct FormOptions<'a> {
+    /// `--format`
+    pub format: Option<&'a str>,
+    /// `--ranges`
+    pub ranges: bool,
+    /// `--prefix`
+    pub prefix: Option<&'a str>,
+    /// `--min-length`
+    pub min_length: Option<&'a str>,
+    /// `--ipv4-set` and `--ipv6-set`
+    pub sets: SetNames<'a>,
+    /// `--maxelem`
+    pub maxelem: Option<&'a str>,
+}
+
+/// Why the options of a form do not go together.
+#[derive(Clone, Copy, Debug, PartialEq, Eq, Drop, thiserror::Error)]
+pub enum FormFault<'a> {
+    /// A text before each line, and the form has no such lines.
+    #[error("--prefix is for the formats plain and ranges")]
+    Prefix,
+    /// The text before each line has a line break.
+    #[error("--prefix has a line break")]
+    LineBreak,
+    /// A minimum prefix length, and the form has no networks.
+    #[error("--min-length is not for ranges, which have no prefix length")]
+    Ranges,
+    /// The minimum prefix length is not one.
+    #[error("not a prefix length")]
+    Length(&'a str),
+    /// The name of a set, and the form has no sets.
+    #[error("--ipv4-set and --ipv6-set are for the formats nft and ipset")]
+    Sets,
+    /// No set has a name.
+    #[error("name a set by --ipv4-set or --ipv6-set")]
+    NoSet,
+    /// The text does not name a set of nft.
+    #[error("not a family, a table and a set of nft, such as inet filter allowed")]
+    NftName(&'a str),
+    /// The text does not name a set of ipset.
+    #[error("not a name of a set of ipset, such as allowed, or longer than 27 bytes")]
+    IpsetName(&'a str),
+    /// Both names are of one set.
+    #[error("--ipv4-set and --ipv6-set name one set")]
+    OneSet,
+    /// One of the sets of ipset has the name of the other's new set.
+    #[error("one of --ipv4-set and --ipv6-set is the other with .new, the name of its new set")]
+    NewSet,
+    /// A `maxelem`, and the form is another.
+    #[error("--maxelem is for the format ipset")]
+    OtherMaxelem,
+    /// The text is not a `maxelem`.
+    #[error("not a number from 1 to 4294967295")]
+    Maxelem(&'a str),
+}
+
+impl<'a> FormFault<'a> {
+    /// Returns the value of the option, if the fault is about one.
+    ///
+    /// ```text
+    /// Length("x"): Some("x"); NoSet: None
+    /// ```
+    pub fn value(self) -> Option<&'a str>
+        ensures { option_map (λ text. text.now) result ≡ fault_value self.entry }
+    {
+        match self {
+            FormFault::Length(value) => Some(value),
+            FormFault::NftName(value) => Some(value),
+            FormFault::IpsetName(value) => Some(value),
+            FormFault::Maxelem(value) => Some(value),
+            _ => None,
+        }
+    }
+}
+
+impl FormName {
+    /// Returns the form of this name, or `None` if there is none.
+    ///
+    /// ```text
+    /// "json": Json; "JSON" and "": None
+    /// ```
+    pub fn from_name(name: &str) -> Option<FormName>
+        ensures { (form : FormName) → (result ≡ Some form) ↔ (name.now ≡ form_text form) }
+    {
+        match name {
+            "plain" => Some(FormName::Plain),
+            "ranges" => Some(FormName::Ranges),
+            "json" => Some(FormName::Json),
+            "csv" => Some(FormName::Csv),
+            "nft" => Some(FormName::Nft),
+            "ipset" => Some(FormName::Ipset),
+            _ => None,
+        }
+    }
+
+    /// Whether a text can be before each of its lines.
+    fn has_lines(self) -> bool
+        ensures { IsTrue result ↔ HasLines self }
+    {
+        match self {
+            FormName::Plain => true,
+            FormName::Ranges => true,
+            _ => false,
+        }
+    }
+
+    /// Whether it has sets with names.
+    fn has_sets(self) -> bool
+        ensures { IsTrue result ↔ HasSets self }
+    {
+        match self {
+            FormName::Nft => true,
+            FormName::Ipset => true,
+            _ => false,
+        }
+    }
+}
+
+/// Whether the text has a line break.
+fn has_line_break(text: &str) -> bool
+    ensures { result ≡ list_any (λ byte. byte == 10) text.now }
+{
+    text.bytes().any(|byte| byte == b'\n')
+}
+
+/// Reads a `maxelem`: a number from 1 to 4294967295 without leading zeros.
+fn read_maxelem(digits: &str) -> Option<u32>
+    ensures { (n : ℕ) → (result ≡ Some n) ↔ IsMaxelem digits.now n }
+{
+    match read_number(digits) {
+        Some(number) if number > 0 => Some(number),
+        _ => None,
+    }
+}
+
+impl<'a> FormOptions<'a> {
+    /// The form that the options name: plain, if none does.
+    fn name(self) -> FormName
+        ensures { IsFormNamed self.entry result }
+    {
+        match self.format {
+            Some(word) => FormName::from_name(word).unwrap_or(FormName::Plain),
+            None if self.ranges => FormName::Ranges,
+            None => FormName::Plain,
+        }
+    }
+
+    /// The `maxelem`, or the greatest.
+    fn most_elements(self, form: FormName) -> Result<u32, FormFault<'a>>
+        ensures good { IfOk result (IsMostElements form self.entry) }
+        ensures fault { IfErr result (IsFormFault form self.entry) }
+    {
+        let Some(word) = self.maxelem else {
+            return Ok(MOST_ELEMENTS);
+        };
+        match form {
+            FormName::Ipset => match read_maxelem(word) {
+                Some(number) => Ok(number),
+                None => Err(FormFault::Maxelem(word)),
+            },
+            _ => Err(FormFault::OtherMaxelem),
+        }
+    }
+
+    /// Refuses a text before each line if the form has no lines, or if the text has a line break.
+    fn check_prefix(self, form: FormName) -> Result<(), FormFault<'a>>
+        ensures good { OnOk result (IsGoodPrefix form self.entry) }
+        ensures fault { IfErr result (IsFormFault form self.entry) }
+    {
+        match self.prefix {
+            Some(_) if !form.has_lines() => Err(FormFault::Prefix),
+            Some(text) if has_line_break(text) => Err(FormFault::LineBreak),
+            _ => Ok(()),
+        }
+    }
+
+    /// Whether a set has a name.
+    fn has_names(self) -> bool
+        ensures { IsTrue result ↔ HasNames self.entry }
+    {
+        self.sets.ipv4.is_some() || self.sets.ipv6.is_some()
+    }
+
+    /// Refuses names if the form has no sets, and no names if it has.
+    fn check_sets(self, form: FormName) -> Result<(), FormFault<'a>>
+        ensures good { OnOk result (AreGoodSets form self.entry) }
+        ensures fault { IfErr result (IsFormFault form self.entry) }
+    {
+        match (self.has_names(), form.has_sets()) {
+            (true, false) => Err(FormFault::Sets),
+            (false, true) => Err(FormFault::NoSet),
+            _ => Ok(()),
+        }
+    }
+
+    /// The minimum prefix length, or 0 if there is none.
+    fn min_length(self, form: FormName) -> Result<u8, FormFault<'a>>
+        ensures good { IfOk result (IsMinLength form self.entry) }
+        ensures fault { IfErr result (IsFormFault form self.entry) }
+    {
+        let Some(word) = self.min_length else {
+            return Ok(0);
+        };
+        match form {
+            FormName::Ranges => Err(FormFault::Ranges),
+            _ => match read_length(word) {
+                Some(length) => Ok(length),
+                None => Err(FormFault::Length(word)),
+            },
+        }
+    }
+
+    /// Refuses a name that no set of the form has.
+    fn check_name(self, form: FormName, name: Option<&'a str>) -> Result<(), FormFault<'a>>
+        ensures good { OnOk result (IsGoodName form name.entry) }
+        ensures fault { (name.entry ≡ self.entry.sets.ipv4) ⊎ (name.entry ≡ self.entry.sets.ipv6)
+            → IfErr result (IsFormFault form self.entry) }
+    {
+        let Some(text) = name else {
+            return Ok(());
+        };
+        match form {
+            FormName::Nft if !is_nft_name(text) => Err(FormFault::NftName(text)),
+            FormName::Ipset if !is_ipset_name(text) => Err(FormFault::IpsetName(text)),
+            _ => Ok(()),
+        }
+    }
+
+    /// Refuses two names if the commands for one of the sets change the other.
+    fn check_both(self, form: FormName) -> Result<(), FormFault<'a>>
+        ensures good { OnOk result (AreGoodBoth form self.entry) }
+        ensures fault { IfErr result (IsFormFault form self.entry) }
+    {
+        let Some(ipv4) = self.sets.ipv4 else {
+            return Ok(());
+        };
+        let Some(ipv6) = self.sets.ipv6 else {
+            return Ok(());
+        };
+        match form {
+            FormName::Nft if !are_nft_sets(ipv4, ipv6) => Err(FormFault::OneSet),
+            FormName::Ipset if ipv4 == ipv6 => Err(FormFault::OneSet),
+            FormName::Ipset if !are_ipset_sets(ipv4, ipv6) => Err(FormFault::NewSet),
+            _ => Ok(()),
+        }
+    }
+
+    /// The form of this name.
+    fn form(self, name: FormName, most: u32) -> AnswerForm<'a>
+        ensures { IsFormOf name self.entry most result }
+    {
+        let prefix = self.prefix.unwrap_or("");
+        match name {
+            FormName::Plain => AnswerForm::Networks(prefix),
+            FormName::Ranges => AnswerForm::Ranges(prefix),
+            FormName::Json => AnswerForm::Json,
+            FormName::Csv => AnswerForm::Csv,
+            FormName::Nft => AnswerForm::Nft(self.sets),
+            FormName::Ipset => AnswerForm::Ipset(self.sets, most),
+        }
+    }
+
+    /// Returns what the options ask for, or the first reason why they do not go together. Allocates nothing.
+    ///
+    /// ```text
+    /// no option:                        Networks(""), of any prefix length
+    /// --format json --min-length 24:    Json, of prefix lengths from 24
+    /// --format json --prefix x:         Err(Prefix)
+    /// ```
+    pub fn request(self) -> Result<FormRequest<'a>, FormFault<'a>>
+        ensures request { IfOk result (IsRequestOf self.entry) }
+        ensures fault { IfErr result (λ fault. (form : FormName) × IsFormNamed self.entry form
+            × IsFormFault form self.entry fault) }
+    {
+        let name = self.name();
+        let most = self.most_elements(name)?;
+        self.check_prefix(name)?;
+        self.check_sets(name)?;
+        let min_length = self.min_length(name)?;
+        self.check_name(name, self.sets.ipv4)?;
+        self.check_name(name, self.sets.ipv6)?;
+        self.check_both(name)?;
+        Ok(FormRequest {
+            form: self.form(name, most),
+            min_length,
+        })
+    }
+}

@@ -1,0 +1,58 @@
+//! Reports of failures.
+ghost use Rattle.std.specs.Prelude.{◌≡◌, OnOk};
+ghost use Rattle.ipnet_text.specs.Outputs.{IsWritten, IsFrontWritten};
+ghost use Rattle.netset_lib.specs.Reports.{words_line, long_words};
+
+use arrayvec::ArrayString;
+use ipnet_lists::{Part, write_parts};
+use itoa::Buffer;
+use std::io;
+use std::io::Write;
+
+/// The words of the report if memory runs out.
+pub const OUT_OF_MEMORY: &str = "out of memory";
+
+/// The words of the report if a write fails, or the flush after it.
+pub const UNWRITABLE: &str = "output cannot be written";
+
+/// Reports these words in one line. If a write fails, a front of the line has been written.
+///
+/// ```text
+/// "out of memory": faults gets "netset: out of memory\n"
+/// ```
+pub fn report_words<X: Write>(faults: &mut X, words: &str) -> io::Result<()>
+    ensures whole { OnOk result (IsWritten (λ t. t ≡ words_line words.now)
+        (X.contents faults.old) (X.contents faults.new)) }
+    ensures front { IsFrontWritten (λ t. t ≡ words_line words.now) (X.contents faults.old) (X.contents faults.new) }
+{
+    write_parts(
+        faults,
+        &[
+            Part::Words("netset: "),
+            Part::Plain(words.as_bytes()),
+            Part::Words("\n"),
+        ],
+    )
+}
+
+/// The most bytes that the words of a failure have, without refused lines.
+pub const LONGEST_WORDS: usize = 80;
+
+/// The words of a failure.
+pub type Words = ArrayString<LONGEST_WORDS>;
+
+/// Returns the words for a prefix length that is above the greatest of its family.
+///
+/// ```text
+/// 33 and 32: "/33: the prefix length is above 32"
+/// ```
+pub fn long_words(length: u8, most: u8) -> Words
+    ensures { result.bytes ≡ long_words length most }
+{
+    let mut words = ArrayString::new();
+    words.push_str("/");
+    words.push_str(Buffer::new().format(length));
+    words.push_str(": the prefix length is above ");
+    words.push_str(Buffer::new().format(most));
+    words
+}
