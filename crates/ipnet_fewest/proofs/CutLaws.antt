@@ -15,16 +15,16 @@ use Rattle.ipnet_fewest.proofs.MatchLaws.{longest_or_none}
 
 -- ---- two lists in the halves of a block, side by side
 
-module _ (R S : List (Route ℕ)) (l r block : Network) (h : AreHalvesOf l r block)
+module _ (R S : List (Route ℕ)) (l r : Network) (apart : (x : Address) → InBlock l x → InBlock r x → ⊥)
     (in_l : (x : Route ℕ) → Contains R x → IsSubnetOf x.0 l) (in_r : (x : Route ℕ) → Contains S x → IsSubnetOf x.0 r)
     (both : List (Route ℕ)) (has_left : (x : Route ℕ) → Contains R x → Contains both x)
     (has_right : (x : Route ℕ) → Contains S x → Contains both x)
     (cases : (x : Route ℕ) → Contains both x → Contains R x ⊎ Contains S x) where
   only_left : (a : Address) → InBlock l a → (x : Route ℕ) → Contains both x → InBlock x.0 a → Contains R x
-  only_left a in_a x c b = elim (cases x c) [ | inl d ↦ d | inr d ↦ absurd (h.disjoint a in_a (in_r x d a b)) ]
+  only_left a in_a x c b = elim (cases x c) [ | inl d ↦ d | inr d ↦ absurd (apart a in_a (in_r x d a b)) ]
 
   only_right : (a : Address) → InBlock r a → (x : Route ℕ) → Contains both x → InBlock x.0 a → Contains S x
-  only_right a in_a x c b = elim (cases x c) [ | inl d ↦ absurd (h.disjoint a (in_l x d a b) in_a) | inr d ↦ d ]
+  only_right a in_a x c b = elim (cases x c) [ | inl d ↦ absurd (apart a (in_l x d a b) in_a) | inr d ↦ d ]
 
   pub to_left : (a : Address) → InBlock l a → (v w : ℕ) → IsRouted both v a w → IsRouted R v a w
   to_left a in_a = same_routed both R a (only_left a in_a) (λ x c b. has_left x c)
@@ -78,10 +78,10 @@ module _ (front back others : List (Route ℕ)) (value v : ℕ) (l r block : Net
       within = p.in_second;
       some = λ x c. inside.some x (p.from_second x c);
     };
-    first_as = λ a b w g. to_left front back l r block h in_l in_r (front ++ back)
+    first_as = λ a b w g. to_left front back l r h.disjoint in_l in_r (front ++ back)
         (Contains-append_left front back) (Contains-append_right front back) (Contains-append_cases front back) a b
         value w (as_wanted a (h.first_within a b) w (of_l.below a b w g));
-    second_as = λ a b w g. to_right front back l r block h in_l in_r (front ++ back)
+    second_as = λ a b w g. to_right front back l r h.disjoint in_l in_r (front ++ back)
         (Contains-append_left front back) (Contains-append_right front back) (Contains-append_cases front back) a b
         value w (as_wanted a (h.second_within a b) w (of_r.below a b w g));
     few = p.few;

@@ -26,32 +26,38 @@ last_of_list xs t x c = elim (Contains-append_cases xs (t ∷ []) x c) [
 ]
 
 -- with a route for the block itself, whatever its value is
-module _ (wanted made : List (Route ℕ)) (value v : ℕ) (block : Network) (len : ℕ) (given : ℕ) (less : len < block.prefix_len)
-    (valid : IsNetwork block) (truncated : IsTruncated block) (some : 0 < v)
-    (m : AreMade wanted value block block.prefix_len v made) where
+module _ (wanted made : List (Route ℕ)) (value v : ℕ) (block : Network) (valid : IsNetwork block)
+    (truncated : IsTruncated block) (some : 0 < v) (m : AreMade wanted value block block.prefix_len v made) where
   own_route : Route ℕ
   own_route = (block, v)
 
-  all : List (Route ℕ)
-  all = made ++ own_route ∷ []
-
   each : (P : Route ℕ → Type 0) → P own_route → ((x : Route ℕ) → Contains made x → P x) → (x : Route ℕ)
-      → Contains all x → P x
+      → Contains (made ++ (block, v) ∷ []) x → P x
   each P here there x c = elim (last_of_list made own_route x c) [ | inl e ↦ subst P e here | inr d ↦ there x d ]
 
-  pub made_on_top : AreMade wanted value block len given (made ++ (block, v) ∷ [])
-  made_on_top = record {
-    inside = record {
-      valid = each (λ x. IsNetwork x.0) valid m.inside.valid;
-      within = each (λ x. IsSubnetOf x.0 block) (λ a b. b) m.inside.within;
-      some = each (λ x. 0 < x.1) some m.inside.some;
-    };
-    truncated = each (λ x. IsTruncated x.0) truncated m.truncated;
+  pub top_inside : AreRoutesIn block (made ++ (block, v) ∷ [])
+  top_inside = record {
+    valid = each (λ x. IsNetwork x.0) valid m.inside.valid;
+    within = each (λ x. IsSubnetOf x.0 block) (λ a b. b) m.inside.within;
+    some = each (λ x. 0 < x.1) some m.inside.some;
+  }
+
+  pub top_truncated : (x : Route ℕ) → Contains (made ++ (block, v) ∷ []) x → IsTruncated x.0
+  top_truncated = each (λ x. IsTruncated x.0) truncated m.truncated
+
+  pub top_as_wanted : (given : ℕ) → RoutesAs block (made ++ (block, v) ∷ []) given wanted value
+  top_as_wanted given a b w g = m.as_wanted a b w
+      (over_route (made ++ (block, v) ∷ []) made own_route a
+      (Contains-append_right made (own_route ∷ []) own_route (contains_here own_route [])) b
+      (Contains-append_left made (own_route ∷ [])) (last_of_list made own_route) m.longer given w g)
+
+  pub made_on_top : (len given : ℕ) → len < block.prefix_len
+      → AreMade wanted value block len given (made ++ (block, v) ∷ [])
+  made_on_top len given less = record {
+    inside = top_inside;
+    truncated = top_truncated;
     longer = each (λ x. len < x.0.prefix_len) less (λ x c. omega (arith, less, m.longer x c));
-    as_wanted = λ a b w g. m.as_wanted a b w
-        (over_route all made own_route a
-        (Contains-append_right made (own_route ∷ []) own_route (contains_here own_route [])) b
-        (Contains-append_left made (own_route ∷ [])) (last_of_list made own_route) m.longer given w g);
+    as_wanted = top_as_wanted given;
   }
 
 -- the routes of both halves
@@ -77,13 +83,13 @@ module _ (front back one two : List (Route ℕ)) (value v len : ℕ) (l r block 
     truncated = each_of (λ x. IsTruncated x.0) m.truncated n.truncated;
     longer = each_of (λ x. len < x.0.prefix_len) m.longer n.longer;
     as_wanted = λ a b w g. elim (h.all a b) [
-      | inl in_a ↦ from_left front back l r block h in_l in_r (front ++ back) (Contains-append_left front back)
+      | inl in_a ↦ from_left front back l r h.disjoint in_l in_r (front ++ back) (Contains-append_left front back)
           (Contains-append_right front back) (Contains-append_cases front back) a in_a value w
-          (m.as_wanted a in_a w (to_left one two l r block h m.inside.within n.inside.within (two ++ one)
+          (m.as_wanted a in_a w (to_left one two l r h.disjoint m.inside.within n.inside.within (two ++ one)
           (Contains-append_right two one) (Contains-append_left two one) cases a in_a v w g))
-      | inr in_a ↦ from_right front back l r block h in_l in_r (front ++ back) (Contains-append_left front back)
+      | inr in_a ↦ from_right front back l r h.disjoint in_l in_r (front ++ back) (Contains-append_left front back)
           (Contains-append_right front back) (Contains-append_cases front back) a in_a value w
-          (n.as_wanted a in_a w (to_right one two l r block h m.inside.within n.inside.within (two ++ one)
+          (n.as_wanted a in_a w (to_right one two l r h.disjoint m.inside.within n.inside.within (two ++ one)
           (Contains-append_right two one) (Contains-append_left two one) cases a in_a v w g))
     ];
   }

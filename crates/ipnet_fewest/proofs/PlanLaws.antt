@@ -28,4 +28,4 @@ joined_routes p (Then earlier first second choice) v =
 
 pub joined_sized : (p q : Plan) → IsSized p → IsSized q → IsSized (joined_plan p q)
 joined_sized p Nothing a b = a
-joined_sized p (Then earlier first second choice) a b = (joined_sized p earlier a b.0, b.1)
+joined_sized p (Then earlier first second choice) a b = (joined_sized p earlier a b.0, b.1, b.2, b.3)

@@ -34,7 +34,7 @@ module _ (front back : List (Route ℕ)) (value : ℕ) (l r block : Network) (h 
       record {
         address = u.address;
         inside = h.first_within u.address u.inside;
-        unmatched = λ v g. u.unmatched v (to_left front back l r block h in_l in_r (front ++ back)
+        unmatched = λ v g. u.unmatched v (to_left front back l r h.disjoint in_l in_r (front ++ back)
             (Contains-append_left front back) (Contains-append_right front back) (Contains-append_cases front back)
             u.address u.inside value v g);
       }
@@ -43,7 +43,7 @@ module _ (front back : List (Route ℕ)) (value : ℕ) (l r block : Network) (h 
       record {
         address = u.address;
         inside = h.second_within u.address u.inside;
-        unmatched = λ v g. u.unmatched v (to_right front back l r block h in_l in_r (front ++ back)
+        unmatched = λ v g. u.unmatched v (to_right front back l r h.disjoint in_l in_r (front ++ back)
             (Contains-append_left front back) (Contains-append_right front back) (Contains-append_cases front back)
             u.address u.inside value v g);
       }
@@ -197,8 +197,8 @@ module _ (choice : Choice) (front back : List (Route ℕ)) (value : ℕ) (block 
       (record {
         are = made_both front back one (two ++ (r, w) ∷ []) value v block.prefix_len l r block h in_l in_r
             (made_shorter front one value v l l.prefix_len block.prefix_len (omega (arith, h.first_len)) (s.made v c))
-            (made_on_top back two value w r block.prefix_len v (omega (arith, h.second_len)) h.second_network
-            h.second_truncated some (t.made w in_second));
+            (made_on_top back two value w r h.second_network h.second_truncated some (t.made w in_second)
+            block.prefix_len v (omega (arith, h.second_len)));
         size = omega (
           arith,
           length-append (two ++ (r, w) ∷ []) one,
@@ -220,8 +220,8 @@ module _ (choice : Choice) (front back : List (Route ℕ)) (value : ℕ) (block 
       (subst (λ z. IsRight v (z ++ (one ++ (l, w) ∷ []))) (sym (append_nil two))
       (record {
         are = made_both front back (one ++ (l, w) ∷ []) two value v block.prefix_len l r block h in_l in_r
-            (made_on_top front one value w l block.prefix_len v (omega (arith, h.first_len)) h.first_network
-            h.first_truncated some (s.made w has))
+            (made_on_top front one value w l h.first_network h.first_truncated some (s.made w has)
+            block.prefix_len v (omega (arith, h.first_len)))
             (made_shorter back two value v r r.prefix_len block.prefix_len (omega (arith, h.second_len)) (t.made v c));
         size = omega (
           arith,

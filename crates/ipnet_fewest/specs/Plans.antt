@@ -1,6 +1,7 @@
 -- The routes that follow from a list of choices and a value. Only private contracts cite these.
-use Rattle.std.specs.Prelude.{◌≡◌, ℕ, ⊤, ◌<◌, Bool, List, [], ◌∷◌, ◌++◌, length, get_or, list_any, nat_eq}
+use Rattle.std.specs.Prelude.{◌≡◌, ℕ, ⊤, ◌<◌, Bool, List, [], ◌∷◌, ◌++◌, length, get_or, nat_eq}
 use Rattle.std.specs.Prelude.{if◌then◌else◌}
+use Rattle.std.specs.List.{list_any}
 use Rattle.ipnet.specs.NetworkOf.{ip_network}
 use Rattle.ipnet_routes.specs.Routes.{Route}
 use Rattle.ipnet_fewest.specs.declared.choice.Choice.{Choice}
@@ -17,12 +18,17 @@ choices_of Nothing = []
 choices_of (Then earlier first second choice) =
     choices_of earlier ++ (choices_of first ++ (choices_of second ++ choice ∷ []))
 
--- Each choice has a best value of its first half, and says how many choices are in its halves.
+-- The choice has a best value of its first half, and says how many choices are in its halves.
+pub record HasSizes (choice : Choice) (first second : ℕ) : Type 0 where
+  pub some : 0 < length choice.first_values.items
+  pub first_is : choice.first_size ≡ first
+  pub second_is : choice.second_size ≡ second
+
+-- Each choice of the plan does.
 abbrev pub IsSized : Plan → Type 0
 IsSized Nothing = ⊤
 IsSized (Then earlier first second choice) = IsSized earlier × IsSized first × IsSized second
-    × (0 < length choice.first_values.items) × (choice.first_size ≡ length (choices_of first))
-    × (choice.second_size ≡ length (choices_of second))
+    × HasSizes choice (length (choices_of first)) (length (choices_of second))
 
 -- The value is one of the best of the first half.
 abbrev pub is_first : Choice → ℕ → Bool
@@ -50,3 +56,7 @@ routes_for Nothing value = []
 routes_for (Then earlier first second choice) value =
     ((routes_for second (second_value choice value) ++ second_route choice value)
     ++ (routes_for first (first_value choice value) ++ first_route choice value)) ++ routes_for earlier value
+
+-- The choices are those of a plan.
+abbrev pub HasPlan : List Choice → Type 0
+HasPlan choices = (plan : Plan) × IsSized plan × (choices_of plan ≡ choices)

@@ -1,6 +1,6 @@
 -- What is known of a block: the values with which it needs the fewest routes. Only private contracts cite these.
 -- A list of routes has a value beside it: the value of the addresses without a match. The value 0 is for no value.
-use Rattle.std.specs.Prelude.{◌≡◌, ℕ, ◌<◌, ◌≤◌, ◌⊎◌, List, length, Contains}
+use Rattle.std.specs.Prelude.{◌≡◌, ◌≢◌, ℕ, ◌+◌, ◌<◌, ◌≤◌, ◌⊎◌, ◌↔◌, List, [], ◌∷◌, length, get_or, Contains}
 use Rattle.std.specs.List.Sorted.{IsNonDecreasing}
 use Rattle.ipnet_base.specs.Address.{Address}
 use Rattle.ipnet_base.specs.Network.{Network, IsNetwork, InBlock, IsSubnetOf, IsTruncated}
@@ -93,3 +93,14 @@ pub record AreTableIn (around : Network) (networks : List Network) : Type 0 wher
 -- No value of the routes is 0.
 abbrev pub HaveValues : List (Route ℕ) → Type 0
 HaveValues routes = (r : Route ℕ) → Contains routes r → 0 < r.1
+
+-- The first value of one of the lists is 0, and 0 is the only value; or else, the values are those of both lists.
+pub record AreAllValues (first second values : List ℕ) : Type 0 where
+  pub first_some : get_or first 0 0 ≢ 0
+  pub second_some : get_or second 0 0 ≢ 0
+  pub sorted : IsNonDecreasing values
+  pub members : (v : ℕ) → Contains values v ↔ (Contains first v ⊎ Contains second v)
+
+abbrev pub AreValuesOfBoth : List ℕ → List ℕ → List ℕ → Type 0
+AreValuesOfBoth first second values =
+    (((get_or first 0 0 ≡ 0) ⊎ (get_or second 0 0 ≡ 0)) × (values ≡ 0 ∷ [])) ⊎ AreAllValues first second values

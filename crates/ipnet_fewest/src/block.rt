@@ -1,8 +1,16 @@
 //! The best values of a block, from its halves.
+ghost use Rattle.std.specs.Prelude.{◌≡◌, ◌<◌, ◌++◌, ℕ, List, length, IfOk};
+ghost use Rattle.std.specs.List.Sorted.{IsNonDecreasing};
+ghost use Rattle.ipnet_base.specs.Network.{Network};
+ghost use Rattle.ipnet.specs.NetworkOf.{ip_network};
+ghost use Rattle.ipnet_routes.specs.Routes.{Route, ip_routes, ip_networks};
+ghost use Rattle.ipnet_fewest.specs.declared.choice.Choice.{Choice};
+ghost use Rattle.ipnet_fewest.specs.Solved.{AreTableIn, HaveValues};
+ghost use Rattle.ipnet_fewest.specs.SolvedBlocks.{AreBestValues, IsBlock, AreHalfBlocks};
 
 use crate::choice::Choice;
 use crate::halves::{count_before, halves};
-use crate::values::{all_values, common_values, has_value, one_value};
+use crate::values::{common_values, one_value, values_of_both};
 use ipnet::IpNet;
 use std::alloc::{AllocError, Global};
 
@@ -22,21 +30,27 @@ fn joined(
     choices: &mut Vec<Choice>,
     first: Block,
     second: Block,
-) -> Result<Vec<usize>, AllocError> {
+) -> Result<Vec<usize>, AllocError>
+    requires first { 0 < length first.values.items }
+    requires second { 0 < length second.values.items }
+    requires first_sorted { IsNonDecreasing first.values.items }
+    requires second_sorted { IsNonDecreasing second.values.items }
+    ensures { (old : List Choice) (front back : List (Route ℕ)) (value : ℕ) (around : Network)
+        → AreHalfBlocks old choices.old.items front back value around first second
+        → IfOk result (λ values.
+        AreBestValues old choices.new.items (front ++ back) value around values.items) }
+{
     let common = common_values(alloc, first.values.as_slice(), second.values.as_slice())?;
     if !common.is_empty() {
         return Ok(common);
     }
-    let values = if first.values[0] == 0 || second.values[0] == 0 {
-        one_value(alloc, 0)?
-    } else {
-        all_values(alloc, first.values.as_slice(), second.values.as_slice())?
-    };
+    let values = values_of_both(alloc, first.values.as_slice(), second.values.as_slice())?;
+    let second_value = second.values[0];
     choices.push(Choice {
         first: first.network,
         second: second.network,
         first_values: first.values,
-        second_value: second.values[0],
+        second_value,
         first_size: first.size,
         second_size: second.size,
     })?;
@@ -51,7 +65,12 @@ pub(crate) fn solved(
     routes: &[(IpNet, usize)],
     around: &IpNet,
     value: usize,
-) -> Result<Block, AllocError> {
+) -> Result<Block, AllocError>
+    requires table { AreTableIn (ip_network around.now) (ip_networks routes.now) }
+    requires values { HaveValues (ip_routes routes.now) }
+    ensures { IfOk result (λ block. IsBlock choices.old.items choices.new.items (ip_routes routes.now) value
+        (ip_network around.now) block) }
+{
     let start = choices.len();
     if routes.is_empty() {
         return Ok(Block {
@@ -63,10 +82,10 @@ pub(crate) fn solved(
     if routes[0].0.prefix_len() == around.prefix_len() {
         return solved(alloc, choices, &routes[1..], around, routes[0].1);
     }
-    let (first, second) = halves(around);
-    let (front, back) = routes.split_at(count_before(routes, &second));
-    let first = solved(alloc, choices, front, &first, value)?;
-    let second = solved(alloc, choices, back, &second, value)?;
+    let (first_half, second_half) = halves(around);
+    let (front, back) = routes.split_at(count_before(routes, &second_half));
+    let first = solved(alloc, choices, front, &first_half, value)?;
+    let second = solved(alloc, choices, back, &second_half, value)?;
     let values = joined(alloc, choices, first, second)?;
     Ok(Block {
         network: *around,

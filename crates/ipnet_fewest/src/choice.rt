@@ -1,6 +1,8 @@
 //! Choices that are left open until the value of a block is known, and the routes that follow from them.
+ghost use Rattle.std.specs.Prelude.{◌≡◌, ◌++◌, OnOk};
+ghost use Rattle.ipnet_routes.specs.Routes.{ip_routes};
+ghost use Rattle.ipnet_fewest.specs.Plans.{Plan, choices_of, routes_for, IsSized, HasPlan};
 
-use crate::values::has_value;
 use ipnet::IpNet;
 use std::alloc::AllocError;
 
@@ -20,17 +22,21 @@ pub(crate) struct Choice {
     pub(crate) second_size: usize,
 }
 
-/// Adds the routes in the block of these choices, if the value of the block is known. The last routes come first.
+/// Adds the routes in the block of these choices, if the block has this value. The last routes come first.
 pub(crate) fn push_routes(
     routes: &mut Vec<(IpNet, usize)>,
     choices: &[Choice],
     value: usize,
-) -> Result<(), AllocError> {
+) -> Result<(), AllocError>
+    requires { HasPlan choices.now }
+    ensures { OnOk result ((plan : Plan) → IsSized plan → choices_of plan ≡ choices.now
+        → ip_routes routes.new.items ≡ ip_routes routes.old.items ++ routes_for plan value) }
+{
     let mut left = choices;
     while let Some((choice, earlier)) = left.split_last() {
         let (rest, second) = earlier.split_at(earlier.len() - choice.second_size);
         let (rest, first) = rest.split_at(rest.len() - choice.first_size);
-        if has_value(choice.first_values.as_slice(), value) {
+        if choice.first_values.contains(&value) {
             push_routes(routes, second, choice.second_value)?;
             routes.push((choice.second, choice.second_value))?;
             push_routes(routes, first, value)?;

@@ -1,16 +1,14 @@
 //! Tables with the fewest routes: each address has the value that it has in a given table.
 #![tactic(auto)]
-ghost use Rattle.std.specs.Prelude.{◌≡◌};
 
 mod block;
 mod choice;
+mod fewest;
 mod halves;
+mod numbers;
 mod values;
 
-pub mod fewest;
+pub mod laws;
+pub mod table;
 
-pub fn probe() -> usize
-    ensures { result ≡ 0 }
-{
-    0
-}
+pub use table::shortest_table;

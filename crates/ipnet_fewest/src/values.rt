@@ -1,21 +1,35 @@
 //! Lists of numbers in ascending order: the values that are best for a block.
+ghost use Rattle.std.specs.Prelude.{◌≡◌, ◌<◌, ◌⊎◌, ◌↔◌, [], ◌∷◌, ℕ, length, Contains, IsTrue, IfOk};
+ghost use Rattle.std.specs.List.Sorted.{IsNonDecreasing};
+ghost use Rattle.ipnet_fewest.specs.Solved.{AreValuesOfBoth};
 
 use std::alloc::{AllocError, Global};
 
 /// Returns the list of one value.
-pub(crate) fn one_value(alloc: Global, value: usize) -> Result<Vec<usize>, AllocError> {
+pub(crate) fn one_value(alloc: Global, value: usize) -> Result<Vec<usize>, AllocError>
+    ensures { IfOk result (λ values. values.items ≡ value ∷ []) }
+{
     let mut values = Vec::with_capacity(alloc, 1)?;
     values.push(value)?;
     Ok(values)
 }
 
 /// Whether the value is in the list.
-pub(crate) fn has_value(values: &[usize], value: usize) -> bool {
+fn has_value(values: &[usize], value: usize) -> bool
+    requires { IsNonDecreasing values.now }
+    ensures { IsTrue result ↔ Contains values.now value }
+{
     values.binary_search(&value).is_ok()
 }
 
 /// Returns the values of the first list that are in the second.
-fn values_in(alloc: Global, first: &[usize], second: &[usize]) -> Result<Vec<usize>, AllocError> {
+fn values_in(alloc: Global, first: &[usize], second: &[usize]) -> Result<Vec<usize>, AllocError>
+    requires first { IsNonDecreasing first.now }
+    requires second { IsNonDecreasing second.now }
+    ensures sorted { IfOk result (λ values. IsNonDecreasing values.items) }
+    ensures members { IfOk result (λ values. (v : ℕ)
+        → Contains values.items v ↔ (Contains first.now v × Contains second.now v)) }
+{
     let mut common = Vec::new(alloc);
     for index in 0..first.len() {
         let value = first[index];
@@ -31,7 +45,13 @@ pub(crate) fn common_values(
     alloc: Global,
     first: &[usize],
     second: &[usize],
-) -> Result<Vec<usize>, AllocError> {
+) -> Result<Vec<usize>, AllocError>
+    requires first { IsNonDecreasing first.now }
+    requires second { IsNonDecreasing second.now }
+    ensures sorted { IfOk result (λ values. IsNonDecreasing values.items) }
+    ensures members { IfOk result (λ values. (v : ℕ)
+        → Contains values.items v ↔ (Contains first.now v × Contains second.now v)) }
+{
     if first.len() <= second.len() {
         return values_in(alloc, first, second);
     }
@@ -39,14 +59,30 @@ pub(crate) fn common_values(
 }
 
 /// Returns the values that are in one of the lists.
-pub(crate) fn all_values(
-    alloc: Global,
-    first: &[usize],
-    second: &[usize],
-) -> Result<Vec<usize>, AllocError> {
-    let mut values = Vec::with_capacity(alloc, first.len() + second.len())?;
-    values.extend_from_slice(first)?;
+fn all_values(alloc: Global, first: &[usize], second: &[usize]) -> Result<Vec<usize>, AllocError>
+    ensures sorted { IfOk result (λ values. IsNonDecreasing values.items) }
+    ensures members { IfOk result (λ values. (v : ℕ)
+        → Contains values.items v ↔ (Contains first.now v ⊎ Contains second.now v)) }
+{
+    let mut values = Vec::from_slice(alloc, first)?;
     values.extend_from_slice(second)?;
     values.sort()?;
     Ok(values)
+}
+
+/// Returns the best values of a block if its halves have these best values, and none in common. If an address of the
+/// block has no value, then only 0 is possible.
+pub(crate) fn values_of_both(
+    alloc: Global,
+    first: &[usize],
+    second: &[usize],
+) -> Result<Vec<usize>, AllocError>
+    requires first { 0 < length first.now }
+    requires second { 0 < length second.now }
+    ensures { IfOk result (λ values. AreValuesOfBoth first.now second.now values.items) }
+{
+    if first[0] == 0 || second[0] == 0 {
+        return one_value(alloc, 0);
+    }
+    all_values(alloc, first, second)
 }

@@ -1,0 +1,249 @@
+-- Blocks as the code has them, from their halves.
+use Rattle.std.proofs.Common.{◌≡◌, ◌≢◌, ℕ, ◌+◌, ◌-◌, ◌<◌, ◌≤◌, ◌⊎◌, ◌↔◌, List, [], ◌∷◌, ◌++◌, length, map, get_or, take}
+use Rattle.std.proofs.Common.{drop, Contains, tt, refl, sym, ap, ap₂, ◌∙◌, subst, arith, inl, inr, append_assoc}
+use Rattle.std.proofs.lemmas.List.{length-append, length-map, take-map, drop-map, map-append, take-append-drop}
+use Rattle.std.proofs.lemmas.List.Elements.{Contains-append_left, Contains-append_right}
+use Rattle.std.specs.List.Sorted.{IsNonDecreasing}
+use Rattle.ipnet_base.specs.Network.{Network, IsNetwork, IsSubnetOf}
+use Rattle.ipnet_base.proofs.BlockLaws.{own, own_in}
+use Rattle.ipnet_base.proofs.ListLaws.{contains_here, contains_there, all_at, All-read}
+use Rattle.ipnet_base.proofs.NestingLaws.{longer_from_subnet}
+use Rattle.ipnet.specs.declared.net.IpNet.{IpNet}
+use Rattle.ipnet.specs.NetLaws.{ip_valid}
+use Rattle.ipnet.specs.NetworkOf.{ip_network}
+use Rattle.ipnet_routes.specs.Routes.{Route, ip_routes, ip_networks}
+use Rattle.ipnet_routes.specs.RouteSteps.{IsPlaceOf}
+use Rattle.ipnet_routes.proofs.RouteLaws.{network_of_route, all_valid}
+use Rattle.ipnet_fewest.specs.declared.block.Block.{Block}
+use Rattle.ipnet_fewest.specs.declared.choice.Choice.{Choice}
+use Rattle.ipnet_fewest.specs.Plans.{Plan, Nothing, Then, choices_of, IsSized}
+use Rattle.ipnet_fewest.specs.Solved.{IsSolved, AreHalvesOf, AreTableIn, HaveValues, AreValuesOfBoth, AreAllValues}
+use Rattle.ipnet_fewest.specs.SolvedBlocks.{AreBestValues, IsBlock, AreHalfBlocks}
+use Rattle.ipnet_fewest.proofs.NumberLaws.{first_number}
+use Rattle.ipnet_fewest.proofs.PlanLaws.{joined_plan, joined_choices, joined_sized}
+use Rattle.ipnet_fewest.proofs.SolvedLaws.{solved_common, solved_zero, solved_all}
+use Rattle.ipnet_fewest.proofs.StepLaws.{solved_none, solved_under, one_sorted}
+use Rattle.ipnet_fewest.proofs.InsideLaws.{nested_by_len}
+use Rattle.ipnet_fewest.proofs.TableLaws.{rest_table, rest_longer, all_longer, front_table, back_table}
+
+-- ---- the best values of two halves
+
+module _ (old now : List Choice) (front back : List (Route ℕ)) (value : ℕ) (around : Network) (first second : Block)
+    (h : AreHalfBlocks old now front back value around first second) where
+  p : Plan
+  p = h.of_first.best.plan
+
+  q : Plan
+  q = h.of_second.best.plan
+
+  now_is : now ≡ old ++ (choices_of p ++ choices_of q)
+  now_is =
+      h.of_second.best.added ∙ ap (λ z. z ++ choices_of q) h.of_first.best.added
+      ∙ append_assoc old (choices_of p) (choices_of q)
+
+  pub best_common : (values : List ℕ) → 0 < length values → IsNonDecreasing values
+      → ((v : ℕ) → Contains values v ↔ (Contains first.values.items v × Contains second.values.items v))
+      → AreBestValues old now (front ++ back) value around values
+  best_common values some sorted are = record {
+    plan = joined_plan p q;
+    sized = joined_sized p q h.of_first.best.sized h.of_second.best.sized;
+    added = now_is ∙ ap (λ z. old ++ z) (sym (joined_choices p q));
+    solved = solved_common front back value (ip_network first.network) (ip_network second.network) around h.halves
+        h.in_first h.in_second first.values.items second.values.items p q h.of_first.best.solved
+        h.of_second.best.solved values some sorted are;
+  }
+
+  module _ (w : ℕ) (of_second : Contains second.values.items w)
+      (apart : (v : ℕ) → Contains first.values.items v → Contains second.values.items v → ⊥) where
+    choice : Choice
+    choice = record {
+      first = first.network;
+      second = second.network;
+      first_values = first.values;
+      second_value = w;
+      first_size = first.size;
+      second_size = second.size;
+    }
+
+    ones : List ℕ
+    ones = first.values.items
+
+    twos : List ℕ
+    twos = second.values.items
+
+    zero_first : get_or ones 0 0 ≡ 0 → Contains ones 0
+    zero_first e = subst (Contains ones) e (first_number ones h.of_first.best.solved.some)
+
+    zero_second : get_or twos 0 0 ≡ 0 → Contains twos 0
+    zero_second e = subst (Contains twos) e (first_number twos h.of_second.best.solved.some)
+
+    solved_both : (values : List ℕ) → AreValuesOfBoth ones twos values
+        → IsSolved (front ++ back) value around values (Then Nothing p q choice)
+    solved_both values (inl (z, e)) =
+        subst (λ vs. IsSolved (front ++ back) value around vs (Then Nothing p q choice)) (sym e)
+        (solved_zero choice front back value around h.halves h.in_first h.in_second twos p q
+        h.of_first.best.solved h.of_second.best.solved of_second apart
+        (elim z [ | inl a ↦ inl (zero_first a) | inr b ↦ inr (zero_second b) ]) (one_sorted 0))
+    solved_both values (inr a) =
+        let has : Contains values (get_or ones 0 0) =
+        (a.members (get_or ones 0 0)).1 (inl (first_number ones h.of_first.best.solved.some)) in
+        solved_all choice front back value around h.halves h.in_first h.in_second twos p q
+        h.of_first.best.solved h.of_second.best.solved of_second apart values a.sorted (omega (arith, has.1))
+        a.members
+        (λ c. a.first_some (h.of_first.best.solved.zero_is_only c (get_or ones 0 0)
+        (first_number ones h.of_first.best.solved.some)))
+        (λ c. a.second_some (h.of_second.best.solved.zero_is_only c (get_or twos 0 0)
+        (first_number twos h.of_second.best.solved.some)))
+
+    pub best_choice : (new : List Choice) → new ≡ now ++ choice ∷ [] → (values : List ℕ)
+        → AreValuesOfBoth ones twos values → AreBestValues old new (front ++ back) value around values
+    best_choice new e values are = record {
+      plan = Then Nothing p q choice;
+      sized = (tt, h.of_first.best.sized, h.of_second.best.sized, record {
+        some = h.of_first.best.solved.some;
+        first_is = h.of_first.size;
+        second_is = h.of_second.size;
+      });
+      added =
+          e ∙ ap (λ z. z ++ choice ∷ []) now_is
+          ∙ append_assoc old (choices_of p ++ choices_of q) (choice ∷ [])
+          ∙ ap (λ z. old ++ z) (append_assoc (choices_of p) (choices_of q) (choice ∷ []));
+      solved = solved_both values are;
+    }
+
+-- ---- a block without routes, and one with a route of its own
+
+append_none : {X : Type 0} (xs : List X) → xs ≡ xs ++ []
+append_none [] = refl
+append_none (x ∷ xs) = ap (λ z. x ∷ z) (append_none xs)
+
+pub best_none : (old : List Choice) (routes : List (IpNet × ℕ)) (value : ℕ) (around : Network) (values : List ℕ)
+    → routes ≡ [] → values ≡ value ∷ [] → AreBestValues old old (ip_routes routes) value around values
+best_none old routes value around values e of_one = record {
+  plan = Nothing;
+  sized = tt;
+  added = append_none old;
+  solved = subst (λ z. IsSolved (ip_routes z) value around values Nothing) (sym e)
+      (subst (λ z. IsSolved [] value around z Nothing) (sym of_one) (solved_none value around));
+}
+
+pub best_under : (old new : List Choice) (t : Route ℕ) (rest : List (Route ℕ)) (value : ℕ) (around : Network)
+    (block : Block) → IsSubnetOf around t.0
+    → ((x : Route ℕ) → Contains rest x → t.0.prefix_len < x.0.prefix_len) → 0 < t.1
+    → IsBlock old new rest t.1 around block → IsBlock old new (t ∷ rest) value around block
+best_under old new t rest value around block holds longer some b = record {
+  network = b.network;
+  best = record {
+    plan = b.best.plan;
+    sized = b.best.sized;
+    added = b.best.added;
+    solved = solved_under t rest value around block.values.items b.best.plan holds longer some b.best.solved;
+  };
+  size = b.size;
+}
+
+-- ---- the table around a block
+
+pub head_of : {X : Type 0} (xs : List X) (x : X) → 0 < length xs → x ≡ get_or xs 0 x → xs ≡ x ∷ drop 1 xs
+head_of [] x lt e = absurd (omega (arith, lt))
+head_of (y ∷ ys) x lt e = ap (λ z. z ∷ ys) (sym e)
+
+route : IpNet × ℕ → Route ℕ
+route r = (ip_network r.0, r.1)
+
+valid_in : (routes : List (IpNet × ℕ)) (n : Network) → Contains (ip_networks routes) n → IsNetwork n
+valid_in routes n c = all_at IsNetwork (ip_networks routes) (all_valid routes) n c
+
+-- the first route, and the others
+module _ (around : IpNet) (routes : List (IpNet × ℕ)) (r : IpNet × ℕ) (rest : List (IpNet × ℕ)) (e : routes ≡ r ∷ rest)
+    (h : AreTableIn (ip_network around) (ip_networks routes)) (values : HaveValues (ip_routes routes)) where
+  table : AreTableIn (ip_network around) (ip_networks (r ∷ rest))
+  table = subst (λ z. AreTableIn (ip_network around) (ip_networks z)) e h
+
+  all_values : HaveValues (ip_routes (r ∷ rest))
+  all_values = subst (λ z. HaveValues (ip_routes z)) e values
+
+  pub others_table : AreTableIn (ip_network around) (ip_networks rest)
+  others_table = rest_table (ip_network around) (ip_network r.0) (ip_networks rest) (ip_valid around)
+      (valid_in (r ∷ rest)) table
+
+  pub others_values : HaveValues (ip_routes rest)
+  others_values x c = all_values x (contains_there (route r) (ip_routes rest) x c)
+
+  pub longer_than : ((ip_network r.0).prefix_len ≡ (ip_network around).prefix_len → ⊥) → (n : Network)
+      → Contains (ip_networks routes) n → (ip_network around).prefix_len < n.prefix_len
+  longer_than out n c = all_longer (ip_network around) (ip_network r.0) (ip_networks rest) (ip_valid around)
+      (valid_in (r ∷ rest)) table out n (subst (λ z. Contains (ip_networks z) n) e c)
+
+  pub has_first : Contains (ip_networks routes) (ip_network r.0)
+  has_first = subst (λ z. Contains (ip_networks z) (ip_network r.0)) (sym e)
+      (contains_here (ip_network r.0) (ip_networks rest))
+
+  pub block_under : (ip_network r.0).prefix_len ≡ (ip_network around).prefix_len → (old new : List Choice) (value : ℕ)
+      (block : Block) → IsBlock old new (ip_routes rest) r.1 (ip_network around) block
+      → IsBlock old new (ip_routes routes) value (ip_network around) block
+  block_under same old new value block b = subst
+      (λ z. IsBlock old new (ip_routes z) value (ip_network around) block) (sym e)
+      (best_under old new (route r) (ip_routes rest) value (ip_network around) block
+      (nested_by_len (ip_network around) (ip_network r.0) (own (ip_network r.0))
+      (table.within (ip_network r.0) (contains_here (ip_network r.0) (ip_networks rest)) (own (ip_network r.0))
+      (own_in (ip_network r.0))) (own_in (ip_network r.0)) (omega (arith, same)))
+      (λ x c. rest_longer (ip_network around) (ip_network r.0) (ip_networks rest) (ip_valid around)
+      (valid_in (r ∷ rest)) table same x.0 (network_of_route rest x c))
+      (all_values (route r) (contains_here (route r) (ip_routes rest))) b)
+
+-- the routes of both halves
+module _ (around l r : IpNet) (routes : List (IpNet × ℕ)) (count : ℕ)
+    (h : AreTableIn (ip_network around) (ip_networks routes)) (values : HaveValues (ip_routes routes))
+    (longer : (n : Network) → Contains (ip_networks routes) n → (ip_network around).prefix_len < n.prefix_len)
+    (halves : AreHalvesOf (ip_network l) (ip_network r) (ip_network around))
+    (place : IsPlaceOf (ip_networks routes) (ip_network r) count) (front back : List (IpNet × ℕ))
+    (of_front : front ≡ take count routes) (of_back : back ≡ drop count routes) where
+  network : IpNet × ℕ → Network
+  network x = ip_network x.0
+
+  pub first_table : AreTableIn (ip_network l) (ip_networks front)
+  first_table = subst (AreTableIn (ip_network l)) (take-map network count routes ∙ ap (map network) (sym of_front))
+      (front_table (ip_network around) (ip_network l) (ip_network r) (ip_networks routes) count (valid_in routes) h
+      longer halves place)
+
+  pub second_table : AreTableIn (ip_network r) (ip_networks back)
+  second_table = subst (AreTableIn (ip_network r)) (drop-map network count routes ∙ ap (map network) (sym of_back))
+      (back_table (ip_network around) (ip_network l) (ip_network r) (ip_networks routes) count (valid_in routes) h
+      longer halves place)
+
+  pub both_routes : ip_routes front ++ ip_routes back ≡ ip_routes routes
+  both_routes =
+      sym (map-append route front back)
+      ∙ ap (map route) (ap₂ (λ x y. x ++ y) of_front of_back ∙ take-append-drop count routes)
+
+  pub first_values : HaveValues (ip_routes front)
+  first_values x c = values x (subst (λ z. Contains z x) both_routes
+      (Contains-append_left (ip_routes front) (ip_routes back) x c))
+
+  pub second_values : HaveValues (ip_routes back)
+  second_values x c = values x (subst (λ z. Contains z x) both_routes
+      (Contains-append_right (ip_routes front) (ip_routes back) x c))
+
+  pub half_blocks : (old middle new : List Choice) (value : ℕ) (first second : Block)
+      → IsBlock old middle (ip_routes front) value (ip_network l) first
+      → IsBlock middle new (ip_routes back) value (ip_network r) second
+      → AreHalfBlocks old new (ip_routes front) (ip_routes back) value (ip_network around) first second
+  half_blocks old middle new value first second b d = record {
+    halves = subst (λ z. AreHalvesOf z (ip_network second.network) (ip_network around)) (sym b.network)
+        (subst (λ z. AreHalvesOf (ip_network l) z (ip_network around)) (sym d.network) halves);
+    in_first = λ x c. subst (IsSubnetOf x.0) (sym b.network) (first_table.within x.0 (network_of_route front x c));
+    in_second = λ x c. subst (IsSubnetOf x.0) (sym d.network) (second_table.within x.0 (network_of_route back x c));
+    middle = middle;
+    of_first = subst (λ z. IsBlock old middle (ip_routes front) value z first) (sym b.network) b;
+    of_second = subst (λ z. IsBlock middle new (ip_routes back) value z second) (sym d.network) d;
+  }
+
+pub block_of : (old new : List Choice) (around : IpNet) (routes : List (Route ℕ)) (value : ℕ) (block : Block)
+    → block.network ≡ around → (best : AreBestValues old new routes value (ip_network around) block.values.items)
+    → block.size + length old ≡ length new → IsBlock old new routes value (ip_network around) block
+block_of old new around routes value block e best size = record {
+  network = ap ip_network e;
+  best = best;
+  size = omega (arith, size, ap length best.added, length-append old (choices_of best.plan));
+}

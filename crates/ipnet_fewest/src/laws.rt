@@ -1,0 +1,18 @@
+//! The laws of shortest tables: functions with nothing to run, whose contracts are the laws.
+ghost use Rattle.std.specs.Prelude.{◌≡◌, ℕ, List, All, length};
+ghost use Rattle.ipnet_base.specs.Network.{IsNetwork};
+ghost use Rattle.ipnet_routes.specs.Routes.{Route, networks_of};
+ghost use Rattle.ipnet_fewest.specs.Numbers.{AreEqualBy};
+ghost use Rattle.ipnet_fewest.specs.Shortest.{RouteAlike, IsShortest};
+
+/// A shortest list of a shortest list is as long. Lists that route alike have shortest lists of one length.
+pub fn shortest_lists_have_one_length<V: Ord>()
+    ensures again { (given shortest again : List (Route V))
+        → All IsNetwork (networks_of shortest) → All IsNetwork (networks_of again)
+        → IsShortest (AreEqualBy V.cmp) given shortest → IsShortest (AreEqualBy V.cmp) shortest again
+        → length again ≡ length shortest }
+    ensures alike { (given other shortest least : List (Route V))
+        → All IsNetwork (networks_of shortest) → All IsNetwork (networks_of least)
+        → RouteAlike (AreEqualBy V.cmp) given other → IsShortest (AreEqualBy V.cmp) given shortest
+        → IsShortest (AreEqualBy V.cmp) other least → length least ≡ length shortest }
+{}
