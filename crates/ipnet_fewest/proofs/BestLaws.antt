@@ -1,13 +1,13 @@
 -- Blocks as the code has them, from their halves.
 use Rattle.std.proofs.Common.{◌≡◌, ◌≢◌, ℕ, ◌+◌, ◌-◌, ◌<◌, ◌≤◌, ◌⊎◌, ◌↔◌, List, [], ◌∷◌, ◌++◌, length, map, get_or, take}
-use Rattle.std.proofs.Common.{drop, Contains, tt, refl, sym, ap, ap₂, ◌∙◌, subst, arith, inl, inr, append_assoc}
+use Rattle.std.proofs.Common.{Bool, true, false, drop, Contains, tt, refl, sym, ap, ap₂, ◌∙◌, subst, arith, inl, inr, append_assoc}
 use Rattle.std.proofs.lemmas.List.{length-append, length-map, take-map, drop-map, map-append, take-append-drop}
 use Rattle.std.proofs.lemmas.List.Elements.{Contains-append_left, Contains-append_right}
 use Rattle.std.specs.List.Sorted.{IsNonDecreasing}
-use Rattle.ipnet_base.specs.Network.{Network, IsNetwork, IsSubnetOf}
+use Rattle.ipnet_base.specs.Network.{Network, IsNetwork, IsSubnetOf, IsTruncated}
 use Rattle.ipnet_base.proofs.BlockLaws.{own, own_in}
 use Rattle.ipnet_base.proofs.ListLaws.{contains_here, contains_there, all_at, All-read}
-use Rattle.ipnet_base.proofs.NestingLaws.{longer_from_subnet}
+use Rattle.ipnet_base.proofs.NetworkLaws.{same_from_block}
 use Rattle.ipnet.specs.declared.net.IpNet.{IpNet}
 use Rattle.ipnet.specs.NetLaws.{ip_valid}
 use Rattle.ipnet.specs.NetworkOf.{ip_network}
@@ -18,12 +18,15 @@ use Rattle.ipnet_fewest.specs.declared.block.Block.{Block}
 use Rattle.ipnet_fewest.specs.declared.choice.Choice.{Choice}
 use Rattle.ipnet_fewest.specs.Plans.{Plan, Nothing, Then, choices_of, IsSized}
 use Rattle.ipnet_fewest.specs.Solved.{IsSolved, AreHalvesOf, AreTableIn, HaveValues, AreValuesOfBoth, AreAllValues}
+use Rattle.ipnet_fewest.specs.Solved.{AreValuesBeside}
 use Rattle.ipnet_fewest.specs.SolvedBlocks.{AreBestValues, IsBlock, AreHalfBlocks}
 use Rattle.ipnet_fewest.proofs.NumberLaws.{first_number}
 use Rattle.ipnet_fewest.proofs.PlanLaws.{joined_plan, joined_choices, joined_sized}
 use Rattle.ipnet_fewest.proofs.SolvedLaws.{solved_common, solved_zero, solved_all}
 use Rattle.ipnet_fewest.proofs.StepLaws.{solved_none, solved_under, one_sorted}
 use Rattle.ipnet_fewest.proofs.InsideLaws.{nested_by_len}
+use Rattle.ipnet_fewest.proofs.AsideLaws.{aside_both, aside_around, parent_in}
+use Rattle.ipnet_fewest.proofs.WideLaws.{solved_wider}
 use Rattle.ipnet_fewest.proofs.TableLaws.{rest_table, rest_longer, all_longer, front_table, back_table}
 
 -- ---- the best values of two halves
@@ -45,12 +48,13 @@ module _ (old now : List Choice) (front back : List (Route ℕ)) (value : ℕ) (
       → ((v : ℕ) → Contains values v ↔ (Contains first.values.items v × Contains second.values.items v))
       → AreBestValues old now (front ++ back) value around values
   best_common values some sorted are = record {
+    sorted = sorted;
     plan = joined_plan p q;
     sized = joined_sized p q h.of_first.best.sized h.of_second.best.sized;
     added = now_is ∙ ap (λ z. old ++ z) (sym (joined_choices p q));
     solved = solved_common front back value (ip_network first.network) (ip_network second.network) around h.halves
         h.in_first h.in_second first.values.items second.values.items p q h.of_first.best.solved
-        h.of_second.best.solved values some sorted are;
+        h.of_second.best.solved values some are;
   }
 
   module _ (w : ℕ) (of_second : Contains second.values.items w)
@@ -83,21 +87,26 @@ module _ (old now : List Choice) (front back : List (Route ℕ)) (value : ℕ) (
         subst (λ vs. IsSolved (front ++ back) value around vs (Then Nothing p q choice)) (sym e)
         (solved_zero choice front back value around h.halves h.in_first h.in_second twos p q
         h.of_first.best.solved h.of_second.best.solved of_second apart
-        (elim z [ | inl a ↦ inl (zero_first a) | inr b ↦ inr (zero_second b) ]) (one_sorted 0))
+        (elim z [ | inl a ↦ inl (zero_first a) | inr b ↦ inr (zero_second b) ]))
     solved_both values (inr a) =
         let has : Contains values (get_or ones 0 0) =
         (a.members (get_or ones 0 0)).1 (inl (first_number ones h.of_first.best.solved.some)) in
         solved_all choice front back value around h.halves h.in_first h.in_second twos p q
-        h.of_first.best.solved h.of_second.best.solved of_second apart values a.sorted (omega (arith, has.1))
+        h.of_first.best.solved h.of_second.best.solved of_second apart values (omega (arith, has.1))
         a.members
         (λ c. a.first_some (h.of_first.best.solved.zero_is_only c (get_or ones 0 0)
         (first_number ones h.of_first.best.solved.some)))
         (λ c. a.second_some (h.of_second.best.solved.zero_is_only c (get_or twos 0 0)
         (first_number twos h.of_second.best.solved.some)))
 
+    sorted_both : (values : List ℕ) → AreValuesOfBoth ones twos values → IsNonDecreasing values
+    sorted_both values (inl (z, e)) = subst IsNonDecreasing (sym e) (one_sorted 0)
+    sorted_both values (inr a) = a.sorted
+
     pub best_choice : (new : List Choice) → new ≡ now ++ choice ∷ [] → (values : List ℕ)
         → AreValuesOfBoth ones twos values → AreBestValues old new (front ++ back) value around values
     best_choice new e values are = record {
+      sorted = sorted_both values are;
       plan = Then Nothing p q choice;
       sized = (tt, h.of_first.best.sized, h.of_second.best.sized, record {
         some = h.of_first.best.solved.some;
@@ -120,6 +129,7 @@ append_none (x ∷ xs) = ap (λ z. x ∷ z) (append_none xs)
 pub best_none : (old : List Choice) (routes : List (IpNet × ℕ)) (value : ℕ) (around : Network) (values : List ℕ)
     → routes ≡ [] → values ≡ value ∷ [] → AreBestValues old old (ip_routes routes) value around values
 best_none old routes value around values e of_one = record {
+  sorted = subst IsNonDecreasing (sym of_one) (one_sorted value);
   plan = Nothing;
   sized = tt;
   added = append_none old;
@@ -134,6 +144,7 @@ pub best_under : (old new : List Choice) (t : Route ℕ) (rest : List (Route ℕ
 best_under old new t rest value around block holds longer some b = record {
   network = b.network;
   best = record {
+    sorted = b.best.sorted;
     plan = b.best.plan;
     sized = b.best.sized;
     added = b.best.added;
@@ -197,6 +208,7 @@ module _ (around l r : IpNet) (routes : List (IpNet × ℕ)) (count : ℕ)
     (h : AreTableIn (ip_network around) (ip_networks routes)) (values : HaveValues (ip_routes routes))
     (longer : (n : Network) → Contains (ip_networks routes) n → (ip_network around).prefix_len < n.prefix_len)
     (halves : AreHalvesOf (ip_network l) (ip_network r) (ip_network around))
+    (in_order : (ip_network l).number < (ip_network r).number)
     (place : IsPlaceOf (ip_networks routes) (ip_network r) count) (front back : List (IpNet × ℕ))
     (of_front : front ≡ take count routes) (of_back : back ≡ drop count routes) where
   network : IpNet × ℕ → Network
@@ -205,12 +217,12 @@ module _ (around l r : IpNet) (routes : List (IpNet × ℕ)) (count : ℕ)
   pub first_table : AreTableIn (ip_network l) (ip_networks front)
   first_table = subst (AreTableIn (ip_network l)) (take-map network count routes ∙ ap (map network) (sym of_front))
       (front_table (ip_network around) (ip_network l) (ip_network r) (ip_networks routes) count (valid_in routes) h
-      longer halves place)
+      longer halves in_order place)
 
   pub second_table : AreTableIn (ip_network r) (ip_networks back)
   second_table = subst (AreTableIn (ip_network r)) (drop-map network count routes ∙ ap (map network) (sym of_back))
       (back_table (ip_network around) (ip_network l) (ip_network r) (ip_networks routes) count (valid_in routes) h
-      longer halves place)
+      longer halves in_order place)
 
   pub both_routes : ip_routes front ++ ip_routes back ≡ ip_routes routes
   both_routes =
@@ -247,3 +259,88 @@ block_of old new around routes value block e best size = record {
   best = best;
   size = omega (arith, size, ap length best.added, length-append old (choices_of best.plan));
 }
+
+-- ---- a larger block
+
+module _ (old now : List Choice) (routes : List (Route ℕ)) (value : ℕ) (around : IpNet) (inner : Block)
+    (b : IsBlock old now routes value (ip_network inner.network) inner)
+    (inside : (r : Route ℕ) → Contains routes r → IsSubnetOf r.0 (ip_network inner.network))
+    (sub : IsSubnetOf (ip_network inner.network) (ip_network around))
+    (longer : (ip_network around).prefix_len < (ip_network inner.network).prefix_len) where
+  -- the value is one of the best
+  pub wider_same : Contains inner.values.items value → (values : List ℕ) → values ≡ value ∷ []
+      → AreBestValues old now routes value (ip_network around) values
+  wider_same has values e = record {
+    sorted = subst IsNonDecreasing (sym e) (one_sorted value);
+    plan = b.best.plan;
+    sized = b.best.sized;
+    added = b.best.added;
+    solved = subst (λ vs. IsSolved routes value (ip_network around) vs b.best.plan) (sym e)
+        (solved_wider routes value (ip_network inner.network) (ip_network around) inner.values.items b.best.plan
+        (ip_valid inner.network) (ip_valid around) sub longer inside b.best.solved has);
+  }
+
+  -- or not
+  module _ (out : Contains inner.values.items value → ⊥) (parent sibling : IpNet)
+      (h : AreHalvesOf (ip_network inner.network) (ip_network sibling) (ip_network parent))
+      (cut : IsTruncated (ip_network around)) (parent_cut : IsTruncated (ip_network parent)) where
+    beside : Choice
+    beside = record {
+      first = inner.network;
+      second = sibling;
+      first_values = inner.values;
+      second_value = value;
+      first_size = inner.size;
+      second_size = 0;
+    }
+
+    plan : Plan
+    plan = Then Nothing b.best.plan Nothing beside
+
+    up : IsSubnetOf (ip_network parent) (ip_network around)
+    up = parent_in (ip_network inner.network) (ip_network parent) (ip_network around) (ip_valid around) sub longer
+        (ip_valid parent) h.first_len h.first_within
+
+    same_parent : (ip_network parent).prefix_len ≡ (ip_network around).prefix_len → ip_network parent ≡ ip_network around
+    same_parent e = same_from_block (ip_network parent) (ip_network around) (ip_valid parent) (ip_valid around)
+        parent_cut cut
+        (up, nested_by_len (ip_network around) (ip_network parent) (own (ip_network inner.network))
+        (sub (own (ip_network inner.network)) (own_in (ip_network inner.network)))
+        (h.first_within (own (ip_network inner.network)) (own_in (ip_network inner.network))) (omega (arith, e)))
+
+    solved_beside : (values : List ℕ) (is_half : Bool)
+        → (is_half ≡ true → (ip_network parent).prefix_len ≡ (ip_network around).prefix_len)
+        → (is_half ≡ false → (ip_network around).prefix_len < (ip_network parent).prefix_len)
+        → AreValuesBeside is_half inner.values.items value values
+        → IsSolved routes value (ip_network around) values plan
+    solved_beside values true yes no v = subst (λ n. IsSolved routes value n values plan) (same_parent (yes refl))
+        (aside_both beside routes value (ip_network parent) h inside b.best.plan b.best.solved refl out values
+        (v.half refl))
+    solved_beside values false yes no v = subst (λ vs. IsSolved routes value (ip_network around) vs plan)
+        (sym (v.larger refl))
+        (aside_around beside routes value (ip_network parent) h inside b.best.plan b.best.solved refl out
+        (ip_network around) (ip_valid around) up (no refl))
+
+    sorted_beside : (values : List ℕ) (is_half : Bool) → AreValuesBeside is_half inner.values.items value values
+        → IsNonDecreasing values
+    sorted_beside values true v = sorted_of (v.half refl)
+      where
+        sorted_of : AreValuesOfBoth inner.values.items (value ∷ []) values → IsNonDecreasing values
+        sorted_of (inl (z, e)) = subst IsNonDecreasing (sym e) (one_sorted 0)
+        sorted_of (inr a) = a.sorted
+    sorted_beside values false v = subst IsNonDecreasing (sym (v.larger refl)) (one_sorted value)
+
+    pub wider_choice : (new : List Choice) → new ≡ now ++ beside ∷ [] → (values : List ℕ) (is_half : Bool)
+        → (is_half ≡ true → (ip_network parent).prefix_len ≡ (ip_network around).prefix_len)
+        → (is_half ≡ false → (ip_network around).prefix_len < (ip_network parent).prefix_len)
+        → AreValuesBeside is_half inner.values.items value values
+        → AreBestValues old new routes value (ip_network around) values
+    wider_choice new e values is_half yes no v = record {
+      sorted = sorted_beside values is_half v;
+      plan = plan;
+      sized = (tt, b.best.sized, tt, record { some = b.best.solved.some; first_is = b.size; second_is = refl });
+      added =
+          e ∙ ap (λ z. z ++ beside ∷ []) b.best.added
+          ∙ append_assoc old (choices_of b.best.plan) (beside ∷ []);
+      solved = solved_beside values is_half yes no v;
+    }

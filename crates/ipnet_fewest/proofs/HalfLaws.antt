@@ -86,7 +86,7 @@ module _ (around l r long_l long_r : Network) (low high : Address) (u : IsNetwor
   is_supernet : IsSupernetOf around l
   is_supernet = record { network = u; truncated = cut; shorter = len_l; contains = in_l }
 
-  ordered : l.number < r.number
+  pub ordered : l.number < r.number
   ordered = elim (cases_lt l.number r.number) [
     | inl lt ↦ lt
     | inr le ↦ absurd (apart (own r) (block_between l (own l) (own r) (own_in l) (family_r ∙ sym family_l)
@@ -106,5 +106,4 @@ module _ (around l r long_l long_r : Network) (low high : Address) (u : IsNetwor
     second_within = in_r;
     disjoint = apart;
     all = supernet_to_halves around l r tl.network is_supernet are_halves;
-    in_order = ordered;
   }

@@ -10,6 +10,9 @@ pub mod CutLaws
 pub mod MadeLaws
 pub mod SolvedLaws
 pub mod StepLaws
+pub mod WideLaws
+pub mod AsideLaws
+pub mod NearLaws
 pub mod HalfLaws
 pub mod PlaceLaws
 pub mod TableLaws

@@ -3,7 +3,6 @@ use Rattle.std.proofs.Common.{◌≡◌, ℕ, ◌+◌, ◌<◌, ◌≤◌, ◌�
 use Rattle.std.proofs.Common.{ap, ◌∙◌, subst, arith, inl, inr, Bool, true, false, if◌then◌else◌}
 use Rattle.std.proofs.lemmas.Bool.{cases_lt}
 use Rattle.std.proofs.lemmas.List.{length-append}
-use Rattle.std.specs.List.Sorted.{IsNonDecreasing}
 use Rattle.ipnet_base.specs.Network.{Network, IsSubnetOf}
 use Rattle.ipnet_base.proofs.ListLaws.{contains_here}
 use Rattle.ipnet.specs.NetworkOf.{ip_network}
@@ -115,12 +114,11 @@ module _ (front back : List (Route ℕ)) (value : ℕ) (l r block : Network) (h 
   pub joined_size : length (choices_of (joined_plan p q)) ≡ length (choices_of p) + length (choices_of q)
   joined_size = ap length (joined_choices p q) ∙ length-append (choices_of p) (choices_of q)
 
-  module _ (values : List ℕ) (some : 0 < length values) (sorted : IsNonDecreasing values)
+  module _ (values : List ℕ) (some : 0 < length values)
       (are : (v : ℕ) → Contains values v ↔ (Contains ones v × Contains twos v)) where
     pub solved_common : IsSolved (front ++ back) value block values (joined_plan p q)
     solved_common = record {
       some = some;
-      sorted = sorted;
       zero_is_given = λ c. s.zero_is_given ((are 0).0 c).0;
       zero_is_only = λ c v d. s.zero_is_only ((are 0).0 c).0 v ((are v).0 d).0;
       unmatched = λ c. unmatched_in_either (inl ((are 0).0 c).0);
@@ -246,14 +244,13 @@ module _ (choice : Choice) (front back : List (Route ℕ)) (value : ℕ) (block 
   ]
 
   -- an address of the block has no value
-  pub solved_zero : Contains ones 0 ⊎ Contains twos 0 → IsNonDecreasing (0 ∷ []) → IsSolved (front ++ back) value block (0 ∷ []) plan
-  solved_zero zero sorted =
+  pub solved_zero : Contains ones 0 ⊎ Contains twos 0 → IsSolved (front ++ back) value block (0 ∷ []) plan
+  solved_zero zero =
       let unmatched = unmatched_in_either front back value l r block h in_l in_r ones twos p q s t zero in
       let each : (v : ℕ) → Contains (0 ∷ []) v → IsRight v (routes_for plan v) =
       λ v c. subst (λ z. IsRight z (routes_for plan z)) (sym (one_number 0 v c)) (right 0 zero (λ _. refl)) in
       record {
         some = omega arith;
-        sorted = sorted;
         zero_is_given = λ c. zero_in_either front back value l r block h in_l in_r ones twos p q s t zero;
         zero_is_only = λ c v d. one_number 0 v d;
         unmatched = λ c. unmatched;
@@ -270,7 +267,7 @@ module _ (choice : Choice) (front back : List (Route ℕ)) (value : ℕ) (block 
       }
 
   -- each address of the block has a value
-  module _ (values : List ℕ) (sorted : IsNonDecreasing values) (some : 0 < length values)
+  module _ (values : List ℕ) (some : 0 < length values)
       (are : (v : ℕ) → Contains values v ↔ (Contains ones v ⊎ Contains twos v)) (no_first : Contains ones 0 → ⊥)
       (no_second : Contains twos 0 → ⊥) where
     no_zero : Contains ones 0 ⊎ Contains twos 0 → ⊥
@@ -280,7 +277,6 @@ module _ (choice : Choice) (front back : List (Route ℕ)) (value : ℕ) (block 
     pub solved_all : IsSolved (front ++ back) value block values plan
     solved_all = record {
       some = some;
-      sorted = sorted;
       zero_is_given = λ c. absurd (no_zero ((are 0).0 c));
       zero_is_only = λ c v d. absurd (no_zero ((are 0).0 c));
       unmatched = λ c. absurd (no_zero ((are 0).0 c));

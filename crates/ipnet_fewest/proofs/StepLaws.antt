@@ -45,7 +45,6 @@ some_needed value block (x ∷ others) v as_wanted out = omega arith
 pub solved_none : (value : ℕ) (block : Network) → IsSolved [] value block (value ∷ []) Nothing
 solved_none value block = record {
   some = omega arith;
-  sorted = one_sorted value;
   zero_is_given = λ c. sym (one_number value 0 c);
   zero_is_only = λ c v d. one_number value v d ∙ sym (one_number value 0 c);
   unmatched = λ c. record {
@@ -90,8 +89,7 @@ module _ (t : Route ℕ) (rest : List (Route ℕ)) (value : ℕ) (block : Networ
   pub solved_under : IsSolved (t ∷ rest) value block values plan
   solved_under = record {
     some = s.some;
-    sorted = s.sorted;
-    zero_is_given = λ c. absurd (no_zero c);
+      zero_is_given = λ c. absurd (no_zero c);
     zero_is_only = s.zero_is_only;
     unmatched = λ c. absurd (no_zero c);
     made = λ v c. made_under v (routes_for plan v) (s.made v c);

@@ -98,7 +98,7 @@ module _ (around t : Network) (rest : List Network) (u : IsNetwork around)
 module _ (around l r : Network) (networks : List Network) (count : ℕ)
     (valid : (n : Network) → Contains networks n → IsNetwork n) (h : AreTableIn around networks)
     (longer : (n : Network) → Contains networks n → around.prefix_len < n.prefix_len) (halves : AreHalvesOf l r around)
-    (place : IsPlaceOf networks r count) where
+    (in_order : l.number < r.number) (place : IsPlaceOf networks r count) where
   front : List Network
   front = take count networks
 
@@ -153,7 +153,7 @@ module _ (around l r : Network) (networks : List Network) (count : ℕ)
         let a : InBlock l (own n) = s (own n) (own_in n) in
         let fam = sym (halves.first_within (own l) (own_in l)).same_family in
         absurd (halves.disjoint (own r) (block_between l (own n) (own r) a
-        ((halves.second_within (own r) (own_in r)).same_family ∙ fam) (omega (arith, halves.in_order)) le) (own_in r))
+        ((halves.second_within (own r) (own_in r)).same_family ∙ fam) (omega (arith, in_order)) le) (own_in r))
   ]
 
   not_first : (n : Network) → IsSubnetOf n l → IsBeforeOrEqual r n → ⊥

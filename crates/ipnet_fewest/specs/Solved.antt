@@ -1,6 +1,6 @@
 -- What is known of a block: the values with which it needs the fewest routes. Only private contracts cite these.
 -- A list of routes has a value beside it: the value of the addresses without a match. The value 0 is for no value.
-use Rattle.std.specs.Prelude.{◌≡◌, ◌≢◌, ℕ, ◌+◌, ◌<◌, ◌≤◌, ◌⊎◌, ◌↔◌, List, [], ◌∷◌, length, get_or, Contains}
+use Rattle.std.specs.Prelude.{◌≡◌, ◌≢◌, ℕ, ◌+◌, ◌<◌, ◌≤◌, ◌⊎◌, ◌↔◌, Bool, true, false, List, [], ◌∷◌, length, get_or, Contains}
 use Rattle.std.specs.List.Sorted.{IsNonDecreasing}
 use Rattle.ipnet_base.specs.Address.{Address}
 use Rattle.ipnet_base.specs.Network.{Network, IsNetwork, InBlock, IsSubnetOf, IsTruncated}
@@ -57,7 +57,6 @@ pub record HasUnmatched (routes : List (Route ℕ)) (value : ℕ) (block : Netwo
 pub record IsSolved (wanted : List (Route ℕ)) (value : ℕ) (block : Network) (values : List ℕ) (plan : Plan) : Type 0
   where
     pub some : 0 < length values
-    pub sorted : IsNonDecreasing values
     pub zero_is_given : Contains values 0 → value ≡ 0
     pub zero_is_only : Contains values 0 → (v : ℕ) → Contains values v → v ≡ 0
     pub unmatched : Contains values 0 → HasUnmatched wanted value block
@@ -81,7 +80,6 @@ pub record AreHalvesOf (first second around : Network) : Type 0 where
   pub second_within : IsSubnetOf second around
   pub disjoint : (x : Address) → InBlock first x → InBlock second x → ⊥
   pub all : (x : Address) → InBlock around x → InBlock first x ⊎ InBlock second x
-  pub in_order : first.number < second.number
 
 -- Networks of a table, or of a part of one, that are in a network.
 pub record AreTableIn (around : Network) (networks : List Network) : Type 0 where
@@ -104,3 +102,15 @@ pub record AreAllValues (first second values : List ℕ) : Type 0 where
 abbrev pub AreValuesOfBoth : List ℕ → List ℕ → List ℕ → Type 0
 AreValuesOfBoth first second values =
     (((get_or first 0 0 ≡ 0) ⊎ (get_or second 0 0 ≡ 0)) × (values ≡ 0 ∷ [])) ⊎ AreAllValues first second values
+
+-- A network in another one, around all of these networks.
+pub record IsAroundAll (networks : List Network) (around near : Network) : Type 0 where
+  pub network : IsNetwork near
+  pub truncated : IsTruncated near
+  pub within : IsSubnetOf near around
+  pub holds : (n : Network) → Contains networks n → IsSubnetOf n near
+
+-- The best values of a network with a value beside it, if it is a half; else those of a larger network.
+pub record AreValuesBeside (is_half : Bool) (first : List ℕ) (value : ℕ) (values : List ℕ) : Type 0 where
+  pub half : is_half ≡ true → AreValuesOfBoth first (value ∷ []) values
+  pub larger : is_half ≡ false → values ≡ value ∷ []

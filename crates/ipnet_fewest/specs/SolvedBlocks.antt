@@ -1,5 +1,6 @@
 -- Blocks as the code has them. Only private contracts cite these.
-use Rattle.std.specs.Prelude.{◌≡◌, ℕ, List, ◌++◌, length, Contains}
+use Rattle.std.specs.Prelude.{◌≡◌, ℕ, ◌<◌, List, ◌++◌, length, Contains}
+use Rattle.std.specs.List.Sorted.{IsNonDecreasing}
 use Rattle.ipnet_base.specs.Network.{Network, IsSubnetOf}
 use Rattle.ipnet.specs.NetworkOf.{ip_network}
 use Rattle.ipnet_routes.specs.Routes.{Route}
@@ -11,6 +12,7 @@ use Rattle.ipnet_fewest.specs.Solved.{IsSolved, AreHalvesOf}
 -- The values are the best of a block. The new choices are the old ones, and then the choices in the block.
 pub record AreBestValues (old new : List Choice) (wanted : List (Route ℕ)) (value : ℕ) (around : Network)
     (values : List ℕ) : Type 0 where
+  pub sorted : IsNonDecreasing values
   pub plan : Plan
   pub sized : IsSized plan
   pub added : new ≡ old ++ choices_of plan

@@ -1,7 +1,7 @@
 //! The best values of a block, from its halves.
-ghost use Rattle.std.specs.Prelude.{◌≡◌, ◌<◌, ◌++◌, ℕ, List, length, IfOk};
+ghost use Rattle.std.specs.Prelude.{◌<◌, ◌≤◌, ◌++◌, ℕ, List, length, Contains, IfOk};
 ghost use Rattle.std.specs.List.Sorted.{IsNonDecreasing};
-ghost use Rattle.ipnet_base.specs.Network.{Network};
+ghost use Rattle.ipnet_base.specs.Network.{Network, IsSubnetOf, IsTruncated};
 ghost use Rattle.ipnet.specs.NetworkOf.{ip_network};
 ghost use Rattle.ipnet_routes.specs.Routes.{Route, ip_routes, ip_networks};
 ghost use Rattle.ipnet_fewest.specs.declared.choice.Choice.{Choice};
@@ -9,8 +9,8 @@ ghost use Rattle.ipnet_fewest.specs.Solved.{AreTableIn, HaveValues};
 ghost use Rattle.ipnet_fewest.specs.SolvedBlocks.{AreBestValues, IsBlock, AreHalfBlocks};
 
 use crate::choice::Choice;
-use crate::halves::{count_before, halves};
-use crate::values::{common_values, one_value, values_of_both};
+use crate::halves::{count_before, halves, near_network, parent_and_sibling};
+use crate::values::{common_values, has_value, one_value, values_beside, values_of_both};
 use ipnet::IpNet;
 use std::alloc::{AllocError, Global};
 
@@ -57,6 +57,52 @@ fn joined(
     Ok(values)
 }
 
+/// Returns what is known of a larger block around a solved one, if all other addresses have the value.
+fn widened(
+    alloc: Global,
+    choices: &mut Vec<Choice>,
+    around: &IpNet,
+    inner: Block,
+    value: usize,
+) -> Result<Block, AllocError>
+    requires truncated { IsTruncated (ip_network around.now) }
+    requires inner_truncated { IsTruncated (ip_network inner.network) }
+    requires within { IsSubnetOf (ip_network inner.network) (ip_network around.now) }
+    requires longer { (ip_network around.now).prefix_len < (ip_network inner.network).prefix_len }
+    requires some { 0 < length inner.values.items }
+    requires sorted { IsNonDecreasing inner.values.items }
+    requires size { inner.size ≤ length choices.old.items }
+    ensures { (old : List Choice) (routes : List (Route ℕ))
+        → IsBlock old choices.old.items routes value (ip_network inner.network) inner
+        → ((r : Route ℕ) → Contains routes r → IsSubnetOf r.0 (ip_network inner.network))
+        → IfOk result (IsBlock old choices.new.items routes value (ip_network around.now)) }
+{
+    if has_value(inner.values.as_slice(), value) {
+        return Ok(Block {
+            network: *around,
+            values: one_value(alloc, value)?,
+            size: inner.size,
+        });
+    }
+    let start = choices.len() - inner.size;
+    let (parent, sibling) = parent_and_sibling(&inner.network);
+    let is_half = parent.prefix_len() == around.prefix_len();
+    let values = values_beside(alloc, inner.values.as_slice(), value, is_half)?;
+    choices.push(Choice {
+        first: inner.network,
+        second: sibling,
+        first_values: inner.values,
+        second_value: value,
+        first_size: inner.size,
+        second_size: 0,
+    })?;
+    Ok(Block {
+        network: *around,
+        values,
+        size: choices.len() - start,
+    })
+}
+
 /// Returns what is known of the block of the network, which contains the networks of the routes. The value is the one
 /// that addresses without a route have.
 pub(crate) fn solved(
@@ -81,6 +127,11 @@ pub(crate) fn solved(
     }
     if routes[0].0.prefix_len() == around.prefix_len() {
         return solved(alloc, choices, &routes[1..], around, routes[0].1);
+    }
+    let near = near_network(routes, around);
+    if near.prefix_len() > around.prefix_len() {
+        let inner = solved(alloc, choices, routes, &near, value)?;
+        return widened(alloc, choices, around, inner, value);
     }
     let (first_half, second_half) = halves(around);
     let (front, back) = routes.split_at(count_before(routes, &second_half));

@@ -1,7 +1,7 @@
 //! Lists of numbers in ascending order: the values that are best for a block.
 ghost use Rattle.std.specs.Prelude.{◌≡◌, ◌<◌, ◌⊎◌, ◌↔◌, [], ◌∷◌, ℕ, length, Contains, IsTrue, IfOk};
 ghost use Rattle.std.specs.List.Sorted.{IsNonDecreasing};
-ghost use Rattle.ipnet_fewest.specs.Solved.{AreValuesOfBoth};
+ghost use Rattle.ipnet_fewest.specs.Solved.{AreValuesOfBoth, AreValuesBeside};
 
 use std::alloc::{AllocError, Global};
 
@@ -15,7 +15,7 @@ pub(crate) fn one_value(alloc: Global, value: usize) -> Result<Vec<usize>, Alloc
 }
 
 /// Whether the value is in the list.
-fn has_value(values: &[usize], value: usize) -> bool
+pub(crate) fn has_value(values: &[usize], value: usize) -> bool
     requires { IsNonDecreasing values.now }
     ensures { IsTrue result ↔ Contains values.now value }
 {
@@ -85,4 +85,22 @@ pub(crate) fn values_of_both(
         return one_value(alloc, 0);
     }
     all_values(alloc, first, second)
+}
+
+/// Returns the best values of a block if one half has these best values, and all addresses of the other half have the
+/// value; or, if it is not a half, of a block around such a block in which all other addresses have the value too.
+pub(crate) fn values_beside(
+    alloc: Global,
+    first: &[usize],
+    value: usize,
+    is_half: bool,
+) -> Result<Vec<usize>, AllocError>
+    requires { 0 < length first.now }
+    ensures { IfOk result (λ values. AreValuesBeside is_half first.now value values.items) }
+{
+    let one = one_value(alloc, value)?;
+    if is_half {
+        return values_of_both(alloc, first, one.as_slice());
+    }
+    Ok(one)
 }
