@@ -109,7 +109,7 @@ module _ (choice : Choice) (wanted : List (Route ℕ)) (value : ℕ) (parent : N
       (λ c. a.first_some (s.zero_is_only c (get_or ones 0 0) (first_number ones s.some)))
       (λ c. a.second_some (sym (one_number value 0 c)))
 
-  -- and those of a larger network
+  -- and the best values of a larger network
   module _ (around : Network) (w : IsNetwork around) (sub : IsSubnetOf parent around)
       (longer : around.prefix_len < parent.prefix_len) where
     in_parent : (x : Route ℕ) → Contains wanted x → IsSubnetOf x.0 parent

@@ -7,7 +7,7 @@ use Rattle.ipnet_fewest.specs.declared.choice.Choice.{Choice}
 use Rattle.ipnet_fewest.specs.Plans.{Plan, Nothing, Then, choices_of, routes_for, IsSized, HasPlan}
 use Rattle.ipnet_fewest.specs.Plans.{first_value, first_route, second_value, second_route}
 
--- ---- lists that are cut where another list ends
+-- ---- lists that are cut at the end of another list
 
 take_of : {X : Type 0} (xs ys : List X) → take (length xs) (xs ++ ys) ≡ xs
 take_of [] ys = refl
@@ -42,7 +42,7 @@ last_same (z ∷ xs) (w ∷ ys) x y e =
 
 -- ---- the last choice of a plan
 
--- The plan ends with the choice: the choices before it are those of three plans.
+-- The plan ends with the choice, and three plans have the choices before it.
 pub record IsLastOf (plan : Plan) (earlier : List Choice) (choice : Choice) : Type 0 where
   pub before : Plan
   pub first : Plan

@@ -10,12 +10,12 @@ use Rattle.ipnet_fewest.proofs.PlanLaws.{append_nil}
 use Rattle.ipnet_fewest.proofs.ChoiceLaws.{IsLastOf, last_of_plan, fits_second, rest_is, second_is, fits_first}
 use Rattle.ipnet_fewest.proofs.ChoiceLaws.{before_is, first_is}
 
--- The choices are those of the plan.
+-- The plan has these choices.
 pub record IsPlanOf (plan : Plan) (choices : List Choice) : Type 0 where
   pub sized : IsSized plan
   pub choices_are : choices_of plan ≡ choices
 
--- The routes so far, and then those of the choices that are left, are those that were there and those of all choices.
+-- The routes so far and the routes of the choices that are left are the first routes and the routes of all choices.
 pub record AreLeft (choices left : List Choice) (start so_far : List (Route ℕ)) (value : ℕ) : Type 0 where
   pub has_plan : HasPlan left
   pub each : (plan : Plan) → IsPlanOf plan choices → (rest : Plan) × IsPlanOf rest left

@@ -56,7 +56,7 @@ module _ (around s f l : Network) (networks : List Network) (u : IsNetwork aroun
       ))
       (number_order n l (family n c ∙ sym (family l at_l)) (to_last n c))
 
-  -- a network that is shorter than the common one begins where the first does
+  -- a network that is shorter than the common one begins with the first one
   not_shorter : (n : Network) → Contains networks n → n.prefix_len < s.prefix_len → ⊥
   not_shorter n c lt = go (from_first n c)
     where

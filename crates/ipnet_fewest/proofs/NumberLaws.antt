@@ -31,7 +31,7 @@ one_number v w c = elim (contains_cases v [] w c) [ | inl e ↦ sym e | inr d �
 
 -- ---- ascending lists
 
--- What a search in an ascending list finds.
+-- A search in an ascending list finds exactly its numbers.
 pub found : (xs : List ℕ) (v : ℕ) (r : Result ℕ ℕ) → IsBinarySearchResult (λ y. nat_cmp y v) xs r → IsNonDecreasing xs
     → IsTrue (is_ok r) ↔ Contains xs v
 found xs v (Ok i) h up =

@@ -1,4 +1,4 @@
--- What routes give an address, and what a part of them gives it.
+-- The value that routes give an address, and the value that a part of them gives it.
 use Rattle.std.proofs.Common.{◌≡◌, ℕ, ◌+◌, ◌<◌, ◌≤◌, ◌⊎◌, List, Contains, refl, sym, ap, ◌∙◌, subst, arith, inl, inr}
 use Rattle.ipnet_base.specs.Address.{Address}
 use Rattle.ipnet_base.specs.Network.{Network, InBlock}

@@ -145,7 +145,7 @@ module _ (around l r : Network) (networks : List Network) (count : ℕ)
     within = in_first;
   }
 
-  -- the numbers of the first half are below those of the second
+  -- the numbers of the first half are below the numbers of the second
   below : (n : Network) → IsSubnetOf n l → n.number < r.number
   below n s = elim (cases_lt n.number r.number) [
     | inl lt ↦ lt

@@ -1,4 +1,4 @@
--- The fewest routes for a table whose values are numbers. Only private contracts cite these.
+-- The fewest routes for a table whose values are numbers. Only private contracts use these.
 use Rattle.std.specs.Prelude.{◌≡◌, ℕ, ◌≤◌, List, ◌++◌, length, Contains}
 use Rattle.ipnet_base.specs.Address.{Family}
 use Rattle.ipnet_base.specs.Network.{Network, IsNetwork, IsTruncated}
@@ -20,7 +20,7 @@ pub record AreFewestAdded (wanted : List (Route ℕ)) (block : Network) (old new
   pub added : new ≡ old ++ made
   pub fewest : AreFewestIn wanted block made
 
--- The routes are no more than those of any list that routes alike.
+-- The lists route alike. Every list that routes alike has at least as many routes as the second.
 pub record AreFewest (wanted made : List (Route ℕ)) : Type 0 where
   pub valid : (r : Route ℕ) → Contains made r → IsNetwork r.0
   pub truncated : (r : Route ℕ) → Contains made r → IsTruncated r.0

@@ -1,4 +1,4 @@
--- Numbers for the values of routes. Only private contracts cite these, except `AreEqualBy`.
+-- Values that compare as equal, and numbers for the values of routes.
 use Rattle.std.specs.Prelude.{◌≡◌, ◌≢◌, ℕ, ◌+◌, ◌-◌, ◌<◌, ◌≤◌, List, map, min, length, get_or, Contains, Ordering, Less, Equal}
 use Rattle.ipnet_base.specs.Network.{Network}
 use Rattle.ipnet_routes.specs.Routes.{Route, networks_of}

@@ -1,4 +1,4 @@
--- The routes that follow from a list of choices and a value. Only private contracts cite these.
+-- The routes that follow from a list of choices and a value. Only private contracts use these.
 use Rattle.std.specs.Prelude.{◌≡◌, ℕ, ⊤, ◌<◌, Bool, List, [], ◌∷◌, ◌++◌, length, get_or, nat_eq}
 use Rattle.std.specs.Prelude.{if◌then◌else◌}
 use Rattle.std.specs.List.{list_any}
@@ -6,8 +6,8 @@ use Rattle.ipnet.specs.NetworkOf.{ip_network}
 use Rattle.ipnet_routes.specs.Routes.{Route}
 use Rattle.ipnet_fewest.specs.declared.choice.Choice.{Choice}
 
--- The choices of a block, as a tree: those before the last choice that are in none of its halves, those of its first
--- half, those of its second half, and the last choice.
+-- The choices of a block, as a tree: the choices before the last one that are in none of its halves, the choices in its
+-- first half, the choices in its second half, and the last choice.
 pub data Plan : Type 0 where
   Nothing : Plan
   Then : Plan → Plan → Plan → Choice → Plan
@@ -34,18 +34,20 @@ IsSized (Then earlier first second choice) = IsSized earlier × IsSized first ×
 abbrev pub is_first : Choice → ℕ → Bool
 is_first choice value = list_any (λ v. nat_eq v value) choice.first_values.items
 
--- The value of the first half, if the block has this value, and the route for it if there is one.
+-- The value of the first half, if the block has this value.
 abbrev pub first_value : Choice → ℕ → ℕ
 first_value choice value = if is_first choice value then value else get_or choice.first_values.items 0 0
 
+-- The route of the first half, if it needs one.
 abbrev pub first_route : Choice → ℕ → List (Route ℕ)
 first_route choice value =
     if is_first choice value then [] else ((ip_network choice.first, get_or choice.first_values.items 0 0) ∷ [])
 
--- The same of the second half.
+-- The value of the second half.
 abbrev pub second_value : Choice → ℕ → ℕ
 second_value choice value = if is_first choice value then choice.second_value else value
 
+-- The route of the second half, if it needs one.
 abbrev pub second_route : Choice → ℕ → List (Route ℕ)
 second_route choice value =
     if is_first choice value then ((ip_network choice.second, choice.second_value) ∷ []) else []
@@ -57,6 +59,6 @@ routes_for (Then earlier first second choice) value =
     ((routes_for second (second_value choice value) ++ second_route choice value)
     ++ (routes_for first (first_value choice value) ++ first_route choice value)) ++ routes_for earlier value
 
--- The choices are those of a plan.
+-- A plan has these choices.
 abbrev pub HasPlan : List Choice → Type 0
 HasPlan choices = (plan : Plan) × IsSized plan × (choices_of plan ≡ choices)

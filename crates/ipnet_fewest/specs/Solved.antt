@@ -1,4 +1,5 @@
--- What is known of a block: the values with which it needs the fewest routes. Only private contracts cite these.
+-- Blocks, and the values with which they need the fewest routes.
+-- Only private contracts use these.
 -- A list of routes has a value beside it: the value of the addresses without a match. The value 0 is for no value.
 use Rattle.std.specs.Prelude.{◌≡◌, ◌≢◌, ℕ, ◌+◌, ◌<◌, ◌≤◌, ◌⊎◌, ◌↔◌, Bool, true, false, List, [], ◌∷◌, length, get_or, Contains}
 use Rattle.std.specs.List.Sorted.{IsNonDecreasing}
@@ -92,7 +93,7 @@ pub record AreTableIn (around : Network) (networks : List Network) : Type 0 wher
 abbrev pub HaveValues : List (Route ℕ) → Type 0
 HaveValues routes = (r : Route ℕ) → Contains routes r → 0 < r.1
 
--- The first value of one of the lists is 0, and 0 is the only value; or else, the values are those of both lists.
+-- The first value of one of the lists is 0, and 0 is the only value; or else, the values are the values of both lists.
 pub record AreAllValues (first second values : List ℕ) : Type 0 where
   pub first_some : get_or first 0 0 ≢ 0
   pub second_some : get_or second 0 0 ≢ 0
@@ -110,7 +111,7 @@ pub record IsAroundAll (networks : List Network) (around near : Network) : Type 
   pub within : IsSubnetOf near around
   pub holds : (n : Network) → Contains networks n → IsSubnetOf n near
 
--- The best values of a network with a value beside it, if it is a half; else those of a larger network.
+-- The best values of a network with a value beside it, if it is a half; else the best values of a larger network.
 pub record AreValuesBeside (is_half : Bool) (first : List ℕ) (value : ℕ) (values : List ℕ) : Type 0 where
   pub half : is_half ≡ true → AreValuesOfBoth first (value ∷ []) values
   pub larger : is_half ≡ false → values ≡ value ∷ []

@@ -1,4 +1,4 @@
--- Blocks as the code has them. Only private contracts cite these.
+-- Blocks as the code has them. Only private contracts use these.
 use Rattle.std.specs.Prelude.{◌≡◌, ℕ, ◌<◌, List, ◌++◌, length, Contains}
 use Rattle.std.specs.List.Sorted.{IsNonDecreasing}
 use Rattle.ipnet_base.specs.Network.{Network, IsSubnetOf}

@@ -14,7 +14,7 @@ use crate::values::{common_values, has_value, one_value, values_beside, values_o
 use ipnet::IpNet;
 use std::alloc::{AllocError, Global};
 
-/// What is known of a block.
+/// A block that is solved: its best values are known.
 #[derive(Drop)]
 pub(crate) struct Block {
     pub(crate) network: IpNet,

@@ -9,7 +9,7 @@ ghost use Rattle.ipnet_fewest.specs.Solved.{AreHalvesOf, AreTableIn, IsAroundAll
 
 use ipnet::IpNet;
 use ipnet::net::laws::ip_nets_compare_by_network;
-use ipnet_sets::common::common_supernet;
+use ipnet_sets::common_supernet;
 
 /// Returns the two halves of the network.
 pub(crate) fn halves(around: &IpNet) -> (IpNet, IpNet)

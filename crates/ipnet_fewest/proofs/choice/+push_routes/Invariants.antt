@@ -1,4 +1,4 @@
--- The choices that are left get fewer, and those of a half are fewer.
+-- The choices that are left get fewer, and a half has fewer.
 use Rattle.std.proofs.Common.{◌≤◌, length}
 use Rattle.ipnet_routes.specs.Routes.{ip_routes}
 use Rattle.ipnet_fewest.proofs.LeftLaws.{AreLeft}
