@@ -63,10 +63,10 @@ module _ (choice : Choice) (wanted : List (Route ℕ)) (value : ℕ) (parent : N
     (inside : (x : Route ℕ) → Contains wanted x → IsSubnetOf x.0 (ip_network choice.first)) (p : Plan)
     (s : IsSolved wanted value (ip_network choice.first) choice.first_values.items p)
     (is_value : choice.second_value ≡ value) (out : Contains choice.first_values.items value → ⊥) where
-  ones : List ℕ
+  abbrev ones : List ℕ
   ones = choice.first_values.items
 
-  plan : Plan
+  abbrev plan : Plan
   plan = Then Nothing p Nothing choice
 
   t : IsSolved [] value (ip_network choice.second) (value ∷ []) Nothing

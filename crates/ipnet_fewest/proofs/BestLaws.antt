@@ -33,10 +33,10 @@ use Rattle.ipnet_fewest.proofs.TableLaws.{rest_table, rest_longer, all_longer, f
 
 module _ (old now : List Choice) (front back : List (Route ℕ)) (value : ℕ) (around : Network) (first second : Block)
     (h : AreHalfBlocks old now front back value around first second) where
-  p : Plan
+  abbrev p : Plan
   p = h.of_first.best.plan
 
-  q : Plan
+  abbrev q : Plan
   q = h.of_second.best.plan
 
   now_is : now ≡ old ++ (choices_of p ++ choices_of q)
@@ -59,7 +59,7 @@ module _ (old now : List Choice) (front back : List (Route ℕ)) (value : ℕ) (
 
   module _ (w : ℕ) (of_second : Contains second.values.items w)
       (apart : (v : ℕ) → Contains first.values.items v → Contains second.values.items v → ⊥) where
-    choice : Choice
+    abbrev choice : Choice
     choice = record {
       first = first.network;
       second = second.network;
@@ -69,10 +69,10 @@ module _ (old now : List Choice) (front back : List (Route ℕ)) (value : ℕ) (
       second_size = second.size;
     }
 
-    ones : List ℕ
+    abbrev ones : List ℕ
     ones = first.values.items
 
-    twos : List ℕ
+    abbrev twos : List ℕ
     twos = second.values.items
 
     zero_first : get_or ones 0 0 ≡ 0 → Contains ones 0
@@ -159,7 +159,7 @@ pub head_of : {X : Type 0} (xs : List X) (x : X) → 0 < length xs → x ≡ get
 head_of [] x lt e = absurd (omega (arith, lt))
 head_of (y ∷ ys) x lt e = ap (λ z. z ∷ ys) (sym e)
 
-route : IpNet × ℕ → Route ℕ
+abbrev route : IpNet × ℕ → Route ℕ
 route r = (ip_network r.0, r.1)
 
 valid_in : (routes : List (IpNet × ℕ)) (n : Network) → Contains (ip_networks routes) n → IsNetwork n
@@ -211,7 +211,7 @@ module _ (around l r : IpNet) (routes : List (IpNet × ℕ)) (count : ℕ)
     (in_order : (ip_network l).number < (ip_network r).number)
     (place : IsPlaceOf (ip_networks routes) (ip_network r) count) (front back : List (IpNet × ℕ))
     (of_front : front ≡ take count routes) (of_back : back ≡ drop count routes) where
-  network : IpNet × ℕ → Network
+  abbrev network : IpNet × ℕ → Network
   network x = ip_network x.0
 
   pub first_table : AreTableIn (ip_network l) (ip_networks front)
@@ -284,7 +284,7 @@ module _ (old now : List Choice) (routes : List (Route ℕ)) (value : ℕ) (arou
   module _ (out : Contains inner.values.items value → ⊥) (parent sibling : IpNet)
       (h : AreHalvesOf (ip_network inner.network) (ip_network sibling) (ip_network parent))
       (cut : IsTruncated (ip_network around)) (parent_cut : IsTruncated (ip_network parent)) where
-    beside : Choice
+    abbrev beside : Choice
     beside = record {
       first = inner.network;
       second = sibling;
@@ -294,7 +294,7 @@ module _ (old now : List Choice) (routes : List (Route ℕ)) (value : ℕ) (arou
       second_size = 0;
     }
 
-    plan : Plan
+    abbrev plan : Plan
     plan = Then Nothing b.best.plan Nothing beside
 
     up : IsSubnetOf (ip_network parent) (ip_network around)

@@ -158,7 +158,7 @@ module _ (wanted front back : List (Route ℕ)) (four six : Network)
     (in_six : (r : Route ℕ) → Contains back r → IsSubnetOf r.0 six) (values : HaveValues wanted)
     (one : (x : Address) (r s : Route ℕ) → IsLongestMatch wanted x r → IsLongestMatch wanted x s → r ≡ s)
     (made4 made6 : List (Route ℕ)) (f4 : AreFewestIn front four made4) (f6 : AreFewestIn back six made6) where
-  made : List (Route ℕ)
+  abbrev made : List (Route ℕ)
   made = made6 ++ made4
 
   has_front : (r : Route ℕ) → Contains front r → Contains wanted r

@@ -15,10 +15,10 @@ module _ (around l r long_l long_r : Network) (low high : Address) (u : IsNetwor
     (of_l : long_l ≡ record { family = low.family; number = low.number; prefix_len = around.prefix_len + 1 })
     (of_r : long_r ≡ record { family = high.family; number = high.number; prefix_len = around.prefix_len + 1 })
     (cut_l : IsTruncationOf l long_l) (cut_r : IsTruncationOf r long_r) where
-  wide_l : Network
+  abbrev wide_l : Network
   wide_l = record { family = low.family; number = low.number; prefix_len = around.prefix_len + 1 }
 
-  wide_r : Network
+  abbrev wide_r : Network
   wide_r = record { family = high.family; number = high.number; prefix_len = around.prefix_len + 1 }
 
   tl : IsTruncationOf l wide_l

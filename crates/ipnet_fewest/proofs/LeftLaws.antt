@@ -49,7 +49,7 @@ left_end choices left start so_far value none h plan sized e =
     ∙ ap (λ z. so_far ++ z) (sym (nothing_left rest value (p.choices_are ∙ empty_list left none))) ∙ same
 
 -- the routes of the last choice, as they follow from whether the value is best for its first half
-shape : Plan → Plan → Plan → Choice → ℕ → Bool → List (Route ℕ)
+abbrev shape : Plan → Plan → Plan → Choice → ℕ → Bool → List (Route ℕ)
 shape before first second choice value b =
     ((routes_for second (if b then choice.second_value else value)
     ++ (if b then ((ip_network choice.second, choice.second_value) ∷ []) else []))

@@ -28,7 +28,7 @@ last_of_list xs t x c = elim (Contains-append_cases xs (t ∷ []) x c) [
 -- with a route for the block itself, whatever its value is
 module _ (wanted made : List (Route ℕ)) (value v : ℕ) (block : Network) (valid : IsNetwork block)
     (truncated : IsTruncated block) (some : 0 < v) (m : AreMade wanted value block block.prefix_len v made) where
-  own_route : Route ℕ
+  abbrev own_route : Route ℕ
   own_route = (block, v)
 
   each : (P : Route ℕ → Type 0) → P own_route → ((x : Route ℕ) → Contains made x → P x) → (x : Route ℕ)

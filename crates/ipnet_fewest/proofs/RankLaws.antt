@@ -13,7 +13,7 @@ use Rattle.ipnet_fewest.specs.Numbers.{IsRank}
 -- ---- a number for every value
 
 -- one more if the value is less
-more_if : Ordering → ℕ → ℕ
+abbrev more_if : Ordering → ℕ → ℕ
 more_if Less n = n + 1
 more_if Equal n = n
 more_if Greater n = n
@@ -27,7 +27,7 @@ more_if_not Equal n out = refl
 more_if_not Greater n out = refl
 
 -- how many of the values are less than this one
-pub count_less : {V : Type 0} → (V → V → Ordering) → List V → V → ℕ
+abbrev pub count_less : {V : Type 0} → (V → V → Ordering) → List V → V → ℕ
 count_less cmp [] v = 0
 count_less cmp (w ∷ values) v = more_if (cmp w v) (count_less cmp values v)
 

@@ -153,16 +153,16 @@ module _ (choice : Choice) (front back : List (Route ℕ)) (value : ℕ) (block 
     (s : IsSolved front value (ip_network choice.first) choice.first_values.items p)
     (t : IsSolved back value (ip_network choice.second) twos q) (in_second : Contains twos choice.second_value)
     (apart : (v : ℕ) → Contains choice.first_values.items v → Contains twos v → ⊥) where
-  l : Network
+  abbrev l : Network
   l = ip_network choice.first
 
-  r : Network
+  abbrev r : Network
   r = ip_network choice.second
 
-  ones : List ℕ
+  abbrev ones : List ℕ
   ones = choice.first_values.items
 
-  plan : Plan
+  abbrev plan : Plan
   plan = Then Nothing p q choice
 
   chosen_size : length (choices_of plan) ≡ length (choices_of p) + length (choices_of q) + 1
@@ -173,7 +173,7 @@ module _ (choice : Choice) (front back : List (Route ℕ)) (value : ℕ) (block 
   )
 
   -- the routes of the plan, as they follow from whether the value is best for the first half
-  shape : ℕ → Bool → List (Route ℕ)
+  abbrev shape : ℕ → Bool → List (Route ℕ)
   shape v b =
       ((routes_for q (if b then choice.second_value else v)
       ++ (if b then ((ip_network choice.second, choice.second_value) ∷ []) else []))

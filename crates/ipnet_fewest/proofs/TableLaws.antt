@@ -99,10 +99,10 @@ module _ (around l r : Network) (networks : List Network) (count : ℕ)
     (valid : (n : Network) → Contains networks n → IsNetwork n) (h : AreTableIn around networks)
     (longer : (n : Network) → Contains networks n → around.prefix_len < n.prefix_len) (halves : AreHalvesOf l r around)
     (in_order : l.number < r.number) (place : IsPlaceOf networks r count) where
-  front : List Network
+  abbrev front : List Network
   front = take count networks
 
-  back : List Network
+  abbrev back : List Network
   back = drop count networks
 
   whole : front ++ back ≡ networks

@@ -70,7 +70,7 @@ module _ {V W : Type 0} (Relates : V → W → Type 0) (routes : List (Route V))
           member = c;
           holds = subst (λ n. InBlock n x) e m.holds;
           longest = λ o d b.
-              let (s, f, g, _) = h.back o d in
+              let (s, f, g, other) = h.back o d in
               omega (
                 arith,
                 m.longest s f (subst (λ n. InBlock n x) (sym g) b),
@@ -91,7 +91,7 @@ module _ {V W : Type 0} (Relates : V → W → Type 0) (routes : List (Route V))
           member = c;
           holds = subst (λ n. InBlock n x) (sym e) m.holds;
           longest = λ o d b.
-              let (s, f, g, _) = h.to o d in
+              let (s, f, g, other) = h.to o d in
               omega (
                 arith,
                 m.longest s f (subst (λ n. InBlock n x) g b),
@@ -105,10 +105,10 @@ module _ {V W : Type 0} (Relates : V → W → Type 0) (routes : List (Route V))
 
 -- ---- a table, its numbers, the fewest routes for these, and their values
 
-Numbers : {V : Type 0} → (V → V → Ordering) → List V → V → ℕ → Type 0
+abbrev Numbers : {V : Type 0} → (V → V → Ordering) → List V → V → ℕ → Type 0
 Numbers cmp values v n = (k : ℕ) × (k + 1 ≡ n) × IsRank cmp values v k
 
-ValueOf : {V : Type 0} → List V → ℕ → V → Type 0
+abbrev ValueOf : {V : Type 0} → List V → ℕ → V → Type 0
 ValueOf {V} values n v = (d : V) → v ≡ get_or values (min (n - 1) (length values - 1)) d
 
 module _ {V : Type 0} (cmp : V → V → Ordering) (o : IsTotalOrder cmp) (table : List (Route V)) (values : List V)
@@ -135,9 +135,9 @@ module _ {V : Type 0} (cmp : V → V → Ordering) (o : IsTotalOrder cmp) (table
     where
       to : HasValue (AreEqualBy cmp) table x v → HasValue (AreEqualBy cmp) list x v
       to h =
-          let (q, m, _, number) = longest_to (Numbers cmp values) table numbers of_numbers x h.route h.matches in
+          let (q, m, same, number) = longest_to (Numbers cmp values) table numbers of_numbers x h.route h.matches in
           let g = (f.alike x q.1).0 (record { route = q; matches = m; is = refl }) in
-          let (l, n, _, value) = longest_to (ValueOf values) made list of_values x g.route g.matches in
+          let (l, n, same_too, value) = longest_to (ValueOf values) made list of_values x g.route g.matches in
           record {
             route = l;
             matches = n;
@@ -147,9 +147,9 @@ module _ {V : Type 0} (cmp : V → V → Ordering) (o : IsTotalOrder cmp) (table
 
       back : HasValue (AreEqualBy cmp) list x v → HasValue (AreEqualBy cmp) table x v
       back h =
-          let (p, m, _, value) = longest_back (ValueOf values) made list of_values x h.route h.matches in
+          let (p, m, same, value) = longest_back (ValueOf values) made list of_values x h.route h.matches in
           let g = (f.alike x p.1).1 (record { route = p; matches = m; is = refl }) in
-          let (r, n, _, number) = longest_back (Numbers cmp values) table numbers of_numbers x g.route g.matches in
+          let (r, n, same_too, number) = longest_back (Numbers cmp values) table numbers of_numbers x g.route g.matches in
           record {
             route = r;
             matches = n;
@@ -161,13 +161,13 @@ module _ {V : Type 0} (cmp : V → V → Ordering) (o : IsTotalOrder cmp) (table
 
   module _ (others : List (Route V)) (valid : (r : Route V) → Contains others r → IsNetwork r.0)
       (alike : RouteAlike (AreEqualBy cmp) table others) where
-    renumber : Route V → Route ℕ
+    abbrev renumber : Route V → Route ℕ
     renumber r = (r.0, count_less cmp values r.1 + 1)
 
-    renumbered : List (Route ℕ)
+    abbrev renumbered : List (Route ℕ)
     renumbered = map renumber others
 
-    IsCount : V → ℕ → Type 0
+    abbrev IsCount : V → ℕ → Type 0
     IsCount v n = n ≡ count_less cmp values v + 1
 
     of_counts : Correspond IsCount others renumbered
@@ -187,9 +187,9 @@ module _ {V : Type 0} (cmp : V → V → Ordering) (o : IsTotalOrder cmp) (table
       where
         to : HasValue IsSameNumber numbers x n → HasValue IsSameNumber renumbered x n
         to h =
-            let (r, m, _, number) = longest_back (Numbers cmp values) table numbers of_numbers x h.route h.matches in
+            let (r, m, same, number) = longest_back (Numbers cmp values) table numbers of_numbers x h.route h.matches in
             let g = (alike x r.1).0 (record { route = r; matches = m; is = tied_itself o r.1 }) in
-            let (t, k, _, count) = longest_to IsCount others renumbered of_counts x g.route g.matches in
+            let (t, k, same_too, count) = longest_to IsCount others renumbered of_counts x g.route g.matches in
             record {
               route = t;
               matches = k;
@@ -198,9 +198,9 @@ module _ {V : Type 0} (cmp : V → V → Ordering) (o : IsTotalOrder cmp) (table
 
         back : HasValue IsSameNumber renumbered x n → HasValue IsSameNumber numbers x n
         back h =
-            let (s, m, _, count) = longest_back IsCount others renumbered of_counts x h.route h.matches in
+            let (s, m, same, count) = longest_back IsCount others renumbered of_counts x h.route h.matches in
             let g = (alike x s.1).1 (record { route = s; matches = m; is = tied_itself o s.1 }) in
-            let (q, k, _, number) = longest_to (Numbers cmp values) table numbers of_numbers x g.route g.matches in
+            let (q, k, same_too, number) = longest_to (Numbers cmp values) table numbers of_numbers x g.route g.matches in
             record {
               route = q;
               matches = k;
@@ -212,6 +212,6 @@ module _ {V : Type 0} (cmp : V → V → Ordering) (o : IsTotalOrder cmp) (table
       arith,
       length-map others renumber,
       f.least renumbered
-          (λ q c. let (r, d, e, _) = of_counts.back q c in subst IsNetwork e (valid r d))
-          (λ q c. let (r, d, _, count) = of_counts.back q c in omega (arith, count)) numbers_alike,
+          (λ q c. let (r, d, e, count) = of_counts.back q c in subst IsNetwork e (valid r d))
+          (λ q c. let (r, d, e, count) = of_counts.back q c in omega (arith, count)) numbers_alike,
     )

@@ -84,7 +84,7 @@ part_in n (q ∷ routes) =
 -- ---- the longest route above a network
 
 -- A shorter network around `n`.
-IsAbove : Network → Route ℕ → Type 0
+abbrev IsAbove : Network → Route ℕ → Type 0
 IsAbove n x = IsSubnetOf n x.0 × (x.0.prefix_len < n.prefix_len)
 
 above_decided : (n : Network) (x : Route ℕ) → IsAbove n x ⊎ (IsAbove n x → ⊥)
@@ -165,7 +165,7 @@ module _ (wanted : List (Route ℕ)) (value : ℕ) (n block : Network) (values :
     p : HasPart n others
     p = part_in n others
 
-    part : List (Route ℕ)
+    abbrev part : List (Route ℕ)
     part = p.part
 
     in_part : AreRoutesIn n part
