@@ -1,6 +1,6 @@
 -- Blocks as the code has them, from their halves.
 use Rattle.std.proofs.Common.{◌≡◌, ◌≢◌, ℕ, ◌+◌, ◌-◌, ◌<◌, ◌≤◌, ◌⊎◌, ◌↔◌, List, [], ◌∷◌, ◌++◌, length, map, get_or, take}
-use Rattle.std.proofs.Common.{Bool, true, false, drop, Contains, tt, refl, sym, ap, ap₂, ◌∙◌, subst, arith, inl, inr, append_assoc}
+use Rattle.std.proofs.Common.{Bool, true, false, subst₂, drop, Contains, tt, refl, sym, ap, ap₂, ◌∙◌, subst, arith, inl, inr, append_assoc}
 use Rattle.std.proofs.lemmas.List.{length-append, length-map, take-map, drop-map, map-append, take-append-drop}
 use Rattle.std.proofs.lemmas.List.Elements.{Contains-append_left, Contains-append_right}
 use Rattle.std.specs.List.Sorted.{IsNonDecreasing}
@@ -56,6 +56,14 @@ module _ (old now : List Choice) (front back : List (Route ℕ)) (value : ℕ) (
         h.in_first h.in_second first.values.items second.values.items p q h.of_first.best.solved
         h.of_second.best.solved values some are;
   }
+
+  -- the same, with the lists as they were passed on
+  pub common_of : (ones twos : List ℕ) → ones ≡ first.values.items → twos ≡ second.values.items → (values : List ℕ)
+      → 0 < length values → IsNonDecreasing values
+      → ((v : ℕ) → Contains values v ↔ (Contains ones v × Contains twos v))
+      → AreBestValues old now (front ++ back) value around values
+  common_of ones twos e g values some sorted are = best_common values some sorted
+      (λ v. subst₂ (λ xs ys. Contains values v ↔ (Contains xs v × Contains ys v)) e g (are v))
 
   module _ (w : ℕ) (of_second : Contains second.values.items w)
       (apart : (v : ℕ) → Contains first.values.items v → Contains second.values.items v → ⊥) where
@@ -119,6 +127,13 @@ module _ (old now : List Choice) (front back : List (Route ℕ)) (value : ℕ) (
           ∙ ap (λ z. old ++ z) (append_assoc (choices_of p) (choices_of q) (choice ∷ []));
       solved = solved_both values are;
     }
+
+-- none of the values is in both lists, if a list of the common ones is empty
+pub none_common : (ones twos : List ℕ) (xs ys common : List ℕ) → ones ≡ xs → twos ≡ ys → length common ≡ 0
+    → ((v : ℕ) → Contains common v ↔ (Contains ones v × Contains twos v)) → (v : ℕ) → Contains xs v → Contains ys v → ⊥
+none_common ones twos xs ys common e g none are v c d =
+    let k : Contains common v = (are v).1 (subst (λ z. Contains z v) (sym e) c, subst (λ z. Contains z v) (sym g) d) in
+    omega (arith, none, k.1)
 
 -- ---- a block without routes, and one with a route of its own
 
