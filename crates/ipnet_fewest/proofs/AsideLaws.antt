@@ -26,6 +26,7 @@ use Rattle.ipnet_fewest.proofs.WideLaws.{solved_wider}
 pub other_way : (l r around : Network) → AreHalvesOf l r around → AreHalvesOf r l around
 other_way l r around h = record {
   network = h.network;
+  truncated = h.truncated;
   first_network = h.second_network;
   second_network = h.first_network;
   first_truncated = h.second_truncated;

@@ -1,6 +1,6 @@
 -- Blocks as the code has them, from their halves.
 use Rattle.std.proofs.Common.{◌≡◌, ◌≢◌, ℕ, ◌+◌, ◌-◌, ◌<◌, ◌≤◌, ◌⊎◌, ◌↔◌, List, [], ◌∷◌, ◌++◌, length, map, get_or, take}
-use Rattle.std.proofs.Common.{Bool, true, false, subst₂, drop, Contains, tt, refl, sym, ap, ap₂, ◌∙◌, subst, arith, inl, inr, append_assoc}
+use Rattle.std.proofs.Common.{Option, Some, None, MatchOption, Bool, true, false, subst₂, drop, Contains, tt, refl, sym, ap, ap₂, ◌∙◌, subst, arith, inl, inr, append_assoc}
 use Rattle.std.proofs.lemmas.List.{length-append, length-map, take-map, drop-map, map-append, take-append-drop}
 use Rattle.std.proofs.lemmas.List.Elements.{Contains-append_left, Contains-append_right}
 use Rattle.std.specs.List.Sorted.{IsNonDecreasing}
@@ -170,9 +170,14 @@ best_under old new t rest value around block holds longer some b = record {
 
 -- ---- the table around a block
 
-pub head_of : {X : Type 0} (xs : List X) (x : X) → 0 < length xs → x ≡ get_or xs 0 x → xs ≡ x ∷ drop 1 xs
-head_of [] x lt e = absurd (omega (arith, lt))
-head_of (y ∷ ys) x lt e = ap (λ z. z ∷ ys) (sym e)
+-- what is known of an option that has no value
+pub none_if : {X : Type 0} (o : Option X) (P : Type 0) (Q : X → Type 0) → ((x : X) → o ≢ Some x) → MatchOption o P Q → P
+none_if None P Q out h = h
+none_if (Some x) P Q out h = absurd (out x refl)
+
+pub no_items : {X : Type 0} (xs : List X) → length xs ≡ 0 → xs ≡ []
+no_items [] e = refl
+no_items (x ∷ xs) e = absurd (omega (arith, e))
 
 abbrev route : IpNet × ℕ → Route ℕ
 route r = (ip_network r.0, r.1)
@@ -298,7 +303,7 @@ module _ (old now : List Choice) (routes : List (Route ℕ)) (value : ℕ) (arou
   -- or not
   module _ (out : Contains inner.values.items value → ⊥) (parent sibling : IpNet)
       (h : AreHalvesOf (ip_network inner.network) (ip_network sibling) (ip_network parent))
-      (cut : IsTruncated (ip_network around)) (parent_cut : IsTruncated (ip_network parent)) where
+      (cut : IsTruncated (ip_network around)) where
     abbrev beside : Choice
     beside = record {
       first = inner.network;
@@ -318,7 +323,7 @@ module _ (old now : List Choice) (routes : List (Route ℕ)) (value : ℕ) (arou
 
     same_parent : (ip_network parent).prefix_len ≡ (ip_network around).prefix_len → ip_network parent ≡ ip_network around
     same_parent e = same_from_block (ip_network parent) (ip_network around) (ip_valid parent) (ip_valid around)
-        parent_cut cut
+        h.truncated cut
         (up, nested_by_len (ip_network around) (ip_network parent) (own (ip_network inner.network))
         (sub (own (ip_network inner.network)) (own_in (ip_network inner.network)))
         (h.first_within (own (ip_network inner.network)) (own_in (ip_network inner.network))) (omega (arith, e)))

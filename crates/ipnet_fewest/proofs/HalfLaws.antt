@@ -96,6 +96,7 @@ module _ (around l r long_l long_r : Network) (low high : Address) (u : IsNetwor
   pub are_halves_of : AreHalvesOf l r around
   are_halves_of = record {
     network = u;
+    truncated = cut;
     first_network = tl.network;
     second_network = tr.network;
     first_truncated = tl.truncated;

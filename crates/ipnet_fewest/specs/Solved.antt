@@ -71,6 +71,7 @@ pub record IsSolved (wanted : List (Route ℕ)) (value : ℕ) (block : Network) 
 -- The two halves of a network.
 pub record AreHalvesOf (first second around : Network) : Type 0 where
   pub network : IsNetwork around
+  pub truncated : IsTruncated around
   pub first_network : IsNetwork first
   pub second_network : IsNetwork second
   pub first_truncated : IsTruncated first

@@ -118,15 +118,15 @@ pub(crate) fn solved(
         (ip_network around.now) block) }
 {
     let start = choices.len();
-    if routes.is_empty() {
+    let Some((first, rest)) = routes.split_first() else {
         return Ok(Block {
             network: *around,
             values: one_value(alloc, value)?,
             size: 0,
         });
-    }
-    if routes[0].0.prefix_len() == around.prefix_len() {
-        return solved(alloc, choices, &routes[1..], around, routes[0].1);
+    };
+    if first.0.prefix_len() == around.prefix_len() {
+        return solved(alloc, choices, rest, around, first.1);
     }
     let near = near_network(routes, around);
     if near.prefix_len() > around.prefix_len() {
