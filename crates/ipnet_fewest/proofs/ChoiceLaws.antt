@@ -1,5 +1,5 @@
 -- The choices of a plan, from the last one.
-use Rattle.std.proofs.Common.{◌≡◌, ℕ, ◌+◌, ◌-◌, ◌<◌, ◌≤◌, List, [], ◌∷◌, ◌++◌, length, map, take, drop, refl, sym, ap}
+use Rattle.std.proofs.Common.{◌≡◌, ℕ, ◌+◌, ◌-◌, ◌<◌, ◌≤◌, List, [], ◌∷◌, ◌++◌, length, get_or, take, drop, refl, sym, ap}
 use Rattle.std.proofs.Common.{◌∙◌, subst, arith, append_assoc}
 use Rattle.std.proofs.lemmas.List.{length-append, append_cancel_left, append_cancel_right, take-append-drop}
 use Rattle.ipnet_routes.specs.Routes.{Route}
@@ -28,15 +28,12 @@ drop_where all xs ys n e size =
     ap (drop n) e ∙ ap (λ k. drop k (xs ++ ys)) (omega (arith, size, ap length e, length-append xs ys)) ∙ drop_of xs ys
 
 last_same : {X : Type 0} (xs ys : List X) (x y : X) → xs ++ x ∷ [] ≡ ys ++ y ∷ [] → (xs ≡ ys) × (x ≡ y)
-last_same [] [] x y e = (refl, head_same e)
-  where
-    head_same : x ∷ [] ≡ y ∷ [] → x ≡ y
-    head_same e = cc
+last_same [] [] x y e = (refl, ap (λ l. get_or l 0 x) e)
 last_same [] (z ∷ ys) x y e = absurd (omega (arith, ap length e, length-append ys (y ∷ [])))
 last_same (z ∷ xs) [] x y e = absurd (omega (arith, ap length e, length-append xs (x ∷ [])))
 last_same (z ∷ xs) (w ∷ ys) x y e =
     let rest : xs ++ x ∷ [] ≡ ys ++ y ∷ [] = ap (drop 1) e in
-    let heads : z ≡ w = cc in
+    let heads : z ≡ w = ap (λ l. get_or l 0 z) e in
     let both = last_same xs ys x y rest in
     (ap (λ k. k ∷ xs) heads ∙ ap (λ k. w ∷ k) both.0, both.1)
 
