@@ -133,8 +133,27 @@ fn all_entries(
     for notes in lists {
         for noted in notes.into_entries()? {
             let NotedEntry { network, title } = noted;
+            let rest = match title.as_str().split_once(": ") {
+                Some((_, rest)) => rest,
+                None => "",
+            };
+            // the first address of a range of IPv6 may end with a colon
+            let is_range = !is_ipv4(&network) && rest.starts_with("- ");
+            let comment = if is_range {
+                match rest.split_once(": ") {
+                    Some((_, comment)) => comment,
+                    None => "",
+                }
+            } else {
+                rest
+            };
+            let comment = String::from_str(alloc, comment)?;
             let title = listed_title(alloc, names, place, title)?;
-            entries.push(MapEntry { network, title })?;
+            entries.push(MapEntry {
+                network,
+                title,
+                comment,
+            })?;
         }
         place = place.saturating_add(1);
     }

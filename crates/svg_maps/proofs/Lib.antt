@@ -1,6 +1,7 @@
 -- Lemmas.
 pub mod NodeLaws
 pub mod FormLaws
+pub mod LegendLaws
 pub mod PageLaws
 pub mod CountLaws
 pub mod FreeLaws

@@ -49,7 +49,7 @@ abbrev pub IsTitledBy : Network → List Counted → List ℕ → Option (String
 IsTitledBy n counted text None = ⊥
 IsTitledBy n counted text (Some title) = IsEntryTitle n counted text (string_bytes title)
 
--- The outline is of the entry: its area and its title.
+-- The outline is of the entry: its area, its title, and the comment of the entry, which is written in it.
 -- Example: the title `10.20.168.0/22: dhcp-246 (10.20.168.0/22, 1024 addresses, 1024 used)` at the rectangle of
 -- 10.20.168.0/22.
 pub record IsEntryOutline (counted : List Counted) (frame : Network) (depth : ℕ) (e : MapEntry) (o : Outline) : Type 0
@@ -57,6 +57,7 @@ pub record IsEntryOutline (counted : List Counted) (frame : Network) (depth : �
     pub class : o.class ≡ Entry
     pub area : IsRectangleIn frame depth (ip_network e.network) o.rectangle
     pub title : IsTitledBy (ip_network e.network) counted (string_bytes e.title) o.title
+    pub comment : string_bytes o.comment ≡ string_bytes e.comment
 
 -- The outlines are of the entries that are shown, in order: each of these has one, and no other entry has.
 -- Example: one outline, of the second of two entries, if the first is outside.

@@ -3,6 +3,7 @@ pub mod ClassTexts
 pub mod Pages
 pub mod Squares
 pub mod Maps
+pub mod Legends
 pub mod Styles
 pub mod FreeOutlines
 pub mod NamedOutlines

@@ -1,6 +1,9 @@
 //! Maps of a set, of a change and of several sets, as documents of SVG.
 ghost use Rattle.std.specs.Prelude.{◌≡◌, IfOk, length, map, string_bytes};
+ghost use Rattle.ipnet_bars.specs.Parts.{counted};
+ghost use Rattle.ipnet_sets.specs.Members.{IsMember};
 ghost use Rattle.ipnet.specs.NetworkOf.{ip_network};
+ghost use Rattle.svg_maps.specs.Legends.{outside_line, outside_note, IsOutsideNote};
 ghost use Rattle.svg_maps.specs.Maps.{list_words};
 ghost use Rattle.svg_maps.specs.Overlays.{IsOutlinedSetMap, IsOutlinedChangeMap, IsOutlinedSetsMap};
 
@@ -10,7 +13,7 @@ use crate::overlay::{Extent, Look, overlay_of};
 use crate::square::Counted;
 use crate::style::style_of;
 use ipnet::IpNet;
-use ipnet_bars::outside_of;
+use ipnet_bars::{outside_of, push_count};
 use ipnet_maps::{draw_change, draw_set, draw_sets};
 use ipnet_sets::IpSet;
 use std::alloc::{AllocError, Global};
@@ -18,17 +21,36 @@ use std::alloc::{AllocError, Global};
 /// The words after the number of addresses of a list without a name.
 const NO_NAME: &str = "in a list without a name";
 
-/// The note at the foot of a map about addresses that are not on it; empty if there are none.
-fn note_of(alloc: Global, set: &IpSet, frame: &IpNet) -> Result<String, AllocError> {
+/// The line of the foot with these numbers of addresses.
+fn outside_line(alloc: Global, ipv4: u64, ipv6: Option<u128>) -> Result<String, AllocError>
+    ensures { IfOk result (λ line. string_bytes line ≡ outside_line ipv4 (counted ipv6)) }
+{
+    let mut line = String::from_str(alloc, "Not shown: IPv4 ")?;
+    write!(line, "{ipv4}")?;
+    line.push_str(", IPv6 ")?;
+    push_count(&mut line, ipv6)?;
+    line.push_str(".")?;
+    Ok(line)
+}
+
+/// The line of the foot with these numbers of addresses; empty if both are 0.
+fn outside_note(alloc: Global, ipv4: u64, ipv6: Option<u128>) -> Result<String, AllocError>
+    ensures { IfOk result (λ note. string_bytes note ≡ outside_note ipv4 (counted ipv6)) }
+{
+    match (ipv4, ipv6) {
+        (0, Some(0)) => Ok(String::new(alloc)),
+        _ => outside_line(alloc, ipv4, ipv6),
+    }
+}
+
+/// The line of the foot about addresses of the set that are not on the map; empty if there are none.
+fn note_of(alloc: Global, set: &IpSet, frame: &IpNet) -> Result<String, AllocError>
+    ensures { IfOk result (λ note. IsOutsideNote (IsMember set.now) (ip_network frame.now) (string_bytes note)) }
+{
     let outside = outside_of(alloc, set, frame)?;
-    if outside.is_empty() {
-        return Ok(String::new(alloc));
-    }
     let ipv4 = outside.ipv4_count();
-    match outside.ipv6_count() {
-        Some(ipv6) => format!(in alloc; " Not shown: IPv4 {ipv4}, IPv6 {ipv6}."),
-        None => format!(in alloc; " Not shown: IPv4 {ipv4}, all of IPv6."),
-    }
+    let ipv6 = outside.ipv6_count();
+    outside_note(alloc, ipv4, ipv6)
 }
 
 /// Returns the map of the set in the frame, as a document of SVG. Fails only if memory runs out.
