@@ -33,7 +33,7 @@ def check_hostile(maps):
     for number, comment in enumerate(comments if picture else []):
         front = cut_text(comment.decode("utf-8", "replace"))
         wanted = "10.20.%d.0/24: %s" % (number, files.shown(front.encode()))
-        wanted += " (10.20.%d.0/24, 256 addresses, 256 used)" % number
+        wanted += " (10.20.%d.0/24, 256 addresses, 256 addresses used (100.0 %%))" % number
         checks.check("comment %d" % number, [text for text in picture.texts() if text == wanted], [wanted])
     check_hostile_names(maps)
 

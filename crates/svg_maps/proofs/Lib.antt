@@ -4,6 +4,7 @@ pub mod FormLaws
 pub mod LegendLaws
 pub mod PageLaws
 pub mod CountLaws
+pub mod GroupLaws
 pub mod FreeLaws
 pub mod NamedLaws
 pub mod EntryLaws

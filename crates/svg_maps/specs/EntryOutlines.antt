@@ -38,7 +38,8 @@ pub record IsShownEntry (frame : Network) (depth : ℕ) (e : MapEntry) : Type 0 
 
 -- The title of the area of an entry with this text: the text, and then in parentheses what the title of a square with
 -- its network says, which is how many of its addresses each set has.
--- Example: `10.20.168.9/22: dhcp-246 (10.20.168.0/22, 1024 addresses, 1024 used)`, for `10.20.168.9/22: dhcp-246`.
+-- Example: `10.20.168.9/22: dhcp-246 (10.20.168.0/22, 1,024 addresses, 1,024 addresses used (100.0 %))`, for
+-- `10.20.168.9/22: dhcp-246`.
 pub record IsEntryTitle (n : Network) (counted : List Counted) (text title : List ℕ) : Type 0 where
   pub place : List ℕ
   pub is_place : IsTitle n counted place
@@ -50,8 +51,8 @@ IsTitledBy n counted text None = ⊥
 IsTitledBy n counted text (Some title) = IsEntryTitle n counted text (string_bytes title)
 
 -- The outline is of the entry: its area, its title, and the comment of the entry, which is written in it.
--- Example: the title `10.20.168.0/22: dhcp-246 (10.20.168.0/22, 1024 addresses, 1024 used)` at the rectangle of
--- 10.20.168.0/22.
+-- Example: the title `10.20.168.0/22: dhcp-246 (10.20.168.0/22, 1,024 addresses, 1,024 addresses used (100.0 %))` at
+-- the rectangle of 10.20.168.0/22.
 pub record IsEntryOutline (counted : List Counted) (frame : Network) (depth : ℕ) (e : MapEntry) (o : Outline) : Type 0
   where
     pub class : o.class ≡ Entry

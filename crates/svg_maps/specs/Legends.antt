@@ -50,7 +50,8 @@ layer_row names layer = (layer.class, class_words names layer.class)
 abbrev pub legend_rows : List (List ℕ) → List Layer → List (Class × List ℕ)
 legend_rows names layers = map (layer_row names) (filter has_cells layers)
 
--- The line of the foot with these numbers of addresses that the map does not show. Example: `Not shown: IPv4 1, IPv6 1.`
+-- The line of the foot with these numbers of addresses that the map does not show.
+-- Example: `Not shown: IPv4 1, IPv6 1.`
 abbrev pub outside_line : ℕ → ℕ → List ℕ
 outside_line ipv4 ipv6 = codes "Not shown: IPv4 " ++ decimal ipv4 ++ codes ", IPv6 " ++ decimal ipv6 ++ codes "."
 

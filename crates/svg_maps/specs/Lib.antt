@@ -1,6 +1,7 @@
 -- The definitions that the contracts of this crate cite.
 pub mod ClassTexts
 pub mod Pages
+pub mod Counts
 pub mod Squares
 pub mod Maps
 pub mod Legends

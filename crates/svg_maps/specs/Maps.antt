@@ -39,7 +39,7 @@ pub record IsMapText (frame : Network) (counted : List Counted) (d : Drawing) (n
 
 -- The text is a map of the set in the frame: the drawing of its levels, and squares that count its addresses. The foot
 -- has how many of its addresses are outside the frame.
--- Example: the title of a square is `10.20.5.0/24, 256 addresses, 57 used`.
+-- Example: the title of a square is `10.20.5.0/24, 256 addresses, 57 addresses used (22.2 %)`.
 pub record IsSetMap (set : IpSet) (frame : Network) (text : List ℕ) : Type 0 where
   pub drawing : Drawing
   pub drawn : IsDrawingOf (IsMember set) (HasLevelClass (IsMember set)) level_classes frame drawing
@@ -54,7 +54,8 @@ pub record IsSetMap (set : IpSet) (frame : Network) (text : List ℕ) : Type 0 w
 -- count the addresses that only the first has, that only the second has, and that both have. The foot has how many
 -- changed addresses are outside the frame.
 -- Example: the title of a square is
--- `10.20.5.0/24, 256 addresses, 3 only in the first, 0 only in the second, 57 in both`.
+-- `10.20.5.0/24, 256 addresses, 3 addresses only in the first (1.1 %), 0 addresses only in the second (0.0 %), 57
+-- addresses in both (22.2 %)`.
 pub record IsChangeMap (before after : IpSet) (frame : Network) (text : List ℕ) : Type 0 where
   pub drawing : Drawing
   pub drawn : IsDrawingOf (IsInEither (IsMember before) (IsMember after))
@@ -82,7 +83,8 @@ list_words name = codes "in " ++ name
 -- The text is a map of the sets in the frame: the drawing of the cells that one set has, or several, and squares that
 -- count the addresses of each set, by its name if each set has one. The foot has how many addresses of the sets are
 -- outside the frame.
--- Example: the title of a square is `10.20.5.0/24, 256 addresses, 57 in office.txt, 0 in vpn.txt`.
+-- Example: the title of a square is
+-- `10.20.5.0/24, 256 addresses, 57 addresses in office.txt (22.2 %), 0 addresses in vpn.txt (0.0 %)`.
 pub record IsSetsMap (sets : List IpSet) (names : List (List ℕ)) (frame : Network) (text : List ℕ) : Type 0 where
   pub drawing : Drawing
   pub drawn : IsDrawingOf (IsInSome IsMember sets) (HasSharedClass sets) (shared_classes sets) frame drawing

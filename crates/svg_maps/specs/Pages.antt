@@ -1,6 +1,6 @@
 -- Pages: the document of a map.
-use Rattle.std.specs.Prelude.{◌≤◌, ℕ, ◌+◌, ◌*◌, ◌/◌, min, max, List, [], ◌∷◌, ◌++◌, map, filter, codes, decimal, string_bytes}
-use Rattle.std.specs.Prelude.{Option, Some, None, String}
+use Rattle.std.specs.Prelude.{◌≤◌, ℕ, ◌+◌, ◌*◌, ◌/◌, min, max, List, [], ◌∷◌, ◌++◌, map, filter, codes, decimal}
+use Rattle.std.specs.Prelude.{Option, Some, None, String, string_bytes}
 use Rattle.std.specs.Global.{Global}
 use Rattle.ipnet_maps.specs.declared.drawing.Layer.{Layer}
 use Rattle.ipnet_maps.specs.declared.layout.Place.{Place}

@@ -114,7 +114,7 @@ fn push_found(outlines: &mut Vec<Outline>, found: Option<Outline>) -> Result<(),
 ///
 /// ```text
 /// of 10.20.168.0/22 with "10.20.168.9/22: dhcp-246", in 10.20.0.0/16: the title is
-/// "10.20.168.9/22: dhcp-246 (10.20.168.0/22, 1024 addresses, 1024 used)"
+/// "10.20.168.9/22: dhcp-246 (10.20.168.0/22, 1,024 addresses, 1,024 addresses used (100.0 %))"
 /// ```
 pub(crate) fn entry_outlines(
     alloc: Global,

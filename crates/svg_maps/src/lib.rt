@@ -5,6 +5,7 @@ pub mod area;
 pub mod captions;
 pub mod chart;
 pub mod class;
+pub(crate) mod count;
 pub mod entry;
 pub(crate) mod extent;
 pub mod form;

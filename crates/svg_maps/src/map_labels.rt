@@ -55,8 +55,8 @@ fn ring_boxes(alloc: Global, rings: &[Ring]) -> Result<Vec<Rectangle>, AllocErro
     Ok(boxes)
 }
 
-/// Adds the labels of squares that meet no other label, no ring, and no area with a label of its own. A label over cells
-/// of several colours is left out.
+/// Adds the labels of squares that meet no other label, no ring, and no area with a label of its own. A label over
+/// cells of several colours is left out.
 fn push_square_labels(
     placed: &mut Placed,
     labels: Vec<Label>,

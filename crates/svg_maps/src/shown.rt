@@ -195,7 +195,7 @@ fn counted_of<'a>(
 ///
 /// ```text
 /// of 10.20.0.0/24 and 10.20.1.0/24, named a and b, in 10.20.0.0/16: the title of the first square is
-/// "10.20.0.0/24, 256 addresses, 256 in a, 0 in b"
+/// "10.20.0.0/24, 256 addresses, 256 addresses in a (100.0 %), 0 addresses in b (0.0 %)"
 /// ```
 pub fn sets_map_text(
     alloc: Global,
