@@ -140,7 +140,8 @@ def rendered():
 def corners():
     """Small maps with a corner case in each."""
     chance = random.Random(SEED + 1)
-    thirds = ["10.0.%d.0-10.0.%d.%d" % (number, number, number) for number in range(16)]
+    quarters = ["10.0.%d.0-10.0.%d.%d" % (number, number, number) for number in range(16)]
+    few = ["20.0.0.0-20.0.0.14", "20.0.16.0-20.0.16.15", "20.0.32.0-20.0.35.254", "20.0.48.0/22"]
     nested = ["10.0.0.0/9", "10.1.0.0/16", "10.1.0.0/16", "10.1.2.3", "10.1.2.0-10.1.3.9"]
     return [
         Case("/0 and all of it", "0.0.0.0/0", [["0.0.0.0/0"]]),
@@ -149,7 +150,8 @@ def corners():
         Case("/0 of IPv6 and two ends", "::/0", [["::", "ffff:ffff:ffff:ffff:ffff:ffff:ffff:ffff"]]),
         Case("a /31 in a map of /24", "16.0.0.0/4", [["17.1.2.4/31"]]),
         Case("all but one address of a /24", "16.0.0.0/4", [["17.1.2.0-17.1.2.254", "17.1.3.1-17.1.3.255"]]),
-        Case("near one and two thirds", "10.0.0.0/8", [thirds]),
+        Case("near a quarter", "10.0.0.0/8", [quarters]),
+        Case("near a quarter and one of 256", "0.0.0.0/0", [few]),
         Case("one address", None, [["10.0.0.1"]]),
         Case("one IPv6 address", None, [["2001:db8::1"]]),
         Case("a /31", None, [["10.0.0.0", "10.0.0.1"]]),

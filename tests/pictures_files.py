@@ -25,19 +25,19 @@ THEMES = LIGHT_THEME, DARK_THEME
 # the light and the dark colour of each class
 COLOURS = {
     "page": ("#ffffff", "#16181c"), "ground": ("#f1f1ee", "#24272d"),
-    "some": ("#a3c9e6", "#264a68"), "third": ("#5fa3d3", "#35719f"), "two thirds": ("#2171b5", "#5aa2d8"),
-    "all": ("#08306b", "#a8d8ff"),
+    "sparse": ("#a3c9e6", "#264a68"), "below a quarter": ("#5fa3d3", "#35719f"),
+    "from a quarter": ("#2171b5", "#5aa2d8"), "all": ("#08306b", "#a8d8ff"),
     "removed": ("#d55e00", "#f28a35"), "added": ("#0072b2", "#4db2ff"), "mixed": ("#000000", "#ffffff"),
     "kept": ("#8f8f8a", "#6c727c"), "kept part": ("#bdbdb8", "#484d56"),
     "list 1": ("#0072b2", "#2a78c8"), "list 2": ("#e69f00", "#e69f00"), "list 3": ("#009e73", "#1fb98d"),
     "list 4": ("#cc79a7", "#cc79a7"), "list 5": ("#56b4e9", "#9bd8ff"), "list 6": ("#d55e00", "#d55e00"),
     "shared": ("#000000", "#ffffff"),
 }
-SHARES = ("some", "third", "two thirds", "all")
+SHARES = ("sparse", "below a quarter", "from a quarter", "all")
 # what the legend says of each class, by its name in the style sheet
 WORDS_OF = {
-    "s1": "less than a third of a dot is in the list", "s2": "a third of a dot or more is in the list",
-    "s3": "two thirds of a dot or more are in the list, but not all", "s4": "all of a dot is in the list",
+    "s1": "less than one of 256 addresses of a dot is in the list", "s2": "less than a quarter of a dot is in the list",
+    "s3": "a quarter of a dot or more is in the list, but not all", "s4": "all of a dot is in the list",
     "old": "removed: addresses that only the first list has", "new": "added: addresses that only the second list has",
     "mix": "both: some addresses of a dot are removed, and others are added",
     "bothp": "no change: a part of a dot is in both lists", "both": "no change: all of a dot is in both lists",

@@ -75,7 +75,7 @@ def share_class(count, size):
     """The class in a map of one list: `all` only if the cell has no other address."""
     if count in (0, size):
         return "all" if count else None
-    return "some" if 3 * count < size else "third" if 3 * count < 2 * size else "two thirds"
+    return "sparse" if 256 * count < size else "below a quarter" if 4 * count < size else "from a quarter"
 
 
 def change_class(before, after, either, size):

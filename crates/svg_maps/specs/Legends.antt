@@ -19,9 +19,9 @@ list_name place (Some name) = name
 -- The words of the legend for the colour of a class, for lists with these names.
 -- Example: `all of a dot is in the list`, and for a colour of several lists `all of a dot is in office.txt`.
 abbrev pub class_words : (names : List (List ℕ)) → Class → List ℕ
-class_words names Classes.BelowThird = codes "less than a third of a dot is in the list"
-class_words names Classes.FromThird = codes "a third of a dot or more is in the list"
-class_words names Classes.FromTwoThirds = codes "two thirds of a dot or more are in the list, but not all"
+class_words names Classes.Sparse = codes "less than one of 256 addresses of a dot is in the list"
+class_words names Classes.BelowQuarter = codes "less than a quarter of a dot is in the list"
+class_words names Classes.FromQuarter = codes "a quarter of a dot or more is in the list, but not all"
 class_words names Classes.Whole = codes "all of a dot is in the list"
 class_words names Classes.Removed = codes "removed: addresses that only the first list has"
 class_words names Classes.Added = codes "added: addresses that only the second list has"

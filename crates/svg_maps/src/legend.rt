@@ -44,9 +44,9 @@ fn class_words(alloc: Global, class: Class, names: &[&str]) -> Result<String, Al
     ensures { IfOk result (λ text. string_bytes text ≡ class_words (map (λ n. n.now) names.now) class) }
 {
     let words = match class {
-        Class::BelowThird => "less than a third of a dot is in the list",
-        Class::FromThird => "a third of a dot or more is in the list",
-        Class::FromTwoThirds => "two thirds of a dot or more are in the list, but not all",
+        Class::Sparse => "less than one of 256 addresses of a dot is in the list",
+        Class::BelowQuarter => "less than a quarter of a dot is in the list",
+        Class::FromQuarter => "a quarter of a dot or more is in the list, but not all",
         Class::Whole => "all of a dot is in the list",
         Class::Removed => "removed: addresses that only the first list has",
         Class::Added => "added: addresses that only the second list has",

@@ -50,7 +50,7 @@ struct Part {
 /// The class in whose colour a ring around cells of the class is drawn. In a map of one set, this is the darkest one.
 fn ring_class(class: Class) -> Class {
     match class {
-        Class::BelowThird | Class::FromThird | Class::FromTwoThirds => Class::Whole,
+        Class::Sparse | Class::BelowQuarter | Class::FromQuarter => Class::Whole,
         Class::PartOf(place) => Class::WholeOf(place),
         _ => class,
     }

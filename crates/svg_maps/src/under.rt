@@ -31,7 +31,7 @@ struct Ground {
 /// The look of a text that can be read on cells of the class, in light and in dark themes.
 fn ink_on(class: Class) -> Ink {
     match class {
-        Class::FromTwoThirds
+        Class::FromQuarter
         | Class::Whole
         | Class::Added
         | Class::Mixed
