@@ -40,7 +40,8 @@ pub record IsWalkOf (range : SubnetRange) (networks : List Network) : Type 0 whe
 -- One call of `next` on a walk. `network_of` is the network that an item represents, `range_of` the range of a walk,
 -- and `left` the networks that it still yields. The trait promises that the first of them is returned; this adds the
 -- rest.
--- Example: on the walk above the first call returns 10.0.0.0/25, and leaves 10.0.0.128 to 10.0.0.239 with minimum 0.
+-- Example: on the walk over 10.0.0.0 to 10.0.0.239 with minimum 0, the first call returns 10.0.0.0/25. It leaves
+-- 10.0.0.128 to 10.0.0.239 with minimum 0.
 pub record IsSubnetStep {S A : Type 0} (network_of : A → Network) (range_of : S → SubnetRange) (left : S → List Network)
     (old : S) (answer : Option A) (new : S) : Type 0 where
   -- The standard library requires this of each `next`: the list gets shorter. A `for` loop uses its fields `on`,
@@ -54,10 +55,10 @@ pub record IsSubnetStep {S A : Type 0} (network_of : A → Network) (range_of : 
   -- The stored ends after the call.
   pub advanced : IfSome answer (λ n. (x : Address) → IsGreatestOf (network_of n) x
       → IsAdvancedPast x.number (range_of old) (range_of new))
-  -- the list before the call is the walk over the range before, and the list after it the walk over the range after
+  -- The list before the call is the walk over the range before, and the list after it the walk over the range after.
   pub walk : IsWalkOf (range_of old) (left old)
   pub rest : IsWalkOf (range_of new) (left new)
-  -- `None` is returned if and only if the start is above the end, and then nothing changes
+  -- `None` is returned if and only if the start is above the end, and then nothing changes.
   pub over : IsNone answer ↔ ((range_of old).end < (range_of old).start)
   pub unchanged : IfNone answer (new ≡ old)
 
