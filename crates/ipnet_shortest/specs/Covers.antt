@@ -29,7 +29,8 @@ IsAdded InSet networks x = IsCoveredBy networks x × ¬ (InSet x)
 
 -- A cover within the limit, such that no cover within the limit adds fewer addresses, and none that adds as few has
 -- fewer networks.
--- Example: with the limit 2 it is 10.0.0.0/30, 10.0.0.8/32, which adds two addresses; 10.0.0.0/32, 10.0.0.0/28 adds 13.
+-- Example: with the limit 2 it is 10.0.0.0/30, 10.0.0.8/32, which adds two addresses. Any /28 or larger network of a
+-- cover adds at least 13.
 pub record IsBestCover (limit : ℕ) (InSet IsForbidden : Address → Type 0) (networks : List Network) : Type 0 where
   pub cover : IsCoverWithin limit InSet IsForbidden networks
   -- the number of addresses that it adds
@@ -40,7 +41,7 @@ pub record IsBestCover (limit : ℕ) (InSet IsForbidden : Address → Type 0) (n
   pub fewest_networks : (others : List Network) → IsCoverWithin limit InSet IsForbidden others
       → IsCountOf (IsAdded InSet others) added → length networks ≤ length others
 
--- Some list covers the set within the limit.
+-- Some list covers the set within the limit. Example: none does with the limit 1, if 10.0.0.1 is forbidden.
 abbrev pub HasCoverWithin : ℕ → (Address → Type 0) → (Address → Type 0) → Type 0
 HasCoverWithin limit InSet IsForbidden = (networks : List Network) × IsCoverWithin limit InSet IsForbidden networks
 
