@@ -1,4 +1,5 @@
 -- The lemmas of this crate.
 mod HostFacts
 mod DigitFacts
+mod FactTexts
 mod ZoneFacts

@@ -2,7 +2,7 @@
 use crate::{Answer, Question, show};
 use ipnet::{IpAddr, IpNet};
 use ipnet_info::{
-    address_count, decimal_text, first_host, hexadecimal_text, host_count, last_host,
+    address_count, decimal_text, facts_text, first_host, hexadecimal_text, host_count, last_host,
     reverse_zones, written_out, zone_name,
 };
 use std::alloc::{AllocError, Global};
@@ -21,6 +21,7 @@ pub fn ask(alloc: Global, question: Question<'_>) -> Answer {
         "hexadecimal_text" => hexadecimal_text(alloc, &network.addr())?,
         "written_out" => show_written_out(alloc, &network.addr())?,
         "zone_name" => zone_name(alloc, &network)?,
+        "facts_text" => show(alloc, facts_text(alloc, &network)?)?,
         "reverse_zones" => show_zones(alloc, &network)?,
         _ => return Ok(None),
     };
