@@ -1,6 +1,6 @@
 -- The texts of counts, and what a count of hosts means.
 use Rattle.std.proofs.Common.{◌≡◌, ℕ, ◌^◌, ◌++◌, ◌↔◌, List, Option, Some, None, IfSome, IsNone, Result, Ok, Err, OnOk}
-use Rattle.std.proofs.Common.{Unit, is_ok, if◌then◌else◌, codes, decimal, refl, sym, ap, ◌∙◌, arith}
+use Rattle.std.proofs.Common.{is_ok, if◌then◌else◌, codes, decimal, refl, sym, ap, ◌∙◌, arith}
 use Rattle.std.specs.Fmt.{digits}
 use Rattle.ipnet_base.specs.Address.{IPv4, width}
 use Rattle.ipnet_base.specs.Network.{Network, host_bits}
@@ -24,7 +24,7 @@ written_as (Err y) old new spelled wanted same e = tt
 pub address_count_is : (n : Network) (count : Option ℕ) → IfSome count (λ c. c ≡ 2 ^ host_bits n)
     → (IsNone count ↔ (host_bits n ≡ 128)) → counted count ≡ 2 ^ host_bits n
 address_count_is n (Some c) some none = some
-address_count_is n None some none = ap (λ k. 2 ^ k) (sym (none.0 tt))
+address_count_is n None some none = ap (λ k. 2 ^ k) (sym (none.0 refl))
 
 -- a network of all IPv6 addresses has no reserved ends
 no_ends : (n : Network) → host_bits n ≡ 128 → ¬ (HasReservedEnds n)
@@ -37,4 +37,4 @@ pub host_count_is : (n : Network) (count : Option ℕ)
     → address_count hosts ≡ counted count
 host_count_is n (Some c) some none = some
 host_count_is n None some none = λ hosts h.
-    whole_count n hosts (no_ends n (none.0 tt)) h ∙ ap (λ k. 2 ^ k) (none.0 tt)
+    whole_count n hosts (no_ends n (none.0 refl)) h ∙ ap (λ k. 2 ^ k) (none.0 refl)

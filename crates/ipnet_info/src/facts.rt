@@ -9,7 +9,7 @@ ghost use Rattle.ipnet.specs.CanonicalTexts.{address_text};
 ghost use Rattle.ipnet.specs.NetworkOf.{ip_network};
 ghost use Rattle.ipnet.specs.NetworkParts.{IsHostRange};
 ghost use Rattle.ipnet.specs.SubnetsLeft.{ip_subnets_left};
-ghost use Rattle.ipnet_info.specs.Facts.{line, address_line, network_lines, host_lines, zone_lines, full_line};
+ghost use Rattle.ipnet_info.specs.Facts.{line, address_line, network_lines, zone_lines, full_line};
 ghost use Rattle.ipnet_info.specs.Facts.{number_lines, counted, IsFactsText};
 
 use crate::counts::{address_count, host_count};
