@@ -50,7 +50,7 @@ pub longest_fits : (f : Family) → longest_zone f ≤ width f
 longest_fits IPv4 = omega arith
 longest_fits IPv6 = omega arith
 
--- the next length of whole labels is no longer than the longest zone
+-- the next length of whole labels is at most the length of the longest zone
 pub next_fits : (n : Network) (len : ℕ) → IsNextLength n len → n.prefix_len ≤ longest_zone n.family
     → len ≤ longest_zone n.family
 next_fits n len next few =

@@ -12,7 +12,7 @@ use Rattle.ipnet_lists.specs.RefusedLines.{AreRefused}
 use Rattle.ipnet_lists.proofs.OneReading.{one_contents}
 use Rattle.ipnet_lists.proofs.RefusalLaws.{HasMore-nil, more_refused}
 
--- an empty line is no line with contents
+-- an empty line has no contents
 pub skip_empty : (line text : List ℕ) (lines : List (List ℕ)) → IsContents line text → text ≡ []
     → Any IsSomeLine (line ∷ lines) ↔ Any IsSomeLine lines
 skip_empty line text lines is none = (
