@@ -17,7 +17,8 @@ TOP = os.path.dirname(BENCH)
 # The program that times the calls, and the crates that it uses. crates.txt does not list it, so `rt ci` does not prove
 # it. Its texts are in the folder rattle, and their names end with .txt.
 CALLS_CRATE = "ipnet_bench"
-CALLS_USES = ["ipnet", "ipnet_base", "ipnet_pools", "ipnet_routes", "ipnet_rules", "ipnet_sets", "thiserror"]
+CALLS_USES = ["ipnet", "ipnet_base", "ipnet_fewest", "ipnet_pools", "ipnet_routes", "ipnet_rules", "ipnet_sets",
+              "thiserror"]
 CALLS_TEXTS = os.path.join(BENCH, "rattle")
 
 # The crates of the program that the script `ipnet` runs, and of `netset`.

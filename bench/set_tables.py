@@ -70,6 +70,8 @@ def beside_sets(bench):
 # The numbers of lines of the lists whose halves are asked about each line's last address: with many routes, and with
 # so few that the original can search through all of them.
 ROUTE_COUNTS = [1_000_000, 10_000]
+# The numbers of values, drawn at random, of the routes whose shortest table is made.
+VALUE_COUNTS = [2, 16, 256]
 
 
 def routes(bench):
@@ -87,6 +89,12 @@ def routes(bench):
              "py-radix: insert ns", "an update ns", "MiB", "the table's MiB", "of the table's", "bound", "answers")
     for name in wanted:
         change_row(bench, name, path_of(name))
+    wanted = [count for count in VALUE_COUNTS if bench.wants("routes_ipv4", "shortest_%d" % count)]
+    if wanted:
+        head("The shortest table of 10^6 routes", "values", "routes", "routes left", "ours ms", "making the table ms",
+             "of the table's", "bound")
+    for count in wanted:
+        shortest_row(bench, count, path_of("routes_ipv4"))
 
 
 def match_row(bench, name, count):
@@ -119,6 +127,17 @@ def change_row(bench, name, source):
         mebibytes(memory), mebibytes(table), shown(memory / table),
         bench.judged("memory of a map, " + name, memory / table, 2),
         "same" if bench.compared(name, answers) == bench.compared(name, changes) == "same" else "**DIFFER**")
+
+
+def shortest_row(bench, count, source):
+    """The shortest table of a table with this many values, beside the time of making the table."""
+    label = "shortest_%d" % count
+    lines = [figure(bench.programs.our_calls, [label], source)[0] for _ in range(bench.rounds)]
+    made = least([figure(bench.programs.our_calls, ["routes"], source)[0]["min_ns"] for _ in range(bench.rounds)])
+    ours = least([line["min_ns"] for line in lines])
+    part = ratio(ours, made)
+    row(str(count), format(lines[0]["items"], ","), format(lines[0]["check"], ","), milliseconds(ours), milliseconds(made),
+        shown(part), bench.judged(label, part, 3))
 
 
 def python_figure(bench, task, source, answers):

@@ -10,8 +10,8 @@ RUNS_AT_ONCE = 4
 # The names of the lists of a run, in order.
 NAMES = "abcd"
 
-# The commands that read no list. The others get the flag that leaves out the report of a list without an entry.
-NO_LISTS = ("split", "hosts")
+# The commands that report no list without an entry. The others get the flag that leaves out that report.
+NO_LISTS = ("split", "hosts", "info", "find")
 
 # A line that changes no answer. Lines that are not near the end of a list are read by another reader.
 AFTER = b"\n# a comment that is longer than the longest range of two IPv4 addresses\n"

@@ -122,22 +122,28 @@ def is_line_of(text, name, frame):
     return 0 < left_out < len(parts) and text in (short, short + "/" + length)
 
 
+def is_front_of(text, comment):
+    """Whether the text is the front of a comment that is cut."""
+    return text.endswith("..") and len(text) >= 12 and comment.startswith(text[:-2])
+
+
 class Labels:
-    """The labels of a map that has these entries, `(text, range)`, and these names, `(network, name)`."""
+    """The labels of a map that has these entries, `(text, comment, range)`, and these names, `(network, name)`."""
 
     def __init__(self, a_map, origin, entries, names=(), shows_free=False):
         self.map, self.origin = a_map, origin
         frame = a_map.frame
         self.named = []
-        for text, a_range in entries:
+        for text, comment, a_range in entries:
             for first, length in blocks_in([a_range], frame):
                 network = "{}/{}".format(address_text(frame.family, first), length)
-                self.add(first, length, [network] + [text] * (network != text))
+                self.add(first, length, [network] + [text] * (network != text) + [comment] * (comment != ""))
         for network, name in names:
             self.named.append((a_map.box(network.first, network.length), [name]))
         if shows_free:
             for first, length in free_in(joined(a_range for ranges in a_map.sets for a_range in ranges), frame):
-                self.add(first, length, ["/%d" % length])
+                network = "{}/{}".format(address_text(frame.family, first), length)
+                self.add(first, length, ["/%d" % length, network, "largest free block"])
 
     def add(self, first, length, texts):
         if length <= self.map.frame.length + self.map.depth:
@@ -160,8 +166,8 @@ class Labels:
             x, y = (box[0] + box[2]) / 2, (box[1] + box[3]) / 2
             if not (0 <= x < width and 0 <= y < height):
                 continue
-            found = [one for one, names in self.named if contains(one, x, y)
-                     and any(name == text or is_line_of(text, name, self.map.frame) for name in names)]
+            found = [one for one, names in self.named if contains(one, x, y) and any(
+                name == text or is_front_of(text, name) or is_line_of(text, name, self.map.frame) for name in names)]
             found += [one for one, name in self.squares_at(self.map.cell_at(x, y)) if name == text]
             if not found:
                 yield "%s at %d %d names nothing there" % (text, x, y)

@@ -21,8 +21,9 @@ LONG_FOOT = (
     "10.0.0.0/8", "10.20.0.0/20 # lab\n10.30.1.1\n192.0.2.1\n2001:db8::/64\n",
     "10.20.0.0/18 Berlin\n10.20.77.1 printer\n172.16.0.0/12 guests\n", [
         "Reads like text: left to right, then down. A square is a /16. The smallest dot is a /28.",
-        "Not shown: IPv4 1, IPv6 18446744073709551616. Networks of entries without a title: 4.",
-        "Named networks without an outline: 2. Free blocks without an outline: 4.",
+        "Networks of entries without a title: 4. Named networks without an outline: 2.",
+        "Free blocks without an outline: 4.",
+        "Not shown: 1 address of IPv4, 18,446,744,073,709,551,616 addresses of IPv6.",
     ],
 )
 # bytes that are not UTF-8
@@ -41,16 +42,6 @@ class Case:
         every = joined(a_range for ranges in self.sets for a_range in ranges)
         self.frame = model.frame_at(frame) if frame and "/" in frame else next(
             filter(None, (model.smallest_frame(every, family) for family in families)), None)
-        self.is_outside = self.has_more() if self.frame else None
-
-    def has_more(self):
-        """Whether an entry is outside the frame; None if only parts of entries are, or only entries that both of two
-        compared lists have."""
-        entries = [set(self.ranges(entries)) for entries in self.lists]
-        changed = entries[0] ^ entries[1] if self.compares else set().union(*entries)
-        if all(self.frame.has_all(a_range) for a_range in set().union(*entries)):
-            return False
-        return True if any(not self.frame.contains(a_range) for a_range in changed) else None
 
     @staticmethod
     def ranges(entries):
@@ -139,7 +130,8 @@ def rendered():
 def corners():
     """Small maps with a corner case in each."""
     chance = random.Random(SEED + 1)
-    thirds = ["10.0.%d.0-10.0.%d.%d" % (number, number, number) for number in range(16)]
+    quarters = ["10.0.%d.0-10.0.%d.%d" % (number, number, number) for number in range(16)]
+    few = ["20.0.0.0-20.0.0.14", "20.0.16.0-20.0.16.15", "20.0.32.0-20.0.35.254", "20.0.48.0/22"]
     nested = ["10.0.0.0/9", "10.1.0.0/16", "10.1.0.0/16", "10.1.2.3", "10.1.2.0-10.1.3.9"]
     return [
         Case("/0 and all of it", "0.0.0.0/0", [["0.0.0.0/0"]]),
@@ -148,7 +140,8 @@ def corners():
         Case("/0 of IPv6 and two ends", "::/0", [["::", "ffff:ffff:ffff:ffff:ffff:ffff:ffff:ffff"]]),
         Case("a /31 in a map of /24", "16.0.0.0/4", [["17.1.2.4/31"]]),
         Case("all but one address of a /24", "16.0.0.0/4", [["17.1.2.0-17.1.2.254", "17.1.3.1-17.1.3.255"]]),
-        Case("near one and two thirds", "10.0.0.0/8", [thirds]),
+        Case("near a quarter", "10.0.0.0/8", [quarters]),
+        Case("near a quarter and one of 256", "0.0.0.0/0", [few]),
         Case("one address", None, [["10.0.0.1"]]),
         Case("one IPv6 address", None, [["2001:db8::1"]]),
         Case("a /31", None, [["10.0.0.0", "10.0.0.1"]]),

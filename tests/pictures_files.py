@@ -16,7 +16,7 @@ LINE = re.compile(STEP + r"h([1-9]\d*)")
 # the first move of lines: they are drawn through the middle of their rows
 MIDDLE = "m0 .5"
 # the classes of shapes that have a visible line, beside the rows of cells
-LINED = ("grid", "free", "name", "ring")
+LINED = ("grid", "free", "best", "name", "ring")
 WORDS = ("text", "title", "desc", "style")
 PAINT = ("fill", "fill-opacity", "stroke", "stroke-opacity", "stroke-width", "opacity")
 LIGHT_THEME, DARK_THEME = 0, 1
@@ -25,15 +25,25 @@ THEMES = LIGHT_THEME, DARK_THEME
 # the light and the dark colour of each class
 COLOURS = {
     "page": ("#ffffff", "#16181c"), "ground": ("#f1f1ee", "#24272d"),
-    "some": ("#a3c9e6", "#264a68"), "third": ("#5fa3d3", "#35719f"), "two thirds": ("#2171b5", "#5aa2d8"),
-    "all": ("#08306b", "#a8d8ff"),
+    "sparse": ("#a3c9e6", "#264a68"), "below a quarter": ("#5fa3d3", "#35719f"),
+    "from a quarter": ("#2171b5", "#5aa2d8"), "all": ("#08306b", "#a8d8ff"),
     "removed": ("#d55e00", "#f28a35"), "added": ("#0072b2", "#4db2ff"), "mixed": ("#000000", "#ffffff"),
     "kept": ("#8f8f8a", "#6c727c"), "kept part": ("#bdbdb8", "#484d56"),
     "list 1": ("#0072b2", "#2a78c8"), "list 2": ("#e69f00", "#e69f00"), "list 3": ("#009e73", "#1fb98d"),
     "list 4": ("#cc79a7", "#cc79a7"), "list 5": ("#56b4e9", "#9bd8ff"), "list 6": ("#d55e00", "#d55e00"),
     "shared": ("#000000", "#ffffff"),
 }
-SHARES = ("some", "third", "two thirds", "all")
+SHARES = ("sparse", "below a quarter", "from a quarter", "all")
+# what the legend says of each class, by its name in the style sheet
+WORDS_OF = {
+    "s1": "less than one of 256 addresses of a dot is in the list", "s2": "less than a quarter of a dot is in the list",
+    "s3": "a quarter of a dot or more is in the list, but not all", "s4": "all of a dot is in the list",
+    "old": "removed: addresses that only the first list has", "new": "added: addresses that only the second list has",
+    "mix": "both: some addresses of a dot are removed, and others are added",
+    "bothp": "no change: a part of a dot is in both lists", "both": "no change: all of a dot is in both lists",
+    "ov": "two lists or more have the same address",
+    "sev": "two lists or more have addresses of a dot, and none in common",
+}
 CHANGES = ("removed", "added", "mixed", "kept", "kept part")
 LISTS = tuple("list {}".format(number) for number in range(1, 7)) + ("shared",)
 # the colours of one class differ by at most this in each part
@@ -76,6 +86,14 @@ def class_named(colour, names, theme):
         if name.startswith("list ") and is_pale(colour, rgb(COLOURS[name][theme]), ground):
             return name + " part"
     return "several" if names == LISTS and is_grey(colour) and not are_near(colour, ground, 20) else None
+
+
+def words_of(name, lists):
+    """The words of the legend for this class, of lists with these names."""
+    if name in WORDS_OF:
+        return WORDS_OF[name]
+    start = "a part of a dot is in " if name.endswith(" pale") else "all of a dot is in "
+    return start + lists[int(name.split()[0][1:])]
 
 
 class Sheet:
@@ -244,8 +262,14 @@ class Picture:
         return [one for one in self.all_layers(theme) if any(one.data())]
 
     def rings(self):
-        """The middle of each circle, in pixels."""
-        return [one.at("cx", "cy") for one in self.shapes(LIGHT_THEME) if one.element.tag == SVG + "circle"]
+        """The middle of each circle, in pixels, and the colour of its line."""
+        return [(one.at("cx", "cy"), one.line) for one in self.shapes(LIGHT_THEME) if one.element.tag == SVG + "circle"]
+
+    def legend(self):
+        """The rows of the legend: the class of each, and its words."""
+        parts = list(self.root)
+        return [(one.get("class"), words.text) for one, words in zip(parts, parts[1:])
+                if one.tag == SVG + "rect" and one.get("class") != "page" and words.tag == SVG + "text"]
 
     def without_words(self):
         """The SVG without texts, titles, and elements that paint nothing inside: outlines, rings and hidden ones."""

@@ -31,10 +31,6 @@ class Frame:
         """Whether the range has an address of the frame."""
         return a_range[0] == self.family and a_range[1] <= self.last and a_range[2] >= self.first
 
-    def has_all(self, a_range):
-        """Whether the frame has each address of the range."""
-        return a_range[0] == self.family and self.first <= a_range[1] and a_range[2] <= self.last
-
     def clipped(self, ranges):
         """The ranges in the frame, as numbers from its first address on."""
         return [(max(first, self.first) - self.first, min(last, self.last) - self.first)
@@ -75,7 +71,7 @@ def share_class(count, size):
     """The class in a map of one list: `all` only if the cell has no other address."""
     if count in (0, size):
         return "all" if count else None
-    return "some" if 3 * count < size else "third" if 3 * count < 2 * size else "two thirds"
+    return "sparse" if 256 * count < size else "below a quarter" if 4 * count < size else "from a quarter"
 
 
 def change_class(before, after, either, size):

@@ -33,9 +33,19 @@ def check_hostile(maps):
     for number, comment in enumerate(comments if picture else []):
         front = cut_text(comment.decode("utf-8", "replace"))
         wanted = "10.20.%d.0/24: %s" % (number, files.shown(front.encode()))
-        wanted += " (10.20.%d.0/24, 256 addresses, 256 used)" % number
+        wanted += " (10.20.%d.0/24, 256 addresses, 256 addresses used (100.0 %%))" % number
         checks.check("comment %d" % number, [text for text in picture.texts() if text == wanted], [wanted])
     check_hostile_names(maps)
+
+
+def check_comments(maps):
+    """The comments that are written in the blocks of entries, whatever colons an entry and its comment have."""
+    rows = [("2001:db8::/33", "- north: old"), ("2001:db8:c000::/34", "south"),
+            ("2001:db8:8000:: - 2001:db8:bfff:ffff:ffff:ffff:ffff:ffff", "staff: - all")]
+    lines = "".join("%s # %s\n" % row for row in rows)
+    picture = maps.picture("comments with colons", ["--in", "2001:db8::/32"], [("a", lines.encode())])
+    for _, comment in rows:
+        maps.checks.check("the comment " + comment, comment in picture.texts() if picture else None, True)
 
 
 def check_hostile_names(maps):

@@ -42,7 +42,7 @@ SPEED = [
      "difference: countries 1 to 40, and 21 to 60", "lines", "processor ms", "iprange's ms", None, None),
     ("library call `IpNet::aggregate`: random IPv4 networks", "Calls", "`IpNet::aggregate`, random IPv4", "items",
      "ours ms", None, "original ms", None),
-    ("library call for the union: two lists of networks", "Sets", "union, random_ipv4", "200,000", "ours ms", None,
+    ("library call in Rattle for the union: two lists of networks", "Sets", "union, random_ipv4", "200,000", "ours ms", None,
      "original ms", "netaddr ms"),
 ]
 

@@ -11,12 +11,9 @@ def section(heading):
         return file.read().split("\n## " + heading + "\n", 1)[1].split("\n## ", 1)[0]
 
 
-def example(heading):
-    """The statements of the first block ```sql below the heading, and the result in the block ```text after it."""
-    found = re.search(r"```sql\n(.*?)```.*?```text\n(.*?)\n```", section(heading), re.S)
-    return found.group(1), found.group(2)
-
-
-def later_statements(heading):
-    """The statements of the other blocks ```sql."""
-    return re.findall(r"```sql\n(.*?)```", section(heading), re.S)[1:]
+def examples(heading):
+    """The statements of each block ```sql below the heading, in order, with the result in the block ```text after it; or
+    None, if another block ```sql comes first."""
+    blocks = re.findall(r"```(sql|text)\n(.*?)\n?```", section(heading), re.S)
+    return [(text, after[1] if after[0] == "text" else None)
+            for (kind, text), after in zip(blocks, blocks[1:] + [("", None)]) if kind == "sql"]

@@ -4,7 +4,12 @@ A network is `(family, number, length)` without host bits; a set is a list of ra
 """
 import bisect
 
+from entry_model import address_of, range_of as range_of_entry
 from set_model import LAST, WIDTH, address_text, joined, range_text  # noqa: F401
+
+# what a changed text of some_texts may get
+CHARACTERS = "0123456789abcdefF.:/-% x,#;"
+MAPPED = 0xffff << 32
 
 
 # The prefix lengths of some networks: all of IPv4, and those that are usual or near an end of IPv6.
@@ -142,3 +147,48 @@ def networks_text(ranges):
 def list_text(ranges):
     """The set as a text of ranges."""
     return ", ".join(map(range_text, ranges))
+
+
+def changed(random_numbers, text):
+    """The text with a character put in, left out or replaced."""
+    at = random_numbers.randrange(len(text) + 1)
+    kept = at + random_numbers.randrange(2)
+    return text[:at] + random_numbers.choice(("", random_numbers.choice(CHARACTERS))) + text[kept:]
+
+
+def some_texts(random_numbers, count):
+    """Texts of addresses, of IPv4 addresses mapped into IPv6, of networks and of ranges. Two thirds are changed."""
+    found = []
+    for _ in range(count):
+        family = random_numbers.choice((4, 6))
+        number = random_numbers.randint(0, LAST[family])
+        if random_numbers.random() < 0.3:
+            family, number = 6, max(0, MAPPED + random_numbers.randint(-2**20, 2**32 + 2**20))
+        text = address_text(family, number)
+        kind = random_numbers.randrange(4)
+        if kind == 0:
+            text += "/%d" % random_numbers.randrange(WIDTH[family] + 2)
+        elif kind == 1:
+            text += random_numbers.choice(("-", " - ")) + address_text(family, random_numbers.randint(0, LAST[family]))
+        for _ in range(random_numbers.randrange(3)):
+            text = changed(random_numbers, text)
+        found.append(text)
+    return found
+
+
+def address_in(text):
+    """The address that the text is, in its usual form, or None."""
+    address = address_of(text, False)
+    return address and address_text(*address)
+
+
+def unmapped(text):
+    """The same, with a mapped address as the IPv4 address that it stands for."""
+    family, number = address_of(text, False) or (0, 0)
+    return address_text(4, number - MAPPED) if family == 6 and number >> 32 == 0xffff else address_in(text)
+
+
+def entry_in(text):
+    """The range of the entry that the text is, or None."""
+    entry = range_of_entry(text.strip(" "), False)
+    return entry and range_text(entry)

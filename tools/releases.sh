@@ -1,7 +1,8 @@
 # What the scripts share that make, compare and install a release; it needs tools/build.sh, functions `fail` and `step`,
 # and an empty folder `room`. The clone has one release, in a folder below releases/:
 #
-#   dewikonu-RELEASE-linux-x86_64.tar.gz             programs, pages, completions, header, libraries, Python package
+#   dewikonu-RELEASE-linux-x86_64.tar.gz             programs, pages, completions, header, libraries, Python package,
+#                                                    Rust crate
 #   ipnet_proved-VERSION-TAG-linux_x86_64.whl        the Python package, for pip
 #   postgresql-15-ipset_VERSION_amd64.deb            the extension for PostgreSQL 15, as a Debian package
 #   ipset-sqlite-RELEASE-linux-x86_64.tar.gz         the extension for SQLite
@@ -19,7 +20,7 @@ release_sources() {
     printf '%s\n' crates.txt include licences docs/{ipnet.1,netset.1,internals/LICENCES.md} LICENSE-{MIT,APACHE} \
         install release tools/{build,package,places,releases}.sh tools/completions \
         bindings/{build,link,ipnet.pc.in,ipnet.symbols} bindings/{sql,sqlite,postgresql} \
-        bindings/python/{_quick.c,pyproject.toml,backend,ipnet_proved}
+        bindings/python/{_quick.c,pyproject.toml,backend,ipnet_proved} bindings/rust/{Cargo.toml,build.rs,src}
     while read -r name; do
         printf 'crates/%s\n' "$name"/{src,specs,proofs}
     done < <(crates_below ipnet_program netset ipnet_c)

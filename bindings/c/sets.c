@@ -153,6 +153,27 @@ static void try_questions(void)
     }
 }
 
+/* As many addresses as are searched in eights with some left over: each has the answer of a call of its own. */
+static void try_eights(void)
+{
+    struct bytes set = image_of("10.0.0.0/30\n10.0.0.8/29\n10.0.0.21/32");
+    uint8_t octets[4 * 27], answers[27];
+    for (uint8_t row = 0; row < 27; row++) {
+        memcpy(octets + 4 * row, ((uint8_t[]){10, 0, 0, (uint8_t)(26 - row)}), 4);
+    }
+    for (size_t count = 0; count <= 27; count++) {
+        struct bytes given = copied(octets, 4 * count);
+        memset(answers, UNTOUCHED, sizeof answers);
+        expect(ipnet_set_contains_all(set.at, set.len, given.at, given.len, 4, answers, count) == IPNET_OK, "eights");
+        for (size_t row = 0; row < 27; row++) {
+            uint32_t single = ipnet_set_contains(set.at, set.len, octets + 4 * row, 4);
+            expect(answers[row] == (row < count ? single : UNTOUCHED), "an answer of eights");
+        }
+        free(given.at);
+    }
+    free(set.at);
+}
+
 static void try_many(void)
 {
     struct bytes set = image_of("10.0.0.0/30\nfd00::/127");
@@ -435,6 +456,7 @@ int main(void)
 {
     try_operations();
     try_questions();
+    try_eights();
     try_many();
     try_many_networks();
     try_statuses();

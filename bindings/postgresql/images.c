@@ -83,23 +83,37 @@ empty_set(void)
     return write_image(sql_write_set, &nothing, 32);
 }
 
-Datum
-receive_image(FunctionCallInfo fcinfo, ipnet_status (*check)(const void *, size_t), const char *type)
+/* A copy of the bytes, which all are checked. */
+static Image *
+checked_image(const void *bytes, Size len, ImageCheck check, const char *type)
 {
-    StringInfo message = (StringInfo) PG_GETARG_POINTER(0);
-    Size len = message->len - message->cursor;
     Image *image = palloc(len + IMAGE_HEADER);
-    ipnet_status status;
-    set_len(image, len);
-    pq_copymsgbytes(message, (char *) image->bytes, len);
-    status = check(image->bytes, len);
+    const char *cause = sql_cause_of_image(bytes, len);
+    ipnet_status status = check(bytes, len);
     if (status == IPNET_OUT_OF_MEMORY)
         report_status(status);
     if (status != IPNET_OK)
         ereport(ERROR, (errcode(ERRCODE_INVALID_BINARY_REPRESENTATION),
                         errmsg("invalid binary value for type %s", type),
-                        errdetail("The length is %zu: %s.", len, ipnet_status_text(status))));
-    PG_RETURN_POINTER(image);
+                        errdetail("The length is %zu: %s.", len, cause ? cause : ipnet_status_text(status))));
+    set_len(image, len);
+    memcpy(image->bytes, bytes, len);
+    return image;
+}
+
+Datum
+receive_image(FunctionCallInfo fcinfo, ImageCheck check, const char *type)
+{
+    StringInfo message = (StringInfo) PG_GETARG_POINTER(0);
+    int len = message->len - message->cursor;
+    PG_RETURN_POINTER(checked_image(pq_getmsgbytes(message, len), len, check, type));
+}
+
+Datum
+image_of_bytea(FunctionCallInfo fcinfo, ImageCheck check, const char *type)
+{
+    bytea *bytes = PG_GETARG_BYTEA_PP(0);
+    PG_RETURN_POINTER(checked_image(VARDATA_ANY(bytes), VARSIZE_ANY_EXHDR(bytes), check, type));
 }
 
 MemoryContext
@@ -114,9 +128,9 @@ aggregate_memory(FunctionCallInfo fcinfo)
 void
 refuse_entry(const char *type, SqlPart entry, size_t number, const char *cause)
 {
-    int len = pg_mbcliplen(entry.text, entry.len, 100);
+    char quote[SQL_QUOTE];
+    sql_quote(entry.text, entry.len, GetDatabaseEncoding() == PG_UTF8, quote);
     ereport(ERROR, (errcode(ERRCODE_INVALID_TEXT_REPRESENTATION),
-                    errmsg("invalid input syntax for type %s: \"%s%s\"", type, pnstrdup(entry.text, len),
-                           (size_t) len < entry.len ? ".." : ""),
+                    errmsg("invalid input syntax for type %s: \"%s\"", type, quote),
                     errdetail("Entry %zu: %s.", number, cause)));
 }

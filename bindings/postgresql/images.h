@@ -14,6 +14,7 @@
 
 #include "entries.h"
 #include "ipnet.h"
+#include "messages.h"
 #include "routes.h"
 #include "writers.h"
 
@@ -51,13 +52,18 @@ extern Size text_guess(const Image *set);
 /* The image of the empty set. */
 extern Image *empty_set(void);
 
-/* Reads an image that a client sends, and checks all of it. */
-extern Datum receive_image(FunctionCallInfo fcinfo, ipnet_status (*check)(const void *, size_t), const char *type);
+/* The call of the library that checks all of an image. */
+typedef ipnet_status (*ImageCheck)(const void *, size_t);
+
+/* Reads an image that a client sends, or one that is a value of type bytea, and checks all of it. */
+extern Datum receive_image(FunctionCallInfo fcinfo, ImageCheck check, const char *type);
+extern Datum image_of_bytea(FunctionCallInfo fcinfo, ImageCheck check, const char *type);
 
 /* The memory of the state of the aggregate that calls the function. */
 extern MemoryContext aggregate_memory(FunctionCallInfo fcinfo);
 
-/* An error that quotes the text: 'invalid input syntax for type ipset: "10.0.0.0/33"', with the entry and the cause. */
+/* An error that quotes the text: 'invalid input syntax for type ipset: "10.0.0.0/33"', with the entry and the cause.
+ * Characters that nobody sees are escaped. */
 extern void refuse_entry(const char *type, SqlPart entry, size_t number, const char *cause) pg_attribute_noreturn();
 
 /* ---- cache.c: images that a call keeps */

@@ -15,6 +15,19 @@ CREATE TYPE ipset (
 );
 COMMENT ON TYPE ipset IS 'a set of IPv4 and IPv6 addresses';
 
+CREATE FUNCTION ipset(bytea) RETURNS ipset AS 'MODULE_PATHNAME', 'ipset_from_bytea'
+    LANGUAGE C IMMUTABLE STRICT PARALLEL SAFE;
+CREATE CAST (bytea AS ipset) WITH FUNCTION ipset(bytea);
+CREATE CAST (ipset AS bytea) WITH FUNCTION ipset_send(ipset);
+
+-- ---- texts before a cast, and addresses mapped into IPv6
+
+CREATE FUNCTION ipset_is_address(text) RETURNS boolean AS 'MODULE_PATHNAME' LANGUAGE C IMMUTABLE STRICT PARALLEL SAFE;
+CREATE FUNCTION ipset_is_entry(text) RETURNS boolean AS 'MODULE_PATHNAME' LANGUAGE C IMMUTABLE STRICT PARALLEL SAFE;
+CREATE FUNCTION ipset_unmap(inet) RETURNS inet AS 'MODULE_PATHNAME' LANGUAGE C IMMUTABLE STRICT PARALLEL SAFE;
+
+-- ---- questions and operations of sets
+
 CREATE FUNCTION ipset_contains(ipset, inet) RETURNS boolean AS 'MODULE_PATHNAME', 'ipset_contains_inet'
     LANGUAGE C IMMUTABLE STRICT PARALLEL SAFE;
 CREATE FUNCTION ipset_contains(ipset, ipset) RETURNS boolean AS 'MODULE_PATHNAME', 'ipset_contains_set'
@@ -69,10 +82,17 @@ CREATE TYPE iptable (
 );
 COMMENT ON TYPE iptable IS 'a table of routes: networks, each with a number';
 
+CREATE FUNCTION iptable(bytea) RETURNS iptable AS 'MODULE_PATHNAME', 'iptable_from_bytea'
+    LANGUAGE C IMMUTABLE STRICT PARALLEL SAFE;
+CREATE CAST (bytea AS iptable) WITH FUNCTION iptable(bytea);
+CREATE CAST (iptable AS bytea) WITH FUNCTION iptable_send(iptable);
+
 CREATE FUNCTION longest_match(iptable, inet) RETURNS integer AS 'MODULE_PATHNAME'
     LANGUAGE C IMMUTABLE STRICT PARALLEL SAFE;
 CREATE FUNCTION longest_route(iptable, inet) RETURNS cidr AS 'MODULE_PATHNAME'
     LANGUAGE C IMMUTABLE STRICT PARALLEL SAFE;
+CREATE FUNCTION iptable_routes(iptable, OUT network cidr, OUT value integer) RETURNS SETOF record
+    AS 'MODULE_PATHNAME' LANGUAGE C IMMUTABLE STRICT PARALLEL SAFE;
 
 -- ---- equality, hash and order of sets: those of their images
 
@@ -164,6 +184,12 @@ CREATE FUNCTION ipset_agg_final(internal) RETURNS ipset AS 'MODULE_PATHNAME'
     LANGUAGE C IMMUTABLE PARALLEL SAFE;
 CREATE AGGREGATE ipset_agg(inet) (
     SFUNC = ipset_agg_add, STYPE = internal, FINALFUNC = ipset_agg_final, COMBINEFUNC = ipset_agg_combine,
+    SERIALFUNC = ipset_agg_serialize, DESERIALFUNC = ipset_agg_deserialize, PARALLEL = safe
+);
+CREATE FUNCTION ipset_agg_add_set(internal, ipset) RETURNS internal AS 'MODULE_PATHNAME'
+    LANGUAGE C IMMUTABLE PARALLEL SAFE;
+CREATE AGGREGATE ipset_agg(ipset) (
+    SFUNC = ipset_agg_add_set, STYPE = internal, FINALFUNC = ipset_agg_final, COMBINEFUNC = ipset_agg_combine,
     SERIALFUNC = ipset_agg_serialize, DESERIALFUNC = ipset_agg_deserialize, PARALLEL = safe
 );
 CREATE FUNCTION iptable_agg_add(internal, inet, integer) RETURNS internal AS 'MODULE_PATHNAME'

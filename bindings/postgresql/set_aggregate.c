@@ -1,4 +1,4 @@
-/* ipset_agg(inet): the set of the addresses of a column.
+/* ipset_agg(inet) and ipset_agg(ipset): the set of the addresses of a column of networks, or of sets.
  *
  * The state has a set, and the text of networks that came after it. If the text is as long as the set and has 1 MB, the
  * library compiles it and joins both. So the time for all of these calls together is proportional to the text, apart
@@ -9,6 +9,7 @@
 #include "utils/memutils.h"
 
 PG_FUNCTION_INFO_V1(ipset_agg_add);
+PG_FUNCTION_INFO_V1(ipset_agg_add_set);
 PG_FUNCTION_INFO_V1(ipset_agg_combine);
 PG_FUNCTION_INFO_V1(ipset_agg_serialize);
 PG_FUNCTION_INFO_V1(ipset_agg_deserialize);
@@ -66,6 +67,14 @@ compile_lines(SetState *state)
     resetStringInfo(&state->lines);
 }
 
+/* The same, if the text is long enough. */
+static void
+compile_long_lines(SetState *state)
+{
+    if (state->lines.len >= LEAST_TEXT && state->lines.len >= Min(VARSIZE(state->set), MOST_TEXT))
+        compile_lines(state);
+}
+
 Datum
 ipset_agg_add(PG_FUNCTION_ARGS)
 {
@@ -74,8 +83,33 @@ ipset_agg_add(PG_FUNCTION_ARGS)
         SqlNetwork network = network_of_inet(PG_GETARG_INET_PP(1));
         enlargeStringInfo(&state->lines, SQL_LINE);
         state->lines.len += sql_print_line(&network, state->lines.data + state->lines.len);
-        if (state->lines.len >= LEAST_TEXT && state->lines.len >= Min(VARSIZE(state->set), MOST_TEXT))
-            compile_lines(state);
+        compile_long_lines(state);
+    }
+    PG_RETURN_POINTER(state);
+}
+
+/* Adds the ranges of the set to the text. */
+static void
+add_ranges(SetState *state, const Image *set)
+{
+    SqlGiven given = {set->bytes, image_len(set), NULL, 0};
+    Image *ranges = write_image(sql_write_ranges, &given, text_guess(set));
+    appendBinaryStringInfo(&state->lines, (const char *) ranges->bytes, (int) image_len(ranges));
+    pfree(ranges);
+    compile_long_lines(state);
+}
+
+Datum
+ipset_agg_add_set(PG_FUNCTION_ARGS)
+{
+    SetState *state = get_state(fcinfo, aggregate_memory(fcinfo));
+    if (!PG_ARGISNULL(1)) {
+        Image *set = (Image *) PG_DETOAST_DATUM(PG_GETARG_DATUM(1));
+        if (image_len(set) < LEAST_TEXT)
+            add_ranges(state, set);
+        else
+            join_set(state, set);
+        PG_FREE_IF_COPY(set, 1);
     }
     PG_RETURN_POINTER(state);
 }

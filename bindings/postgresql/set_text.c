@@ -6,6 +6,7 @@
 PG_FUNCTION_INFO_V1(ipset_in);
 PG_FUNCTION_INFO_V1(ipset_out);
 PG_FUNCTION_INFO_V1(ipset_recv);
+PG_FUNCTION_INFO_V1(ipset_from_bytea);
 PG_FUNCTION_INFO_V1(image_send);
 
 Datum
@@ -55,6 +56,12 @@ Datum
 ipset_recv(PG_FUNCTION_ARGS)
 {
     return receive_image(fcinfo, ipnet_set_check, "ipset");
+}
+
+Datum
+ipset_from_bytea(PG_FUNCTION_ARGS)
+{
+    return image_of_bytea(fcinfo, ipnet_set_check, "ipset");
 }
 
 /* Sends the bytes of the image of a set or of a table. */

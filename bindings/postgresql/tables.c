@@ -8,6 +8,7 @@
 PG_FUNCTION_INFO_V1(iptable_in);
 PG_FUNCTION_INFO_V1(iptable_out);
 PG_FUNCTION_INFO_V1(iptable_recv);
+PG_FUNCTION_INFO_V1(iptable_from_bytea);
 PG_FUNCTION_INFO_V1(longest_match);
 PG_FUNCTION_INFO_V1(longest_route);
 
@@ -72,6 +73,12 @@ Datum
 iptable_recv(PG_FUNCTION_ARGS)
 {
     return receive_image(fcinfo, ipnet_table_check, "iptable");
+}
+
+Datum
+iptable_from_bytea(PG_FUNCTION_ARGS)
+{
+    return image_of_bytea(fcinfo, ipnet_table_check, "iptable");
 }
 
 /* Finds the longest route that contains all addresses of the network. Returns 1, or 0 if there is none, or a status. */

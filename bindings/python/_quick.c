@@ -123,11 +123,35 @@ static PyObject *longest_match(PyObject *module, PyObject *const *args, Py_ssize
     return Py_NewRef(answer == 0 ? Py_None : Py_NotImplemented);
 }
 
+static PyObject *longest_covering(PyObject *module, PyObject *const *args, Py_ssize_t count)
+{
+    uint8_t network[IPNET_MAX_BYTES], covering[IPNET_MAX_BYTES];
+    Py_ssize_t image_len;
+    const char *image = image_of(args, count, &image_len);
+    size_t len;
+    uint32_t answer = IPNET_WRONG_LENGTH, value = 0;
+    (void)module;
+    if (image == NULL) {
+        return NULL;
+    }
+    len = wanted(args[1], network);
+    if (len != 0) {
+        answer = ipnet_table_longest_covering(image, (size_t)image_len, network, len, covering, sizeof covering,
+                                              &value);
+    }
+    if (answer == 1) {
+        return Py_BuildValue("(y#k)", (const char *)covering, (Py_ssize_t)len, (unsigned long)value);
+    }
+    return Py_NewRef(answer == 0 ? Py_None : Py_NotImplemented);
+}
+
 static PyMethodDef methods[] = {
     {"contains", (PyCFunction)(void (*)(void))contains, METH_FASTCALL,
      "Whether the set contains the address or network; None if Python has to read it."},
     {"longest_match", (PyCFunction)(void (*)(void))longest_match, METH_FASTCALL,
      "The value of the longest match, or None; NotImplemented if Python has to read the address."},
+    {"longest_covering", (PyCFunction)(void (*)(void))longest_covering, METH_FASTCALL,
+     "The longest network that contains the network, in byte form, and its value; else as longest_match."},
     {NULL, NULL, 0, NULL},
 };
 

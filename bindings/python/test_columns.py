@@ -215,6 +215,7 @@ class Columns(unittest.TestCase):
     def test_lists(self):
         texts = [None if row is None else str(row) for row in self.gaps]
         self.check_texts([str(row) for row in self.rows], self.rows, "rows")
+        self.check_texts([str(row).encode() for row in self.rows], self.rows, "rows")
         self.check_texts(texts, self.gaps, "gaps")
         self.check(tuple(texts), self.gaps, "gaps")
         self.check(iter_again(texts), self.gaps, "gaps")

@@ -1,6 +1,7 @@
 """Tests of ipnet_proved: its doctests, the rows of bindings/rows.txt, and random lists compared with ipaddress."""
 import ast
 import doctest
+import inspect
 import ipaddress
 import os
 import random
@@ -22,6 +23,12 @@ BARE_ADDRESS = b"10.1.1.0"  # not a network for the library; the package adds it
 def load_tests(loader, tests, pattern):
     for module in (ipnet_proved, ipnet_proved._networks):
         tests.addTests(doctest.DocTestSuite(module))
+    # doctest does not find the methods of a class in the package that another module defines
+    for name in ipnet_proved.__all__:
+        made = getattr(ipnet_proved, name)
+        if inspect.isclass(made):
+            found = doctest.DocTestFinder().find(made, name, module=False, globs=dict(vars(ipnet_proved)))
+            tests.addTests(doctest.DocTestCase(test) for test in found if test.examples)
     return tests
 
 

@@ -1,4 +1,4 @@
-"""Tests of IpSet: its doctests, sets of Python numbers as a plain model, pickling, and what is refused."""
+"""Tests of IpSet: sets of Python numbers as a plain model, bad lines, pickling, and what is refused."""
 import copy
 import ipaddress
 import pickle
@@ -53,6 +53,9 @@ class Sets(unittest.TestCase):
             self.assertEqual((one <= two, one < two, one >= two, one == two),
                              (cells <= others, cells < others, cells >= others, cells == others))
             self.assertEqual(hash(one) == hash(two), cells == others)
+            self.assertEqual(one.isdisjoint(two), cells.isdisjoint(others))
+            for version, part in ((4, one.ipv4), (6, one.ipv6)):
+                self.check(part, {cell for cell in cells if cell.version == version})
             self.assertEqual(one.ipv4_count + one.ipv6_count, len(cells))
             self.assertEqual(bool(one), bool(cells))
             self.assertEqual(sum(network.num_addresses for network in one), len(cells))
@@ -63,6 +66,20 @@ class Sets(unittest.TestCase):
         self.assertEqual((every.ipv4_count, every.ipv6_count), (2 ** 32, 2 ** 128))
         self.assertEqual(list(every), [ipaddress.ip_network("0.0.0.0/0"), ipaddress.ip_network("::/0")])
         self.assertEqual(every.ranges()[0], (ipaddress.ip_address("0.0.0.0"), ipaddress.ip_address("255.255.255.255")))
+
+    def test_one_by_one(self):
+        """Networks and ranges are made when they are asked for, also of a set with very many."""
+        odd = IpSet.from_list("".join(f"10.{number >> 8}.{number & 255}.1-10.{number >> 8}.{number & 255}.254\n"
+                                      for number in range(20_000)) + "fd00::1-fd00::ffff\n")
+        networks, ranges = iter(odd), odd.iter_ranges()
+        self.assertEqual([next(networks) for _ in range(3)],
+                         [ipaddress.ip_network(text) for text in ("10.0.0.1/32", "10.0.0.2/31", "10.0.0.4/30")])
+        self.assertEqual(next(ranges), (ipaddress.ip_address("10.0.0.1"), ipaddress.ip_address("10.0.0.254")))
+        self.assertEqual((next(ranges), *list(ranges)[-1:]), (odd.ranges()[1], odd.ranges()[-1]))
+        self.assertEqual(list(odd)[3:], list(networks))
+        self.assertEqual(list(odd), [ipaddress.ip_network(line) for line in odd.to_text().splitlines()])
+        self.assertRaises(StopIteration, next, IpSet().iter_ranges())
+        self.assertRaises(StopIteration, next, iter(IpSet()))
 
     def test_ranges(self):
         draw = random.Random(9)
@@ -87,7 +104,8 @@ class Sets(unittest.TestCase):
         for inside in ("10.0.0.7", b"10.0.0.0/25", bytearray(b"fd00::1"), memoryview(b"8.8.8.8"),
                        ipaddress.ip_interface("10.0.0.9/24"), ipaddress.ip_address("fd00::")):
             self.assertIn(inside, made)
-        for outside in ("10.0.1.0", "10.0.0.0/23", "::ffff:10.0.0.7", ipaddress.ip_network("::/0")):
+        for outside in ("10.0.1.0", "10.0.0.0/23", "::ffff:10.0.0.7", ipaddress.ip_network("::/0"),
+                        ipaddress.ip_interface("10.0.0.9/23"), ipaddress.ip_interface("fd00::1/31")):
             self.assertNotIn(outside, made)
         for wrong in ("10.0.0.0/33", "x", "", "fe80::1%eth0"):
             with self.assertRaises(NotANetwork):
@@ -96,6 +114,8 @@ class Sets(unittest.TestCase):
             7 in made
         with self.assertRaises(TypeError):
             made | ["10.0.0.0/8"]
+        with self.assertRaisesRegex(TypeError, "isdisjoint needs an IpSet, and not 'x'"):
+            made.isdisjoint("x")
         with self.assertRaises(ipnet_proved.BadLine) as caught:
             IpSet(["10.0.0.0/8", "10.0.0.0/33"])
         self.assertEqual((caught.exception.line, caught.exception.text), (2, "10.0.0.0/33"))
@@ -135,6 +155,30 @@ class Sets(unittest.TestCase):
             with self.subTest(text=text), self.assertRaises(ipnet_proved.BadLine) as caught:
                 IpSet.from_list(text + "  # ours")
             self.assertEqual((text, caught.exception.cause), (text, cause))
+
+    def test_bad_lines(self):
+        """The bad lines of long lists beside each line by itself; a byte order mark is good only at the start."""
+        draw = random.Random(17)
+        lines = ["10.0.0.1", "fd00::/32  # ours", "", "# x", "10.0.0.1-10.0.0.9", "x", "10.0.0.0/33", "\ufeff10.0.0.1",
+                 "10.0.0.9-10.0.0.1", " y ", "010.0.0.1", "z" * 40_000]
+        for count, share in ((0, 0), (1, 1), (50, 0.5), (6_000, 0.5), (6_000, 0.001), (3_000, 1)):
+            for legacy in (False, True):
+                chosen = [draw.choice(lines[5:11] if draw.random() < share else lines[:5]) for _ in range(count)]
+                chosen[count // 2:count // 2] = lines[-1:] * (count > 50)
+                wanted = []
+                for number, line in enumerate(chosen, 1):
+                    try:
+                        IpSet.from_list(("\n" if number > 1 else "") + line, legacy=legacy)
+                    except ipnet_proved.BadLine as error:
+                        wanted.append((number, error.text, error.cause))
+                for text in ("\n".join(chosen), "\n".join([*chosen, ""]).encode()):
+                    found = list(IpSet.bad_lines(text, legacy))
+                    self.assertEqual([(error.line, error.text, error.cause) for error in found], wanted)
+                    if wanted:
+                        with self.assertRaises(ipnet_proved.BadLine) as caught:
+                            IpSet.from_list(text, legacy)
+                        self.assertEqual(caught.exception.args, found[0].args)
+        self.assertEqual(next(IpSet.bad_lines("x\n" * 1_000_000)).line, 1)
 
     def test_legacy(self):
         self.assertEqual(IpSet("010.0.0.0/30", legacy=True), IpSet("10.0.0.0/30"))

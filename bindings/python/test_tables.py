@@ -1,12 +1,12 @@
-"""Tests of RouteTable: its doctests, a scan of all routes as a plain model, pickling, and what is refused."""
-import doctest
+"""Tests of RouteTable and ValueTable: a scan of all routes as a plain model, changes, pickling, and what is refused."""
+import copy
 import ipaddress
 import pickle
 import random
 import unittest
 
 import ipnet_proved
-from ipnet_proved import BadLine, NotATable, RouteTable
+from ipnet_proved import BadLine, NotANetwork, NotATable, RouteTable, ValueTable
 
 
 def drawn(draw, count):
@@ -29,6 +29,13 @@ def covering(routes, network):
     around = [(other.prefixlen, other, value) for other, value in routes.items()
               if other.version == network.version and network.subnet_of(other)]
     return max(around)[1:] if around else None
+
+
+def around(routes, network):
+    """All of the routes that contain the whole network, the longest first."""
+    found = [(other, value) for other, value in routes.items()
+             if other.version == network.version and network.subnet_of(other)]
+    return sorted(found, key=lambda route: -route[0].prefixlen)
 
 
 def longest(routes, address):
@@ -69,12 +76,115 @@ class Tables(unittest.TestCase):
             self.assertEqual([None if place is None else listed[place] for place in table.route_all(addresses)],
                              [covering(routes, ipaddress.ip_network(address)) for address in addresses])
 
+    def test_one_network(self):
+        """The network itself, and all networks around it, beside a scan."""
+        draw = random.Random(12)
+        for count in (0, 1, 5, 60, 300):
+            routes = drawn(draw, count)
+            table, values = RouteTable(routes), ValueTable({network: str(value) for network, value in routes.items()})
+            asked = [*routes, *drawn(draw, 40), ipaddress.ip_address("10.0.0.7"), ipaddress.ip_address("fd00::7")]
+            for network in asked:
+                wanted = around(routes, ipaddress.ip_network(network))
+                texts = [(other, str(value)) for other, value in wanted]
+                is_one = isinstance(network, (ipaddress.IPv4Address, ipaddress.IPv6Address))
+                self.assertEqual(table.matches(network), wanted)
+                self.assertEqual(table.matches(str(network)), wanted)
+                self.assertEqual(values.matches(network), texts)
+                self.assertEqual(table.route(network), wanted[0] if wanted else None)
+                self.assertEqual(values.route(str(network)), texts[0] if texts else None)
+                self.assertEqual(table.exact(network, -1), -1 if is_one else routes.get(network, -1))
+                self.assertEqual(values.exact(network, "-1"), str(table.exact(network, -1)))
+        self.assertEqual(RouteTable({"10.0.0.0/8": 1}).exact("10.9.9.9/8"), 1)
+        self.assertEqual(RouteTable({"10.0.0.7/32": 1}).exact(ipaddress.ip_address("10.0.0.7")), 1)
+        for call in (RouteTable().exact, RouteTable().matches, RouteTable().route, ValueTable().route):
+            self.assertRaises(NotANetwork, call, "10.0.0.0/33")
+            self.assertRaises(TypeError, call, 7)
+
+    def test_equal(self):
+        draw = random.Random(13)
+        for count in (0, 1, 5, 40, 300):
+            routes = drawn(draw, count)
+            pairs = list(routes.items())
+            draw.shuffle(pairs)
+            table, again = RouteTable(routes), RouteTable(pairs + pairs[:3])
+            self.assertEqual((table, hash(table)), (again, hash(again)))
+            self.assertEqual({table: 1}[pickle.loads(pickle.dumps(table))], 1)
+            names = ValueTable(routes)
+            for other in (ValueTable(pairs), copy.deepcopy(names), pickle.loads(pickle.dumps(names))):
+                self.assertEqual((names, names.routes()), (other, other.routes()))
+            for network, value in pairs[:5]:
+                self.assertNotEqual(table, RouteTable({**routes, network: value + 1}))
+                self.assertNotEqual(names, ValueTable({**routes, network: value + 1}))
+                self.assertNotEqual(table, table.updated(remove=network))
+                self.assertNotEqual(names, names.updated(remove=network))
+        self.assertNotEqual(RouteTable(), RouteTable().to_bytes())
+        self.assertNotEqual(ValueTable(), RouteTable())
+        self.assertRaises(TypeError, hash, ValueTable())
+
+    def test_updated(self):
+        """Tables after changes beside dictionaries after the same changes, also with an index and in several parts."""
+        draw = random.Random(14)
+        many = {ipaddress.IPv4Network((11 << 24 | number << 8, 24)): number for number in range(70_000)}
+        for count, more in ((0, {}), (1, {}), (40, {}), (300, {}), (40, many)):
+            for _ in range(5 if not more else 1):
+                routes = {**drawn(draw, count), **more}
+                insert = drawn(draw, 10)
+                gone = draw.sample(list(routes), min(7, len(routes)))
+                wanted = {**{network: value for network, value in routes.items() if network not in gone}, **insert}
+                table, values = RouteTable(routes), ValueTable(routes)
+                for form in (gone, [str(network) for network in gone], "\n".join(map(str, gone))):
+                    self.assertEqual(table.updated(insert, form), RouteTable(wanted))
+                self.assertEqual(values.updated(insert.items(), gone), ValueTable(wanted))
+                self.assertEqual((table, values.routes()), (RouteTable(routes), table.routes()))
+        table = RouteTable({"10.0.0.0/8": 1, "fd00::/8": 2})
+        self.assertEqual(table.updated(), table)
+        self.assertEqual(table.updated(remove=["10.9.9.9/8", "FD00:0::/8"]), RouteTable())
+        self.assertEqual(table.updated({"10.0.0.0/8": 7}, remove="10.0.0.0/8").routes()[0][1], 7)
+        for wrong in ("10.0.0.0/9", ["10.0.0.0/8", "10.0.0.0/7"]):
+            with self.assertRaises(KeyError):
+                table.updated(remove=wrong)
+        with self.assertRaises(BadLine) as caught:
+            table.updated({"10.0.0.0/9": 1, "10.0.0.0/33": 2})
+        self.assertEqual(caught.exception.line, 2)
+        self.assertRaises(NotANetwork, table.updated, remove="10.0.0.0/8\nx")
+        self.assertRaises(OverflowError, table.updated, {"10.0.0.0/8": -1})
+
+    def test_words(self):
+        small = RouteTable({"10.0.0.0/8": 1, "fd00::/8": 2})
+        self.assertEqual(repr(small), "RouteTable({'10.0.0.0/8': 1, 'fd00::/8': 2})")
+        many = RouteTable({f"10.0.{number}.0/24": number for number in range(6)})
+        self.assertTrue(repr(many).endswith("'10.0.4.0/24': 4, ...})"))
+        self.assertEqual(repr(ValueTable({"10.0.0.0/8": "x", "fd00::/8": None})),
+                         "ValueTable({'10.0.0.0/8': 'x', 'fd00::/8': None})")
+        self.assertTrue(repr(ValueTable(dict(many.routes()))).endswith("'10.0.4.0/24': 4, ...})"))
+
+    def test_values(self):
+        """Values of any kind, also equal ones and None, beside a scan."""
+        draw, kinds = random.Random(15), ("office", None, 2.5, ("a", 1), ["list"])
+        for count in (0, 1, 40, 300):
+            routes = {network: kinds[value % 5] for network, value in drawn(draw, count).items()}
+            table = ValueTable(routes)
+            listed = sorted(routes.items(), key=lambda route: (route[0].version, route[0]))
+            self.assertEqual((len(table), table.routes(), table.values),
+                             (len(routes), listed, [value for _, value in listed]))
+            for address in [ipaddress.IPv4Address((10 << 24) + draw.randrange(1 << 13)) for _ in range(50)]:
+                wanted = covering(dict.fromkeys(routes, 0), ipaddress.ip_network(address))
+                value = routes[wanted[0]] if wanted else "none"
+                self.assertEqual((table.get(address, "none"), address in table), (value, wanted is not None))
+                [place] = table.table.match_all([address])
+                self.assertEqual("none" if place is None else table.values[place], value)
+        self.assertRaises(KeyError, ValueTable().__getitem__, "10.0.0.1")
+        self.assertRaises(BadLine, ValueTable, {"10.0.0.0/33": "x"})
+        self.assertEqual(ValueTable([("10.0.0.0/8", "a"), ("10.1.1.1/8", "b")]).routes()[0][1], "b")
+
     def test_many_routes(self):
         routes = {f"10.{number >> 8}.{number & 255}.0/24": number for number in range(20_000)}
         table = RouteTable(routes)
         self.assertEqual(len(table), 20_000)
         for number in range(0, 20_000, 77):
             self.assertEqual(table[f"10.{number >> 8}.{number & 255}.9"], number)
+        first = table.iter_routes()
+        self.assertEqual([next(first), next(first)], table.routes()[:2])
         self.assertNotIn("11.0.0.1", table)
 
     def test_index(self):
@@ -117,11 +227,6 @@ class Tables(unittest.TestCase):
         self.assertRaises(ValueError, RouteTable().get, "10.0.0.0/8")
         self.assertRaises(KeyError, RouteTable().__getitem__, "10.0.0.1")
         self.assertRaises(ValueError, RouteTable().get_packed, b"12345", 4)
-
-
-def load_tests(loader, tests, pattern):
-    tests.addTests(doctest.DocTestSuite("ipnet_proved._tables", extraglobs={"ipaddress": ipaddress}))
-    return tests
 
 
 if __name__ == "__main__":

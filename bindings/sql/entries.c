@@ -60,6 +60,12 @@ static bool has_mark(SqlPart entry)
     return entry.len >= 3 && memcmp(entry.text, "\xef\xbb\xbf", 3) == 0;
 }
 
+/* Whether the entry is refused before the library reads it. */
+static bool is_refused(SqlPart entry)
+{
+    return entry.len == 0 || has_mark(entry) || has(entry, '#') || has(entry, ';') || has(entry, '\n');
+}
+
 size_t sql_set_lines(const char *text, size_t len, char *lines, size_t *refused)
 {
     SqlEntries entries = sql_entries(text, len);
@@ -67,7 +73,7 @@ size_t sql_set_lines(const char *text, size_t len, char *lines, size_t *refused)
     size_t written = 0;
     *refused = 0;
     while (sql_next_entry(&entries, &entry)) {
-        if (entry.len == 0 || has_mark(entry) || has(entry, '#') || has(entry, ';') || has(entry, '\n')) {
+        if (is_refused(entry)) {
             *refused = entries.number;
             break;
         }
@@ -76,6 +82,18 @@ size_t sql_set_lines(const char *text, size_t len, char *lines, size_t *refused)
         lines[written++] = '\n';
     }
     return written;
+}
+
+ipnet_status sql_check_entry(const char *text, size_t len)
+{
+    SqlPart entry = {text, len};
+    uint8_t image[64];
+    size_t count;
+    entry = trimmed(entry);
+    if (is_refused(entry) || has(entry, ','))
+        return IPNET_BAD_LINE;
+    /* one range has an image of at most 64 bytes */
+    return ipnet_set_from_list(entry.text, entry.len, image, sizeof image, &count);
 }
 
 SqlPart sql_entry_at(const char *text, size_t len, size_t number)

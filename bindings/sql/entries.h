@@ -6,6 +6,7 @@
 #ifndef SQL_ENTRIES_H
 #define SQL_ENTRIES_H
 
+#include "ipnet.h"
 #include "networks.h"
 
 /* A part of a text. */
@@ -33,6 +34,9 @@ size_t sql_set_lines(const char *text, size_t len, char *lines, size_t *refused)
 
 /* The entry with this number. */
 SqlPart sql_entry_at(const char *text, size_t len, size_t number);
+
+/* Returns OK if the text is one entry of a set, BAD_LINE if it is not, or OUT_OF_MEMORY. */
+ipnet_status sql_check_entry(const char *text, size_t len);
 
 /* Why an entry of a set, or the network of a table, is refused, as the end of a sentence: "the prefix length is above
  * 32". A table takes no netmasks. */

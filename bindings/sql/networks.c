@@ -59,14 +59,10 @@ size_t sql_parse_address(const char *text, size_t len, uint8_t *octets)
     return sql_octets_len(&network);
 }
 
-size_t sql_quoted_len(const char *text, size_t len)
+bool sql_is_mapped(const uint8_t *octets)
 {
-    if (len <= 100)
-        return len;
-    len = 100;
-    while (len > 0 && ((unsigned char)text[len] & 0xc0) == 0x80)
-        len--;
-    return len;
+    static const uint8_t start[12] = {0, 0, 0, 0, 0, 0, 0, 0, 0, 0, 0xff, 0xff};
+    return memcmp(octets, start, sizeof start) == 0;
 }
 
 void sql_print_count(const uint64_t numbers[3], char text[SQL_COUNT_TEXT])

@@ -31,8 +31,9 @@ bool sql_parse_network(const char *text, size_t len, SqlNetwork *network);
 /* Reads an address and writes its octets. Returns 4 or 16, their number, or 0 if the text is not an address. */
 size_t sql_parse_address(const char *text, size_t len, uint8_t *octets);
 
-/* The start of the text that a message quotes: at most 100 bytes, and no part of a character of UTF-8. */
-size_t sql_quoted_len(const char *text, size_t len);
+/* Whether the address, of 16 octets, is an IPv4 address mapped into IPv6 (::ffff:0:0/96). Its IPv4 address is then in
+ * the last four octets. */
+bool sql_is_mapped(const uint8_t *octets);
 
 /* Prints the number numbers[0] + 2^64 * numbers[1] + 2^128 * numbers[2] in decimal, with a NUL. */
 enum { SQL_COUNT_TEXT = 60 };

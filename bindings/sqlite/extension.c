@@ -17,6 +17,8 @@ __attribute__((visibility("default"))) int sqlite3_ipset_init(sqlite3 *database,
     if (status == SQLITE_OK)
         status = add_kept_functions(database);
     if (status == SQLITE_OK)
-        status = add_each_table(database);
+        status = add_text_functions(database);
+    if (status == SQLITE_OK)
+        status = add_row_tables(database);
     return status;
 }

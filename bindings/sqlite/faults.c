@@ -183,6 +183,7 @@ static void use_views(void)
     expect(database, "CREATE VIEW w AS SELECT ipset_contains(ipset('10.0.0.0/8'), '10.0.0.1') x; SELECT x FROM w", "1");
     expect(database, "CREATE VIEW e AS SELECT network FROM ipset_each(ipset('10.0.0.0/8')); SELECT * FROM e",
            "10.0.0.0/8");
+    expect(database, "CREATE TEMP VIEW t AS SELECT ipset_has('list', '10.0.0.1') x; SELECT x FROM t", "1");
     sqlite3_close(database);
 }
 
@@ -207,24 +208,35 @@ static void refuse_each(sqlite3 *database, const char *text, const char *wanted,
     check(strcmp(found, wanted) == 0 && (granted > 0 || !of_sqlite), text, found);
 }
 
+/* Statements that are run without memory, each with its result. */
+static const char *const rows[][2] = {
+    {"SELECT hex(ipset('10.0.0.0/8, 10.0.0.3-10.0.0.9, ::1')) = hex(ipset('10.0.0.0/8, ::1'))", "1"},
+    {"SELECT ipset('10.0.0.0/8, x')",
+     "entry 2 is not a network, address or range: x: a host name: write its addresses"},
+    {"SELECT ipset_contains(ipset('10.0.0.0/8'), '10.1.2.3')", "1"},
+    {"SELECT ipset_contains(ipset('10.0.0.0/8'), 'x')", "not an address: x"},
+    {"SELECT ipset_count(ipset_union(ipset('10.0.0.0/8'), ipset('::/0')), 6)",
+     "340282366920938463463374607431768211456"},
+    {"SELECT ipset_count(ipset_difference(ipset_complement(ipset('10.0.0.0/8')), ipset('::/0')), 4)", "4278190080"},
+    {"SELECT count(*) FROM (SELECT ipset_agg(a) s FROM log), ipset_each(s)", "2"},
+    {"SELECT longest_match((SELECT iptable_agg(a, 7) FROM log), 167772161)", "7"},
+    {"SELECT iptable_agg(a, b) FROM (SELECT '10.0.0.0/8' a, 1 b UNION ALL SELECT '10.0.0.1/8', 2)",
+     "two values for the network 10.0.0.0/8: 1 and 2"},
+    {"SELECT ipset_keep('a', ipset('10.0.0.0/8')) + ipset_keep('b', (SELECT iptable_agg(a, 7) FROM log))", "120"},
+    {"SELECT ipset_has('a', '10.0.0.1') + longest_match_in('b', 'fd00::1')", "8"},
+    {"SELECT longest_route((SELECT iptable_agg(a, 7) FROM log), 167772161)", "10.0.0.1/32"},
+    {"SELECT longest_route_in('b', 'fd00::/16')", "fd00::/8"},
+    {"SELECT max(last) FROM ipset_ranges(ipset('10.0.0.0/8'))", "10.255.255.255"},
+    {"SELECT sum(value) FROM (SELECT iptable_agg(a, 7) t FROM log), iptable_each(t)", "14"},
+    {"SELECT ipset_is_entry('10.0.0.1 - 10.0.0.9') + ipset_is_address('::1')", "2"},
+    {"SELECT ipset_unmap('::ffff:10.0.0.1')", "10.0.0.1"},
+    {"SELECT hex(ipset_key('::1'))", "00000000000000000000000000000001"},
+    {"SELECT ipset_count(ipset_agg(s), 4) FROM (SELECT ipset('10.0.0.0/8') s UNION ALL SELECT ipset('11.0.0.0/8'))",
+     "33554432"},
+};
+
 static void refuse_memory(void)
 {
-    static const char *const rows[][2] = {
-        {"SELECT hex(ipset('10.0.0.0/8, 10.0.0.3-10.0.0.9, ::1')) = hex(ipset('10.0.0.0/8, ::1'))", "1"},
-        {"SELECT ipset('10.0.0.0/8, x')",
-         "entry 2 is not a network, address or range: x: a host name: write its addresses"},
-        {"SELECT ipset_contains(ipset('10.0.0.0/8'), '10.1.2.3')", "1"},
-        {"SELECT ipset_contains(ipset('10.0.0.0/8'), 'x')", "not an address: x"},
-        {"SELECT ipset_count(ipset_union(ipset('10.0.0.0/8'), ipset('::/0')), 6)",
-         "340282366920938463463374607431768211456"},
-        {"SELECT ipset_count(ipset_difference(ipset_complement(ipset('10.0.0.0/8')), ipset('::/0')), 4)", "4278190080"},
-        {"SELECT count(*) FROM (SELECT ipset_agg(a) s FROM log), ipset_each(s)", "2"},
-        {"SELECT longest_match((SELECT iptable_agg(a, 7) FROM log), 167772161)", "7"},
-        {"SELECT iptable_agg(a, b) FROM (SELECT '10.0.0.0/8' a, 1 b UNION ALL SELECT '10.0.0.1/8', 2)",
-         "two values for the network 10.0.0.0/8: 1 and 2"},
-        {"SELECT ipset_keep('a', ipset('10.0.0.0/8')) + ipset_keep('b', (SELECT iptable_agg(a, 7) FROM log))", "120"},
-        {"SELECT ipset_has('a', '10.0.0.1') + longest_match_in('b', 'fd00::1')", "8"},
-    };
     sqlite3 *database = opened(":memory:");
     size_t i;
     sqlite3_int64 used;

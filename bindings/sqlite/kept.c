@@ -1,4 +1,4 @@
-/* Images that a connection keeps by name: ipset_keep, ipset_has, longest_match_in.
+/* Images that a connection keeps by name: ipset_keep, ipset_has, longest_match_in, longest_route_in.
  *
  * SQLite copies a blob of a column or of a subquery for each row. A kept image is copied once. Each image is counted: a
  * statement holds the images that it uses until it ends, even if another statement keeps a new image of that name. */
@@ -15,7 +15,7 @@ typedef struct KeptImage {
     char *name;
 } KeptImage;
 
-/* The images of a connection. Each of the three functions holds it. */
+/* The images of a connection. Each of these functions holds it. */
 typedef struct Registry {
     KeptImage *first;
     uint32_t holders;
@@ -125,7 +125,7 @@ static void keep(sqlite3_context *context, int count, sqlite3_value **values)
     if (status == IPNET_NOT_A_SET)
         status = ipnet_table_check(image.text, image.len);
     if (status == IPNET_NOT_A_TABLE) {
-        refuse(context, "not the image of a set or of a table", values[1], NULL);
+        refuse_image(context, "not the image of a set or of a table", values[1]);
         return;
     }
     kept = status == IPNET_OK ? copy_of(name, image, is_set) : NULL;
@@ -176,17 +176,30 @@ static void has(sqlite3_context *context, int count, sqlite3_value **values)
     hold(context, kept);
 }
 
-/* longest_match_in(name, address): the value of the longest network that contains the address, or NULL */
+/* Finds the longest route in the kept table. */
+static void find_in(sqlite3_context *context, int count, sqlite3_value **values, bool is_route)
+{
+    SqlNetwork network;
+    SqlPart table;
+    KeptImage *kept = has_null(count, values) ? NULL : kept_image(context, values[0], false);
+    if (kept == NULL || !read_network(context, values[1], &network))
+        return;
+    table.text = (const char *)kept->bytes;
+    table.len = kept->len;
+    answer_route_around(context, table, &network, is_route);
+    hold(context, kept);
+}
+
+/* longest_match_in(name, network): the value of the longest route that contains the network, or NULL */
 static void longest_match_in(sqlite3_context *context, int count, sqlite3_value **values)
 {
-    Address address;
-    uint32_t value;
-    KeptImage *kept = has_null(count, values) ? NULL : kept_image(context, values[0], false);
-    if (kept == NULL || !read_address(context, values[1], &address))
-        return;
-    if (ipnet_table_longest_match(kept->bytes, kept->len, address.octets, address.len, &value) == 1)
-        sqlite3_result_int64(context, value);
-    hold(context, kept);
+    find_in(context, count, values, false);
+}
+
+/* longest_route_in(name, network): that route, or NULL */
+static void longest_route_in(sqlite3_context *context, int count, sqlite3_value **values)
+{
+    find_in(context, count, values, true);
 }
 
 /* Registers a function that holds the registry. SQLite releases it also if this fails. */
@@ -211,6 +224,8 @@ int add_kept_functions(sqlite3 *database)
         status = add_holder(database, registry, "ipset_has", has);
     if (status == SQLITE_OK)
         status = add_holder(database, registry, "longest_match_in", longest_match_in);
+    if (status == SQLITE_OK)
+        status = add_holder(database, registry, "longest_route_in", longest_route_in);
     release_registry(registry);
     return status;
 }

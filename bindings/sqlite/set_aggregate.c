@@ -1,4 +1,4 @@
-/* ipset_agg(entry): the set of the networks, addresses and ranges of a column.
+/* ipset_agg(entry): the set of the networks, addresses, ranges and sets of a column.
  *
  * The state has a set, and the lines of entries that came after it. If the lines are as long as the set and 1 MB, the
  * library compiles them and joins both. */
@@ -71,21 +71,47 @@ static bool make_room(SetState *state, size_t more)
 }
 
 /* Adds an entry that is not just a network: one with blanks around it, a range, or a network with a netmask. Returns
- * false if it is none of these, or if the library has no memory. */
-static bool add_entry(SetState *state, SqlPart text, ipnet_status *status)
+ * false after an error. */
+static bool add_entry(sqlite3_context *context, SetState *state, sqlite3_value *value, SqlPart text)
 {
-    char *line = state->lines + state->len;
-    size_t refused, count, len = sql_set_lines(text.text, text.len, line, &refused);
-    uint8_t image[64];
-    *status = IPNET_BAD_LINE;
-    /* without a comma there is one entry; if it is refused, it has no line */
-    if (len == 0 || memchr(text.text, ',', text.len) != NULL)
-        return false;
-    *status = ipnet_set_from_list(line, len, image, sizeof image, &count);
-    if (*status != IPNET_OK && *status != IPNET_BUFFER_TOO_SHORT)
-        return false;
-    state->len += len;
-    return true;
+    size_t refused;
+    ipnet_status status = sql_check_entry(text.text, text.len);
+    if (status == IPNET_OK)
+        state->len += sql_set_lines(text.text, text.len, state->lines + state->len, &refused);
+    else if (status == IPNET_BAD_LINE)
+        refuse(context, "not a network, address or range", value, sql_cause_of_entry(text));
+    else
+        refuse_status(context, status);
+    return status == IPNET_OK;
+}
+
+/* Adds the ranges of the set with this image. Returns false after an error. */
+static bool add_set(sqlite3_context *context, SetState *state, sqlite3_value *value)
+{
+    SqlGiven image = {sqlite3_value_blob(value), (size_t)sqlite3_value_bytes(value), NULL, 0};
+    ipnet_status status = IPNET_OUT_OF_MEMORY;
+    size_t len;
+    uint8_t *ranges = image.bytes ? try_write(sql_write_ranges, &image, 4 * image.len, &status, &len) : NULL;
+    if (ranges != NULL && !make_room(state, len)) {
+        sqlite3_free(ranges);
+        ranges = NULL;
+        status = IPNET_OUT_OF_MEMORY;
+    }
+    if (ranges != NULL) {
+        memcpy(state->lines + state->len, ranges, len);
+        state->len += len;
+        sqlite3_free(ranges);
+    } else if (status == IPNET_NOT_A_SET)
+        refuse_image(context, "not the image of a set", value);
+    else
+        refuse_status(context, status);
+    return ranges != NULL;
+}
+
+/* Whether the value is a blob that is too long for an address. */
+static bool may_be_image(sqlite3_value *value)
+{
+    return sqlite3_value_type(value) == SQLITE_BLOB && sqlite3_value_bytes(value) > 16;
 }
 
 /* Adds the value. Returns false after an error. */
@@ -94,7 +120,8 @@ static bool add_value(sqlite3_context *context, SetState *state, sqlite3_value *
     bool is_text = sqlite3_value_type(value) == SQLITE_TEXT;
     SqlPart text = {is_text ? (const char *)sqlite3_value_text(value) : "", 0};
     SqlNetwork network;
-    ipnet_status status;
+    if (may_be_image(value))
+        return add_set(context, state, value);
     text.len = is_text ? (size_t)sqlite3_value_bytes(value) : 0;
     if (text.text == NULL || !make_room(state, text.len + SQL_LINE)) {
         sqlite3_result_error_nomem(context);
@@ -106,13 +133,7 @@ static bool add_value(sqlite3_context *context, SetState *state, sqlite3_value *
         state->len += sql_print_line(&network, state->lines + state->len);
         return true;
     }
-    if (add_entry(state, text, &status))
-        return true;
-    if (status == IPNET_BAD_LINE)
-        refuse(context, "not a network, address or range", value, sql_cause_of_entry(text));
-    else
-        refuse_status(context, status);
-    return false;
+    return add_entry(context, state, value, text);
 }
 
 static void add(sqlite3_context *context, int count, sqlite3_value **values)

@@ -4,10 +4,10 @@
 static void refuse_entry(sqlite3_context *context, SqlPart text, size_t number)
 {
     SqlPart entry = sql_entry_at(text.text, text.len, number);
-    size_t shown = sql_quoted_len(entry.text, entry.len);
-    report(context, sqlite3_mprintf("entry %llu is not a network, address or range: %.*s%s: %s",
-                                    (unsigned long long)number, (int)shown, entry.text, shown < entry.len ? ".." : "",
-                                    sql_cause_of_entry(entry)));
+    char quote[SQL_QUOTE];
+    sql_quote(entry.text, entry.len, true, quote);
+    report(context, sqlite3_mprintf("entry %llu is not a network, address or range: %s: %s",
+                                    (unsigned long long)number, quote, sql_cause_of_entry(entry)));
 }
 
 /* The set of the entries; `lines` has room for them. */
@@ -60,11 +60,10 @@ static void contains(sqlite3_context *context, int count, sqlite3_value **values
         return;
     answer = ipnet_set_contains(set.text, set.len, address.octets, address.len);
     if (answer == IPNET_NOT_A_SET)
-        refuse(context, "not the image of a set", values[0], NULL);
+        refuse_image(context, "not the image of a set", values[0]);
     else
         sqlite3_result_int(context, (int)answer);
 }
-
 
 /* The operations of two sets, as the user data of their functions. */
 static const struct Operation {
@@ -94,7 +93,7 @@ static void combine(sqlite3_context *context, int count, sqlite3_value **values)
     if (image != NULL)
         sqlite3_result_blob64(context, image, len, sqlite3_free);
     else if (status == IPNET_NOT_A_SET || status == IPNET_OTHER_NOT_A_SET)
-        refuse(context, "not the image of a set", values[status == IPNET_NOT_A_SET ? 0 : 1], NULL);
+        refuse_image(context, "not the image of a set", values[status == IPNET_NOT_A_SET ? 0 : 1]);
     else
         refuse_status(context, status);
 }
@@ -109,7 +108,7 @@ static void complement(sqlite3_context *context, int count, sqlite3_value **valu
     given.bytes = set.text;
     given.len = set.len;
     if (ipnet_set_check(set.text, set.len) == IPNET_NOT_A_SET)
-        refuse(context, "not the image of a set", values[0], NULL);
+        refuse_image(context, "not the image of a set", values[0]);
     else
         write_result(context, sql_write_complement, &given, set.len + 20);
 }
@@ -131,7 +130,7 @@ static void count_addresses(sqlite3_context *context, int count, sqlite3_value *
     }
     status = ipnet_set_counts(set.text, set.len, counts, 4);
     if (status == IPNET_NOT_A_SET)
-        refuse(context, "not the image of a set", values[0], NULL);
+        refuse_image(context, "not the image of a set", values[0]);
     else if (status != IPNET_OK)
         refuse_status(context, status);
     else if (family == 4)

@@ -33,9 +33,33 @@ static bool make_room(TableState *state)
     return true;
 }
 
+/* The number in a text of 1 to 10 digits, or -1 if the text is another one. */
+static sqlite3_int64 number_in(SqlPart text)
+{
+    sqlite3_int64 number = 0;
+    size_t i;
+    if (text.len == 0 || text.len > 10)
+        return -1;
+    for (i = 0; i < text.len; i++) {
+        if (text.text[i] < '0' || text.text[i] > '9')
+            return -1;
+        number = 10 * number + (text.text[i] - '0');
+    }
+    return number;
+}
+
+/* An integer, or a text of digits, as .import writes it into a column of type TEXT. */
 static bool read_value(sqlite3_context *context, sqlite3_value *value, uint32_t *number)
 {
-    sqlite3_int64 wide = sqlite3_value_type(value) == SQLITE_INTEGER ? sqlite3_value_int64(value) : -1;
+    sqlite3_int64 wide = -1;
+    SqlPart text;
+    if (sqlite3_value_type(value) == SQLITE_INTEGER)
+        wide = sqlite3_value_int64(value);
+    else if (sqlite3_value_type(value) == SQLITE_TEXT) {
+        if (!read_text(context, value, &text))
+            return false;
+        wide = number_in(text);
+    }
     *number = (uint32_t)wide;
     if (wide >= 0 && wide <= UINT32_MAX)
         return true;
@@ -118,20 +142,48 @@ static void finish(sqlite3_context *context)
     fail(state);
 }
 
-/* longest_match(image, address): the value of the longest network that contains the address, or NULL */
-static void longest_match(sqlite3_context *context, int count, sqlite3_value **values)
+bool answer_route_around(sqlite3_context *context, SqlPart table, const SqlNetwork *network, bool is_route)
+{
+    const uint8_t *octets = network->bytes + 1;
+    size_t len = sql_octets_len(network);
+    SqlRoute route = {{{0}}, 0};
+    uint32_t answer;
+    if (sql_prefix_len(network) < 8 * len)
+        answer = ipnet_table_longest_covering(table.text, table.len, network->bytes, sql_network_len(network),
+                                              route.network.bytes, sizeof route.network.bytes, &route.value);
+    else if (is_route)
+        answer = ipnet_table_longest_route(table.text, table.len, octets, len, route.network.bytes,
+                                           sizeof route.network.bytes, &route.value);
+    else
+        answer = ipnet_table_longest_match(table.text, table.len, octets, len, &route.value);
+    if (answer == 1 && is_route)
+        answer_network(context, &route.network);
+    else if (answer == 1)
+        sqlite3_result_int64(context, route.value);
+    return answer <= 1;
+}
+
+static void find_route(sqlite3_context *context, int count, sqlite3_value **values, bool is_route)
 {
     SqlPart table;
-    Address address;
-    uint32_t answer, value;
+    SqlNetwork network;
     if (has_null(count, values) || !read_image(context, values[0], &table) ||
-        !read_address(context, values[1], &address))
+        !read_network(context, values[1], &network))
         return;
-    answer = ipnet_table_longest_match(table.text, table.len, address.octets, address.len, &value);
-    if (answer == IPNET_NOT_A_TABLE)
-        refuse(context, "not the image of a table", values[0], NULL);
-    else if (answer == 1)
-        sqlite3_result_int64(context, value);
+    if (!answer_route_around(context, table, &network, is_route))
+        refuse_image(context, "not the image of a table", values[0]);
+}
+
+/* longest_match(image, network): the value of the longest route that contains the network, or NULL */
+static void longest_match(sqlite3_context *context, int count, sqlite3_value **values)
+{
+    find_route(context, count, values, false);
+}
+
+/* longest_route(image, network): that route, or NULL */
+static void longest_route(sqlite3_context *context, int count, sqlite3_value **values)
+{
+    find_route(context, count, values, true);
 }
 
 int add_table_functions(sqlite3 *database)
@@ -139,5 +191,7 @@ int add_table_functions(sqlite3 *database)
     int status = sqlite3_create_function(database, "iptable_agg", 2, PURE_FUNCTION, NULL, NULL, add, finish);
     if (status == SQLITE_OK)
         status = sqlite3_create_function(database, "longest_match", 2, PURE_FUNCTION, NULL, longest_match, NULL, NULL);
+    if (status == SQLITE_OK)
+        status = sqlite3_create_function(database, "longest_route", 2, PURE_FUNCTION, NULL, longest_route, NULL, NULL);
     return status;
 }

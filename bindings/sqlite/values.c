@@ -3,7 +3,7 @@
 
 #include <string.h>
 
-/* The value as it is quoted: at most 100 bytes of a text, a number, or at most 20 bytes of a blob. */
+/* The value as it is quoted: the start of a text, a number, or at most 20 bytes of a blob. */
 static char *quoted(sqlite3_value *value)
 {
     static const char digits[] = "0123456789abcdef";
@@ -14,8 +14,9 @@ static char *quoted(sqlite3_value *value)
         return sqlite3_mprintf("NULL");
     if (sqlite3_value_type(value) != SQLITE_BLOB) {
         const char *text = (const char *)sqlite3_value_text(value);
-        size_t whole = (size_t)sqlite3_value_bytes(value), shown = text ? sql_quoted_len(text, whole) : 0;
-        return sqlite3_mprintf("%.*s%s", (int)shown, text ? text : "", shown < whole ? ".." : "");
+        char quote[SQL_QUOTE];
+        sql_quote(text, text ? (size_t)sqlite3_value_bytes(value) : 0, true, quote);
+        return sqlite3_mprintf("%s", quote);
     }
     bytes = sqlite3_value_blob(value);
     len = sqlite3_value_bytes(value);
@@ -42,6 +43,12 @@ void refuse(sqlite3_context *context, const char *what, sqlite3_value *value, co
     sqlite3_free(quote);
 }
 
+void refuse_image(sqlite3_context *context, const char *what, sqlite3_value *value)
+{
+    size_t len = (size_t)sqlite3_value_bytes(value);
+    refuse(context, what, value, sql_cause_of_image(sqlite3_value_blob(value), len));
+}
+
 void refuse_status(sqlite3_context *context, ipnet_status status)
 {
     if (status == IPNET_OUT_OF_MEMORY)
@@ -59,8 +66,7 @@ bool has_null(int count, sqlite3_value **values)
     return false;
 }
 
-/* The address in an integer or a blob. Returns false if it has none. */
-static bool address_in(sqlite3_value *value, Address *address)
+bool find_address(sqlite3_value *value, Address *address)
 {
     if (sqlite3_value_type(value) == SQLITE_INTEGER) {
         sqlite3_int64 number = sqlite3_value_int64(value);
@@ -81,8 +87,7 @@ static bool address_in(sqlite3_value *value, Address *address)
     return false;
 }
 
-/* The text of a value that is one. Returns false if there is no memory for it, after an error. */
-static bool text_in(sqlite3_context *context, sqlite3_value *value, SqlPart *text)
+bool read_text(sqlite3_context *context, sqlite3_value *value, SqlPart *text)
 {
     text->text = (const char *)sqlite3_value_text(value);
     text->len = (size_t)sqlite3_value_bytes(value);
@@ -95,12 +100,12 @@ bool read_address(sqlite3_context *context, sqlite3_value *value, Address *addre
 {
     SqlPart text;
     if (sqlite3_value_type(value) == SQLITE_TEXT) {
-        if (!text_in(context, value, &text))
+        if (!read_text(context, value, &text))
             return false;
         address->len = sql_parse_address(text.text, text.len, address->octets);
         if (address->len != 0)
             return true;
-    } else if (address_in(value, address))
+    } else if (find_address(value, address))
         return true;
     refuse(context, "not an address", value, NULL);
     return false;
@@ -111,14 +116,14 @@ bool read_network(sqlite3_context *context, sqlite3_value *value, SqlNetwork *ne
     Address address;
     SqlPart text;
     if (sqlite3_value_type(value) == SQLITE_TEXT) {
-        if (!text_in(context, value, &text))
+        if (!read_text(context, value, &text))
             return false;
         if (sql_parse_network(text.text, text.len, network))
             return true;
         refuse(context, "not a network", value, sql_cause_of_network(text));
         return false;
     }
-    if (address_in(value, &address)) {
+    if (find_address(value, &address)) {
         *network = sql_network(address.octets, address.len, (uint8_t)(8 * address.len));
         return true;
     }
@@ -137,4 +142,19 @@ bool read_image(sqlite3_context *context, sqlite3_value *value, SqlPart *image)
     if (image->text == NULL)
         image->text = "";
     return true;
+}
+
+void answer_network(sqlite3_context *context, const SqlNetwork *network)
+{
+    char line[SQL_LINE];
+    sqlite3_result_text(context, line, (int)sql_print_line(network, line) - 1, SQLITE_TRANSIENT);
+}
+
+void answer_key(sqlite3_context *context, const Address *address)
+{
+    const uint8_t *octets = address->octets;
+    if (address->len == 16)
+        sqlite3_result_blob(context, octets, 16, SQLITE_TRANSIENT);
+    else
+        sqlite3_result_int64(context, (sqlite3_int64)octets[0] << 24 | octets[1] << 16 | octets[2] << 8 | octets[3]);
 }

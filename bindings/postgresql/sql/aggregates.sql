@@ -16,6 +16,15 @@ SELECT ipset_agg(set_masklen(inet '10.0.0.0' + i, 32)) FROM generate_series(0, 6
 -- a list that is longer than the text which the state keeps: 200,000 networks of 18 to 20 bytes
 SELECT ipset_count(s, 4), (SELECT count(*) FROM ipset_ranges(s)) FROM
     (SELECT ipset_agg(inet '16.0.0.0' + 2 * i) s FROM generate_series(0, 199999) i) x;
+-- the union of a column of sets
+SELECT ipset_agg(s) FROM (VALUES (ipset '10.0.0.0/9, ::1'), ('10.128.0.0/9'), (NULL), ('')) v(s);
+SELECT ipset_agg(s) = '' FROM (VALUES (NULL::ipset)) v(s);
+SELECT ipset_agg(s) = (SELECT ipset_agg(n) FROM networks) FROM (SELECT ipset_agg(n) s FROM networks GROUP BY kind) x;
+-- with a set whose image has more than 1 MB, and with sets that have it together
+SELECT ipset_count(ipset_agg(s), 4) FROM (SELECT ipset_agg(inet '16.0.0.0' + 2 * i) s
+    FROM generate_series(0, 199999) i UNION ALL SELECT '16.0.0.0/31') x;
+SELECT ipset_count(ipset_agg(s), 4) FROM (SELECT ipset_agg(inet '16.0.0.0' + 2 * i) s
+    FROM generate_series(0, 199999) i GROUP BY i % 100) x;
 -- tables
 SELECT iptable_agg(n, v) FROM networks;
 SELECT iptable_agg(n, v) = '' FROM networks WHERE kind = 'c';
@@ -34,5 +43,9 @@ SET max_parallel_workers_per_gather = 2;
 EXPLAIN (COSTS OFF) SELECT ipset_agg(n), iptable_agg(n, 5) FROM many;
 CREATE TABLE parallel_results AS SELECT ipset_agg(n) s, iptable_agg(n, 5) t FROM many;
 SELECT p.s = r.s, p.t = r.t, ipset_count(p.s, 4) > 65536 FROM parallel_results p, results r;
+CREATE TABLE parts AS SELECT k, ipset_agg(n) s FROM many GROUP BY k;
+ALTER TABLE parts SET (parallel_workers = 2);
+EXPLAIN (COSTS OFF) SELECT ipset_agg(s) FROM parts;
+SELECT (SELECT ipset_agg(s) FROM parts) = r.s FROM results r;
 SELECT count(*) FROM many m, parallel_results p WHERE NOT p.s @> m.n OR longest_match(p.t, m.n) IS DISTINCT FROM 5;
-DROP TABLE networks, many, results, parallel_results;
+DROP TABLE networks, many, results, parallel_results, parts;

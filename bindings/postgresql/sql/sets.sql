@@ -63,6 +63,15 @@ SELECT a.id, b.id FROM lists a JOIN lists b USING (s) WHERE a.id < b.id ORDER BY
 SELECT ipset_cmp(a, b) = - ipset_cmp(b, a), (a < b) <> (a >= b), (a > b) <> (a <= b), a <= a, a >= a, a < a
 FROM (VALUES (ipset '10.0.0.0/8', ipset '::/8')) v(a, b);
 DROP TABLE lists;
+-- the image as bytea, and back
+SELECT (ipset '10.0.0.0/30')::bytea;
+SELECT count(*) FROM (VALUES (ipset '10.0.0.0/8, fd00::1-fd00::7'), (''), ('0.0.0.0/0, ::/0')) v(s)
+WHERE s::bytea::ipset = s;
+SELECT NULL::bytea::ipset IS NULL, ipset('10.0.0.0/8');
+-- addresses mapped into IPv6
+SELECT ipset_unmap('::ffff:10.0.0.1'), ipset_unmap('::ffff:10.1.2.3/104'), ipset_unmap('::ffff:0.0.0.0/96'),
+    ipset_unmap('::ffff:10.0.0.1/95'), ipset_unmap('10.0.0.1/8'), ipset_unmap('fd00::1'), ipset_unmap('::fffe:10.0.0.1'),
+    ipset_unmap(NULL) IS NULL;
 -- a set as a literal of an array and of a row
 SELECT ARRAY[ipset '10.0.0.0/8, 11.0.0.0/8', ''];
 SELECT ROW(ipset '10.0.0.0/8, 12.0.0.0/8');

@@ -28,6 +28,13 @@ SELECT longest_match(t, '::1'), longest_match(t, '::1')::bigint & 4294967295,
     encode(iptable_send(t), 'hex') LIKE '%ffffffff%' FROM (VALUES (iptable '::/0 -1')) v(t);
 -- NULL
 SELECT longest_match(NULL, '::1') IS NULL, longest_match('', NULL) IS NULL, longest_route(NULL, '::1') IS NULL;
+-- rows
+SELECT * FROM iptable_routes('fd00::/8 3, 10.1.0.0/16 2, 10.0.0.0/8 -1');
+SELECT count(*), sum(value), count(DISTINCT network), max(network) FROM iptable_routes((SELECT
+    iptable_agg(inet '10.0.0.0' + 2 * i, i) FROM generate_series(0, 599) i));
+SELECT (SELECT count(*) FROM iptable_routes('')), (SELECT count(*) FROM iptable_routes(NULL));
+-- the image as bytea, and back
+SELECT count(*) FROM tables WHERE t::bytea::iptable = t AND NULL::bytea::iptable IS NULL;
 -- equality and order: of the tables, not of their texts
 SELECT iptable '10.0.0.0/8 1, ::/0 2' = '::/0 2, 10.0.0.0/8 1', iptable '::/0 1' = '::/0 2',
     iptable '::/0 1' <> '::/1 1';

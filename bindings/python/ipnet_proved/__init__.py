@@ -39,13 +39,14 @@ from ._bulk import parse_all, text_all, truncate_all
 from ._columns import Addresses, ArrowText
 from ._library import version as library_version
 from ._networks import (BadLine, Interface, Network, Networks, NotANetwork, OneNetwork, answered, bytes_of,
-                        interface_of, text_of)
+                        interface_of, networks_of, text_of)
 from ._rows import BadRow
 from ._sets import IpSet, NotASet
 from ._tables import NotATable, RouteTable
+from ._values import ValueTable
 
 __all__ = [
-    "IpSet", "NotASet", "RouteTable", "NotATable",
+    "IpSet", "NotASet", "RouteTable", "NotATable", "ValueTable",
     "aggregate", "aggregate_text", "union", "union_text", "intersection", "intersection_text", "difference",
     "difference_text", "same_addresses", "is_covered", "parse", "canonical_text", "library_version", "BadLine",
     "NotANetwork", "Addresses", "ArrowText", "BadRow", "parse_all", "text_all", "truncate_all",
@@ -54,7 +55,7 @@ __all__ = [
 __version__ = "1.0.0"
 
 BadLine.__module__ = NotANetwork.__module__ = NotASet.__module__ = IpSet.__module__ = __name__
-RouteTable.__module__ = NotATable.__module__ = __name__
+RouteTable.__module__ = NotATable.__module__ = ValueTable.__module__ = __name__
 Addresses.__module__ = ArrowText.__module__ = BadRow.__module__ = __name__
 
 
@@ -85,7 +86,7 @@ def aggregate(networks: Networks) -> List[Network]:
 
 def _parsed(text: str) -> List[Network]:
     """The networks of a result."""
-    return [ipaddress.ip_network(line) for line in text.splitlines()]
+    return list(networks_of(text.encode("ascii")))
 
 
 def _combined(name: str, networks: Networks, others: Networks) -> str:

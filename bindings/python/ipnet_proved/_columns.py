@@ -143,27 +143,29 @@ class Lines(Column):
 
     def __init__(self, view: memoryview) -> None:
         self._view = octets_of_buffer(view)
-        self.count = sum(block.count(b"\n") for block in self._blocks())
-
-    def _blocks(self) -> Iterator[bytes]:
-        """The bytes in pieces of whole lines, each of which ends with a newline."""
-        at, size = 0, BLOCK
-        while at < len(self._view):
-            block = bytes(self._view[at:at + size])
-            if at + size < len(self._view):
-                block = block[:block.rfind(b"\n") + 1]
-                if not block:
-                    size *= 2
-                    continue
-            at, size = at + len(block), BLOCK
-            yield block if block.endswith(b"\n") else block + b"\n"
+        self.count = sum(block.count(b"\n") for block in blocks_of_lines(self._view, BLOCK))
 
     def pieces(self) -> Iterator[Piece]:
         start = 0
-        for block in self._blocks():
+        for block in blocks_of_lines(self._view, BLOCK):
             piece = _lines_piece(start, block)
             start += piece.size
             yield piece
+
+
+def blocks_of_lines(view: memoryview, most: int) -> Iterator[bytes]:
+    """The bytes in pieces of whole lines, each of which ends with a newline. A piece has at most `most` bytes, or one
+    longer line and what follows it."""
+    at, size = 0, most
+    while at < len(view):
+        block = bytes(view[at:at + size])
+        if at + size < len(view):
+            block = block[:block.rfind(b"\n") + 1]
+            if not block:
+                size *= 2
+                continue
+        at, size = at + len(block), most
+        yield block if block.endswith(b"\n") else block + b"\n"
 
 
 def _lines_piece(start: int, block: bytes) -> Piece:
@@ -185,12 +187,12 @@ class Items(Column):
             yield self._plain(start, items) or self._mixed(start, items)
 
     def _plain(self, start: int, items: Sequence[Any]) -> Optional[Piece]:
-        """The piece of items that are all str and have no newline; else None."""
+        """The piece of items that are all str or all bytes, and have no newline; else None."""
         try:
-            text = "\n".join(items) + "\n"
+            data = b"\n".join([*items, b""]) if isinstance(items[0], bytes) else as_bytes("\n".join([*items, ""]))
         except TypeError:
             return None
-        rows = parsed_lines(as_bytes(text), len(items))
+        rows = parsed_lines(data, len(items))
         return None if rows is None else rows_piece(start, rows, (), lambda place: as_bytes(items[place]))
 
     def _mixed(self, start: int, items: Sequence[Any]) -> Piece:

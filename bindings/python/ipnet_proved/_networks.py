@@ -1,7 +1,9 @@
 """Networks and lists in the forms that callers pass, as the texts and bytes that the library takes; and the errors."""
+import io
 import re
+import socket
 from ipaddress import IPv4Address, IPv4Interface, IPv4Network, IPv6Address, IPv6Interface, IPv6Network
-from typing import Any, Callable, Iterable, NoReturn, Sequence, Tuple, TypeVar, Union
+from typing import Any, Callable, Iterable, Iterator, NoReturn, Sequence, Tuple, TypeVar, Union
 
 from . import _library as library
 
@@ -226,7 +228,11 @@ def line_of(network: OneNetwork) -> bytes:
         return as_bytes(network)
     if not isinstance(network, OBJECTS):
         raise TypeError(f"a network is a text or an object of ipaddress, and not {network!r}")
-    octets, length = octets_of(network)
+    return line_of_octets(*octets_of(network))
+
+
+def line_of_octets(octets: bytes, length: int) -> bytes:
+    """The text of a network with these 4 or 16 octets and this prefix length."""
     if len(octets) == 4:
         return b"%d.%d.%d.%d/%d" % (*octets, length)
     return f"{octets.hex(':', 2)}/{length}".encode()
@@ -273,3 +279,21 @@ def interface_of(data: bytes) -> Interface:
     if data[0]:
         return IPv6Interface((data[1:-1], data[-1]))
     return IPv4Interface((data[1:-1], data[-1]))
+
+
+def network_of(data: bytes) -> Network:
+    """The network with this byte form, which has no host bits."""
+    if data[0]:
+        return IPv6Network((data[1:-1], data[-1]))
+    return IPv4Network((data[1:-1], data[-1]))
+
+
+def networks_of(text: bytes) -> Iterator[Network]:
+    """The networks of a result in text, one per line, each made when it is asked for. `inet_pton` reads the canonical
+    text of an address in half the time of ipaddress."""
+    for line in io.BytesIO(text):
+        address, _, length = line.decode("ascii").partition("/")
+        if ":" in address:
+            yield IPv6Network((socket.inet_pton(socket.AF_INET6, address), int(length)))
+        else:
+            yield IPv4Network((socket.inet_pton(socket.AF_INET, address), int(length)))

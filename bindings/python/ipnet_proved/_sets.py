@@ -1,14 +1,14 @@
 """Sets of addresses, kept as images: bytes that can be stored, sent and compared."""
 import ctypes
 import struct
-from ipaddress import IPv4Address, IPv6Address, ip_network
+from ipaddress import IPv4Address, IPv6Address
 from typing import Any, Callable, Iterator, List, Optional, Sequence, Tuple, Union
 
 from . import _library as library
 from ._bulk import RAISE, Options, contained
-from ._columns import ArrowText
+from ._columns import ArrowText, blocks_of_lines
 from ._networks import (Address, BadLine, Network, Networks, OneNetwork, Text, answered, as_bytes, bytes_of,
-                        cause_of_entry, shown, text_of)
+                        cause_of_entry, networks_of, shown, text_of)
 from ._rows import WIDTH, checked
 
 try:
@@ -20,6 +20,10 @@ except ImportError:
 
 # the length of the image of the empty set
 EMPTY = 32
+# the functions that read a list without and with leading zeros
+LIST_READERS = "ipnet_set_from_list", "ipnet_set_from_list_legacy"
+# the bytes of lines among which bad lines are looked for at a time
+SMALL_BLOCK = 1 << 14
 WIDTHS = (4, 16)
 NETWORK_WIDTHS = (6, 18)
 
@@ -31,6 +35,11 @@ _counts = library.question("ipnet_set_counts")
 _range_rows = library.question("ipnet_set_range_rows")
 _is_subset = library.question("ipnet_set_is_subset")
 _check = library.question("ipnet_set_check")
+
+
+def bad_entry(number: int, line: bytes, legacy: bool) -> BadLine:
+    """The exception for a line of a list of entries."""
+    return BadLine(number, shown(line.strip()), cause_of_entry(line.strip(), legacy))
 
 
 class NotASet(ValueError):
@@ -88,14 +97,41 @@ class IpSet:
         True
         """
         data = as_bytes(text)
-        name = "ipnet_set_from_list_legacy" if legacy else "ipnet_set_from_list"
-        status, number, image = library.writer(name, len(data) + EMPTY)(data)
+        status, number, image = library.writer(LIST_READERS[legacy], len(data) + EMPTY)(data)
         if status == library.BAD_LINE:
-            line = data.split(b"\n")[number - 1].strip()
-            raise BadLine(number, shown(line), cause_of_entry(line, legacy))
+            raise bad_entry(number, data.split(b"\n")[number - 1], legacy)
         if status == library.OUT_OF_MEMORY:
             raise MemoryError("libipnet: out of memory")
         return cls._of(image)
+
+    @staticmethod
+    def bad_lines(text: Text, legacy: bool = False) -> Iterator[BadLine]:
+        """All lines of a list that from_list refuses, one by one, each as the exception that says what is wrong.
+
+        >>> for error in IpSet.bad_lines("10.0.0.1\\n10.0.0.0/33\\n\\nx\\n"):
+        ...     print(error)
+        line 2: '10.0.0.0/33': the prefix length is above 32
+        line 4: 'x': a host name: write its addresses
+        """
+        number = 0
+        for block in blocks_of_lines(memoryview(as_bytes(text)), SMALL_BLOCK):
+            lines = block.split(b"\n")[:-1]
+            # the library finds the first bad line, but reads all lines: so the lines after it are halved
+            parts = [(0, len(lines))]
+            while parts:
+                start, end = parts.pop()
+                # an empty line before, so that a byte order mark is skipped only at the start of the list
+                before = b"\n" if number + start else b""
+                data = before + b"\n".join(lines[start:end])
+                status, place, _ = library.writer(LIST_READERS[legacy], len(data) + EMPTY)(data)
+                if status == library.OUT_OF_MEMORY:
+                    raise MemoryError("libipnet: out of memory")
+                if status == library.BAD_LINE:
+                    place += start - len(before)
+                    yield bad_entry(number + place, lines[place - 1], legacy)
+                    middle = (place + end) // 2
+                    parts += [(middle, end), (place, middle)]
+            number += len(lines)
 
     @classmethod
     def _of(cls, image: bytes) -> "IpSet":
@@ -134,7 +170,8 @@ class IpSet:
         answer = contains(self._image, network)
         if answer is not None:
             return answer
-        if isinstance(network, (IPv4Address, IPv6Address)) and getattr(network, "scope_id", None) is None:
+        # an interface is an address for `isinstance`, and a network here
+        if type(network) in (IPv4Address, IPv6Address) and getattr(network, "scope_id", None) is None:
             octets = network.packed
             return _contains(self._image, len(self._image), octets, len(octets)) == 1
         wanted = bytes_of(network)
@@ -295,6 +332,30 @@ class IpSet:
     def __hash__(self) -> int:
         return hash(self._image)
 
+    def isdisjoint(self, other: "IpSet") -> bool:
+        """Whether the two sets have no address in common.
+
+        >>> IpSet("10.0.0.0/9").isdisjoint(IpSet("10.128.0.0/9")), IpSet("10.0.0.0/9").isdisjoint(IpSet("10.0.0.7"))
+        (True, False)
+        """
+        if not isinstance(other, IpSet):
+            raise TypeError(f"isdisjoint needs an IpSet, and not {other!r}")
+        return not self & other
+
+    @property
+    def ipv4(self) -> "IpSet":
+        """The IPv4 addresses of the set.
+
+        >>> IpSet(["10.0.0.0/24", "fd00::/32"]).ipv4, IpSet(["10.0.0.0/24", "fd00::/32"]).ipv6
+        (IpSet(['10.0.0.0/24']), IpSet(['fd00::/32']))
+        """
+        return self & ALL_IPV4
+
+    @property
+    def ipv6(self) -> "IpSet":
+        """The IPv6 addresses of the set."""
+        return self & ALL_IPV6
+
     def __bool__(self) -> bool:
         """Whether the set has an address."""
         return len(self._image) > EMPTY
@@ -305,18 +366,24 @@ class IpSet:
         >>> IpSet(["10.0.0.0/31", "10.0.0.2"]).ranges()
         [(IPv4Address('10.0.0.0'), IPv4Address('10.0.0.2'))]
         """
+        return list(self.iter_ranges())
+
+    def iter_ranges(self) -> Iterator[Tuple[Address, Address]]:
+        """The ranges of ranges(), each made when it is asked for.
+
+        >>> next(IpSet("::/0").iter_ranges())
+        (IPv6Address('::'), IPv6Address('ffff:ffff:ffff:ffff:ffff:ffff:ffff:ffff'))
+        """
         # for an image of n bytes, n / 4 rows are always enough
         room, count = len(self._image) // 4, ctypes.c_size_t(0)
         families, octets = map(ctypes.create_string_buffer, (room, WIDTH * room))
         checked(_range_rows(self._image, len(self._image), families, room, octets, WIDTH * room, ctypes.byref(count)))
-        rows = ctypes.string_at(octets, 2 * WIDTH * count.value)
-        ipv4 = WIDTH * families.raw.count(4, 0, 2 * count.value)
-        ranges: List[Tuple[Address, Address]] = [
-            (IPv4Address(first), IPv4Address(last)) for first, last in struct.iter_unpack(">I12xI12x", rows[:ipv4])]
-        ranges.extend(
-            (IPv6Address(high << 64 | low), IPv6Address(last_high << 64 | last_low))
-            for high, low, last_high, last_low in struct.iter_unpack(">QQQQ", rows[ipv4:]))
-        return ranges
+        ipv4, end = WIDTH * families.raw.count(4, 0, 2 * count.value), 2 * WIDTH * count.value
+        rows = memoryview(octets)
+        for low, high in struct.iter_unpack(">I12xI12x", rows[:ipv4]):
+            yield IPv4Address(low), IPv4Address(high)
+        for first, low, last, high in struct.iter_unpack(">QQQQ", rows[ipv4:end]):
+            yield IPv6Address(first << 64 | low), IPv6Address(last << 64 | high)
 
     @property
     def ipv4_count(self) -> int:
@@ -346,15 +413,21 @@ class IpSet:
         >>> IpSet(["10.0.0.0/31", "10.0.0.2"]).to_text()
         '10.0.0.0/31\\n10.0.0.2/32\\n'
         """
+        return self._text().decode("ascii")
+
+    def _text(self) -> bytes:
         status, _, text = library.writer("ipnet_set_to_text", 4 * len(self._image))(self._image)
         if status == library.OUT_OF_MEMORY:
             raise MemoryError("libipnet: out of memory")
-        return text.decode("ascii")
+        return text
 
     def __iter__(self) -> Iterator[Network]:
-        """The fewest networks of the set."""
-        return (ip_network(line) for line in self.to_text().splitlines())
+        """The fewest networks of the set, each made when it is asked for."""
+        return networks_of(self._text())
 
     def __repr__(self) -> str:
         lines = self.to_text().splitlines()
         return f"IpSet([{', '.join(map(repr, lines[:5]))}{', ...' if len(lines) > 5 else ''}])"
+
+
+ALL_IPV4, ALL_IPV6 = IpSet("0.0.0.0/0"), IpSet("::/0")

@@ -4,18 +4,24 @@ import ctypes
 import struct
 import sys
 from ipaddress import IPv4Network, IPv6Network
-from typing import Any, Iterable, Iterator, List, Mapping, Optional, Tuple, Union
+from itertools import compress, islice
+from typing import Any, Iterable, Iterator, List, Mapping, Optional, Set, Tuple, TypeVar, Union
 
 from . import _library as library
 from ._bulk import RAISE, Options, matched
 from ._columns import ArrowText
-from ._networks import Network, OneNetwork, bytes_of, interface_of, refuse, text_of, with_lengths
-from ._rows import LARGEST, WIDTH, checked
+from ._networks import (Network, Networks, OneNetwork, bytes_of, line_of_octets, network_of, refuse, text_of,
+                        with_lengths)
+from ._rows import LARGEST, PIECE, WIDTH, checked
 
 try:
-    from ._quick import longest_match
+    from ._quick import longest_covering, longest_match
 except ImportError:
     def longest_match(image: bytes, address: object) -> Any:
+        """No answer: ctypes asks the library."""
+        return NotImplemented
+
+    def longest_covering(image: bytes, network: object) -> Any:
         """No answer: ctypes asks the library."""
         return NotImplemented
 
@@ -33,7 +39,9 @@ _longest_match = library.question("ipnet_table_longest_match")
 _longest_covering = library.question("ipnet_table_longest_covering")
 _longest_match_all = library.question("ipnet_table_longest_match_all")
 
-Routes = Union[Mapping[OneNetwork, int], Iterable[Tuple[OneNetwork, int]]]
+# a dictionary with one of these kinds of keys is a dictionary of networks: mypy compares the kinds of keys exactly
+Key = TypeVar("Key", bound=OneNetwork)
+Routes = Union[Mapping[Key, int], Iterable[Tuple[Key, int]]]
 
 
 class NotATable(ValueError):
@@ -65,16 +73,16 @@ class RouteTable:
     _absent: int
     _numbered: bytes
 
-    def __init__(self, routes: Routes = ()) -> None:
+    def __init__(self, routes: Routes[Key] = ()) -> None:
         pairs = list(routes.items() if isinstance(routes, Mapping) else routes)
-        text = text_of([network for network, _ in pairs])
-        values = array.array("I", [value for _, value in pairs])
-        status, number, image = _written(text, values)
-        if status == library.BAD_LINE:
-            status, number, image = _written(with_lengths(text), values)
-        if status != library.OK:
-            refuse(status, number, [text], False)
-        self._image = image
+        self._image = image_of(text_of([network for network, _ in pairs]), [value for _, value in pairs])
+
+    @classmethod
+    def _of(cls, image: bytes) -> "RouteTable":
+        """The table of an image that the library has written."""
+        made = object.__new__(cls)
+        made._image = image
+        return made
 
     @classmethod
     def from_bytes(cls, image: Union[bytes, bytearray, memoryview]) -> "RouteTable":
@@ -87,9 +95,7 @@ class RouteTable:
         data = bytes(image)
         if _check(data, len(data)) != library.OK:
             raise NotATable()
-        made = object.__new__(cls)
-        made._image = data
-        return made
+        return cls._of(data)
 
     def to_bytes(self) -> bytes:
         """The image of the table. Equal tables have equal images.
@@ -98,6 +104,23 @@ class RouteTable:
         48
         """
         return self._image
+
+    def __eq__(self, other: object) -> bool:
+        """Whether the tables have the same networks with the same numbers.
+
+        >>> RouteTable({"10.0.0.0/8": 7}) == RouteTable([("10.0.0.0/8", 1), ("10.9.9.9/8", 7)])
+        True
+        """
+        if not isinstance(other, RouteTable):
+            return NotImplemented
+        return self._image == other._image
+
+    def __hash__(self) -> int:
+        return hash(self._image)
+
+    def __repr__(self) -> str:
+        routes = [f"'{network}': {number}" for network, number in islice(self.iter_routes(), 5)]
+        return f"RouteTable({{{', '.join(routes)}{', ...' if len(self) > 5 else ''}}})"
 
     def __reduce__(self) -> Tuple[object, ...]:
         return RouteTable.from_bytes, (self._image,)
@@ -138,10 +161,50 @@ class RouteTable:
         >>> table.route("10.1.2.3"), table.route("10.0.0.0/15"), table.route("10.0.0.0/7")
         ((IPv4Network('10.1.0.0/16'), 2), (IPv4Network('10.0.0.0/8'), 1), None)
         """
-        data, covering, value = bytes_of(network), ctypes.create_string_buffer(LONGEST), ctypes.c_uint32(0)
+        answer = longest_covering(self._image, network)
+        if answer is NotImplemented:
+            answer = self._covering(bytes_of(network))
+        return None if answer is None else (network_of(answer[0]), answer[1])
+
+    def _covering(self, data: bytes) -> Optional[Tuple[bytes, int]]:
+        """The byte form of the longest network that contains the network with this byte form, and its number."""
+        covering, value = ctypes.create_string_buffer(LONGEST), ctypes.c_uint32(0)
         status = _longest_covering(self._image, len(self._image), data, len(data), covering, LONGEST,
                                    ctypes.byref(value))
-        return (interface_of(covering.raw[:len(data)]).network, value.value) if status == 1 else None
+        return (covering.raw[:len(data)], value.value) if status == 1 else None
+
+    def _exact(self, network: OneNetwork) -> Optional[Tuple[bytes, int]]:
+        """The byte form of this network, without host bits, and its number; None if the table does not have it."""
+        data = bytes_of(network)
+        found = self._covering(data)
+        return found if found is not None and found[0][-1] == data[-1] else None
+
+    def exact(self, network: OneNetwork, default: Optional[int] = None) -> Optional[int]:
+        """The number of this network itself, or `default` if the table does not have it. Host bits do not count. Raises
+        NotANetwork if a text is not a network.
+
+        >>> table = RouteTable({"10.0.0.0/8": 1})
+        >>> table.exact("10.0.0.0/8"), table.exact("10.0.0.0/9")
+        (1, None)
+        """
+        found = self._exact(network)
+        return default if found is None else found[1]
+
+    def matches(self, network: OneNetwork) -> List[Tuple[Network, int]]:
+        """All routes whose networks contain the whole network or the address, the longest first. Raises NotANetwork if
+        a text is neither.
+
+        >>> RouteTable({"0.0.0.0/0": 0, "10.0.0.0/8": 1, "10.1.0.0/16": 2}).matches("10.2.0.1")
+        [(IPv4Network('10.0.0.0/8'), 1), (IPv4Network('0.0.0.0/0'), 0)]
+        """
+        routes: List[Tuple[Network, int]] = []
+        found = self._covering(bytes_of(network))
+        while found is not None:
+            data, value = found
+            routes.append((network_of(data), value))
+            # another network contains this one if and only if it contains the network that is one bit shorter
+            found = self._covering(data[:-1] + bytes([data[-1] - 1])) if data[-1] else None
+        return routes
 
     def __contains__(self, address: OneNetwork) -> bool:
         """Whether a network of the table contains the address."""
@@ -184,14 +247,56 @@ class RouteTable:
 
     def routes(self) -> List[Tuple[Network, int]]:
         """The networks, each with its number, IPv4 first, ascending, a network before those that it contains."""
-        return list(routes_of(self._image, len(self)))
+        return list(self.iter_routes())
+
+    def iter_routes(self) -> Iterator[Tuple[Network, int]]:
+        """The routes of routes(), each made when it is asked for.
+
+        >>> next(RouteTable({"10.0.0.0/8": 7, "fd00::/8": 8}).iter_routes())
+        (IPv4Network('10.0.0.0/8'), 7)
+        """
+        for start, count in self._parts():
+            yield from routes_of(self._image, start, count)
+
+    def _parts(self) -> Iterator[Tuple[int, int]]:
+        """The first route of each part of the routes, and the number of its routes."""
+        count = len(self)
+        for start in range(0, count, PIECE):
+            yield start, min(PIECE, count - start)
+
+    def updated(self, insert: Routes[Key] = (), remove: Networks = ()) -> "RouteTable":
+        """A table without the networks of the list `remove`, and then with the routes of `insert`, which replace routes
+        of the same networks. This table stays as it is. Raises KeyError if a network of `remove` is not in the table,
+        and else what RouteTable raises.
+
+        >>> table = RouteTable({"10.0.0.0/8": 1, "10.1.0.0/16": 2})
+        >>> table.updated({"10.0.0.0/8": 7, "fd00::/8": 8}, remove=["10.1.0.0/16"])
+        RouteTable({'10.0.0.0/8': 7, 'fd00::/8': 8})
+        """
+        added = RouteTable(insert)
+        gone: Set[bytes] = set()
+        for line in filter(None, text_of(remove).split(b"\n")):
+            found = self._exact(line)
+            if found is None:
+                raise KeyError(line.decode())
+            gone.add(line_of_octets(found[0][1:-1], found[0][-1]))
+        lines: List[bytes] = []
+        values = array.array("I")
+        for table in (self, added):
+            for start, count in table._parts():
+                lines.extend(lines_of(table._image, start, count))
+                values.extend(values_of(table._image, start, count))
+        if gone:
+            is_kept = [line not in gone for line in lines[:len(self)]] + [True] * len(added)
+            lines, values = list(compress(lines, is_kept)), array.array("I", compress(values, is_kept))
+        return RouteTable._of(image_of(b"\n".join(lines), values))
 
     def _unused(self) -> int:
         """A number that no route has: the first whose four bytes are nowhere in the values."""
         try:
             return self._absent
         except AttributeError:
-            values = values_of(self._image, len(self)).tobytes()
+            values = values_of(self._image, 0, len(self)).tobytes()
             self._absent = next(number for number in range(LARGEST, -1, -1)
                                 if number.to_bytes(4, sys.byteorder) not in values)
             return self._absent
@@ -214,24 +319,38 @@ class RouteTable:
         return values
 
 
-def values_of(image: bytes, count: int) -> "array.array[int]":
-    """The values of the routes of an image, which has `count`, in their order."""
+def values_of(image: bytes, start: int, count: int) -> "array.array[int]":
+    """The values of `count` routes of an image from the index `start` on, in their order."""
     values = array.array("I", bytes(4 * count))
     place, many = values.buffer_info()
-    checked(_values(image, len(image), 0, place, many))
+    checked(_values(image, len(image), start, place, many))
     return values
 
 
-def routes_of(image: bytes, count: int) -> Iterator[Tuple[Network, int]]:
-    """The routes of an image, which has `count`. IPv4 routes are first."""
+def rows_of(image: bytes, start: int, count: int) -> Tuple[int, bytes, bytes]:
+    """The networks of `count` routes of an image from the index `start` on: the number of IPv4 networks, which are
+    first; 16 octets for each; and the prefix lengths."""
     families, octets, lengths = map(ctypes.create_string_buffer, (count, WIDTH * count, count))
-    checked(_networks(image, len(image), 0, families, count, octets, WIDTH * count, lengths, count))
-    values, ipv4 = values_of(image, count), families.raw.count(4)
-    rows, sizes = octets.raw, lengths.raw
-    for (number,), length, value in zip(struct.iter_unpack(">I12x", rows[:WIDTH * ipv4]), sizes, values):
+    checked(_networks(image, len(image), start, families, count, octets, WIDTH * count, lengths, count))
+    return families.raw.count(4), octets.raw, lengths.raw
+
+
+def routes_of(image: bytes, start: int, count: int) -> Iterator[Tuple[Network, int]]:
+    """The routes of an image from the index `start` on, `count` of them."""
+    ipv4, rows, lengths = rows_of(image, start, count)
+    values = values_of(image, start, count)
+    for (number,), length, value in zip(struct.iter_unpack(">I12x", rows[:WIDTH * ipv4]), lengths, values):
         yield IPv4Network((number, length)), value
-    for (high, low), length, value in zip(struct.iter_unpack(">QQ", rows[WIDTH * ipv4:]), sizes[ipv4:], values[ipv4:]):
+    for (high, low), length, value in zip(struct.iter_unpack(">QQ", rows[WIDTH * ipv4:]), lengths[ipv4:],
+                                          values[ipv4:]):
         yield IPv6Network((high << 64 | low, length)), value
+
+
+def lines_of(image: bytes, start: int, count: int) -> Iterator[bytes]:
+    """The networks of `count` routes of an image from the index `start` on, as texts."""
+    ipv4, rows, lengths = rows_of(image, start, count)
+    for place, length in enumerate(lengths):
+        yield line_of_octets(rows[WIDTH * place:WIDTH * place + (4 if place < ipv4 else WIDTH)], length)
 
 
 def with_values(image: bytes, values: Iterable[int]) -> bytes:
@@ -241,6 +360,17 @@ def with_values(image: bytes, values: Iterable[int]) -> bytes:
     buffer, count = ctypes.create_string_buffer(len(image)), ctypes.c_size_t(0)
     checked(_with_values(image, len(image), place, many, buffer, len(image), ctypes.byref(count)))
     return buffer.raw
+
+
+def image_of(text: bytes, numbers: Iterable[int]) -> bytes:
+    """The image of the table of the networks of a text, one per line, with these numbers."""
+    values = array.array("I", numbers)
+    status, number, image = _written(text, values)
+    if status == library.BAD_LINE:
+        status, number, image = _written(with_lengths(text), values)
+    if status != library.OK:
+        refuse(status, number, [text], False)
+    return image
 
 
 def _written(text: bytes, values: "array.array[int]") -> Tuple[int, int, bytes]:

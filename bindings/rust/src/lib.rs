@@ -3,17 +3,20 @@
 //! This crate calls the static library `libipnet.a`, which is written in Rattle (Rust with contracts). Each function of
 //! the library is proved to satisfy its contract. `docs/PROVED.md` in the repository says what is proved and what
 //! is trusted; this crate is trusted. It passes texts and buffers to the library, and returns its results and errors.
-//! Nothing here panics. The library frees all its memory before a call returns.
+//! Nothing here panics. The library frees all its memory before a call returns. Slices of [`Network`] and of routes are
+//! written as text first.
 //!
 //! ```
 //! use ipnet_proved::{aggregate_text, is_covered_text, Error};
 //! use std::net::Ipv4Addr;
 //!
-//! let list = aggregate_text("10.0.1.0/24\n10.0.0.0/24\n")?;
-//! assert_eq!(list, "10.0.0.0/23\n");
-//! assert!(is_covered_text(&list, Ipv4Addr::new(10, 0, 1, 7))?);
-//! assert_eq!(aggregate_text("10.0.0.0/24\n\nx\n"), Err(Error::BadLine(3)));
-//! # Ok::<(), Error>(())
+//! fn main() -> Result<(), Error> {
+//!     let list = aggregate_text("10.0.1.0/24\n10.0.0.0/24\n")?;
+//!     assert_eq!(list, "10.0.0.0/23\n");
+//!     assert!(is_covered_text(&list, Ipv4Addr::new(10, 0, 1, 7))?);
+//!     assert_eq!(aggregate_text("10.0.0.0/24\n\nx\n"), Err(Error::BadLine(3)));
+//!     Ok(())
+//! }
 //! ```
 
 #![deny(missing_docs)]
@@ -34,10 +37,20 @@ use std::net::{IpAddr, Ipv4Addr, Ipv6Addr};
 use std::str::FromStr;
 
 /// The reasons why a call fails.
+///
+/// `BadLine` has the number of one line. To find all bad lines of a text, read each line by itself:
+///
+/// ```
+/// use ipnet_proved::IpSet;
+///
+/// let text = "10.0.0.0/8\nx\n# ours\n10.0.0.0/33\n";
+/// let bad = (1..).zip(text.lines()).filter(|(_, line)| IpSet::from_list(line).is_err());
+/// assert_eq!(bad.collect::<Vec<(usize, &str)>>(), [(2, "x"), (4, "10.0.0.0/33")]);
+/// ```
 #[derive(Clone, Copy, Debug, PartialEq, Eq, Hash)]
 #[non_exhaustive]
 pub enum Error {
-    /// The number of the first line that is neither empty nor a network. Lines count from 1, including empty ones.
+    /// The number of the first line that the call refuses. Lines count from 1, including empty ones.
     BadLine(usize),
     /// The number of the first bad line of the second text. The first text has no bad line.
     BadLineInOther(usize),

@@ -1,7 +1,7 @@
 //! The rows of `bindings/rows.txt`.
 use ipnet_proved::{
     aggregate_text, aggregate_text_legacy, difference_text, intersection_text, is_covered_text,
-    same_addresses_text, union_text, Error, Network,
+    same_addresses_text, union_text, Error, IpSet, Network, RouteTable, Rows,
 };
 use std::net::{Ipv4Addr, Ipv6Addr};
 use std::fs;
@@ -161,6 +161,14 @@ fn threads() {
             scope.spawn(|| assert_eq!(aggregate_text(&list).as_ref(), Ok(&alone)));
         }
     });
+}
+
+/// Compiles only if other threads may own and share values of the type.
+fn is_for_threads<T: Send + Sync>() {}
+
+#[test]
+fn types_for_threads() {
+    is_for_threads::<(Network, IpSet, RouteTable, Rows, Error)>();
 }
 
 #[test]

@@ -123,6 +123,37 @@ pub extern "C" fn ipnet_table_check(table: &[u8]) -> u32
     }
 }
 
+/// Does what `ipnet_table_longest_match` does.
+//
+// A search waits for memory, and the processor begins the next one before this one ends, if its code is short. So there
+// is a copy of the search for four octets: the compiler leaves out of it what only sixteen octets need.
+#[inline(always)]
+fn find_match(table: &[u8], address: &[u8], value: &mut u32) -> u32
+    ensures { IsMatchReply table.now address.now value.old value.new result }
+{
+    let Some(address) = read_address(address) else {
+        return WRONG_LENGTH;
+    };
+    let Ok(image) = RouteTableImage::from_header(table) else {
+        return NOT_A_TABLE;
+    };
+    match image.longest_match(&address) {
+        Some(route) => {
+            *value = route.1;
+            1
+        }
+        None => 0,
+    }
+}
+
+/// Does what `find_match` does, and is not copied into its caller.
+#[inline(never)]
+fn find_other_match(table: &[u8], address: &[u8], value: &mut u32) -> u32
+    ensures { IsMatchReply table.now address.now value.old value.new result }
+{
+    find_match(table, address, value)
+}
+
 /// Writes the value of the longest network of the table, given by its image, that holds the address into `value`.
 ///
 /// The address is given by its octets, the most significant first: 4 for IPv4, 16 for IPv6. Only the header of the
@@ -140,19 +171,10 @@ pub extern "C" fn ipnet_table_check(table: &[u8]) -> u32
 pub extern "C" fn ipnet_table_longest_match(table: &[u8], address: &[u8], value: &mut u32) -> u32
     ensures { IsMatchReply table.now address.now value.old value.new result }
 {
-    let Some(address) = read_address(address) else {
-        return WRONG_LENGTH;
-    };
-    let Ok(image) = RouteTableImage::from_header(table) else {
-        return NOT_A_TABLE;
-    };
-    match image.longest_match(&address) {
-        Some(route) => {
-            *value = route.1;
-            1
-        }
-        None => 0,
+    if address.len() == 4 {
+        return find_match(table, address, value);
     }
+    find_other_match(table, address, value)
 }
 
 /// Returns the value of the longest match for the address of these octets, or `missing` if there is none.

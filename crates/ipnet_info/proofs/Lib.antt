@@ -1,4 +1,7 @@
 -- The lemmas of this crate.
+mod AllFactsLaws
 mod HostFacts
 mod DigitFacts
+mod FactTexts
+mod RegistryLaws
 mod ZoneFacts

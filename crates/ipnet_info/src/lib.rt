@@ -1,12 +1,19 @@
 //! Facts about one network: its hosts, its numbers and its reverse zones.
 #![tactic(auto)]
 
+pub mod all_facts;
 pub mod counts;
+pub mod facts;
 pub mod hosts;
 pub mod numbers;
+pub mod purposes;
+mod registry;
 pub mod zones;
 
+pub use all_facts::all_facts_text;
 pub use counts::{address_count, host_count};
+pub use facts::{FactsForm, facts_text};
 pub use hosts::{first_host, last_host};
 pub use numbers::{decimal_text, hexadecimal_text, written_out};
+pub use purposes::{SpecialPurpose, special_purposes};
 pub use zones::{reverse_zones, zone_name};

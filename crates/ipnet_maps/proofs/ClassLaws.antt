@@ -11,14 +11,15 @@ use Rattle.ipnet_base.proofs.ListLaws.{all_at, contains_nil, contains_here, cont
 use Rattle.ipnet_base.proofs.ListLaws.{pairs_head, pairs_tail, pairs_cons}
 use Rattle.ipnet_sets.specs.Members.{IsCountOf}
 use Rattle.ipnet_sets.proofs.CountSums.{one_count}
-use Rattle.ipnet_bars.specs.declared.share.Level.{Level}
-use Rattle.ipnet_bars.specs.declared.share.Level.TheVariants as level
+use Rattle.ipnet_maps.specs.declared.level.Level.{Level}
+use Rattle.ipnet_maps.specs.declared.level.Level.TheVariants as level
 use Rattle.ipnet_sets.specs.Parts.{IsInPart}
-use Rattle.ipnet_bars.specs.Parts.{HasSome, HasNone, IsLevelOf, block_size}
-use Rattle.ipnet_bars.specs.Shares.{IsShare}
-use Rattle.ipnet_bars.proofs.PartLaws.{same_count, block_counted, part_fits, nothing_counted, nothing_shown}
+use Rattle.ipnet_bars.specs.Parts.{HasSome, HasNone, block_size}
+use Rattle.ipnet_maps.specs.Levels.{IsShare, IsLevelOf}
+use Rattle.ipnet_bars.proofs.PartLaws.{same_count, block_counted, part_fits, nothing_counted}
+use Rattle.ipnet_maps.proofs.ShareLaws.{nothing_shown}
 use Rattle.ipnet_maps.specs.declared.drawing.Class.{Class}
-use Rattle.ipnet_maps.specs.declared.drawing.Class.TheVariants.{BelowThird, FromThird, FromTwoThirds, Whole, Removed}
+use Rattle.ipnet_maps.specs.declared.drawing.Class.TheVariants.{Sparse, BelowQuarter, FromQuarter, Whole, Removed}
 use Rattle.ipnet_maps.specs.Classes.{HasLevelClass, level_classes}
 use Rattle.ipnet_maps.proofs.LevelLaws.{some_counted, one_level, some_level}
 use Rattle.ipnet_maps.proofs.DrawingLaws.{IsSameCell, AreClasses}
@@ -94,11 +95,11 @@ share_of count size le = elim (cases_eq count 0) [
   | inl none ↦ (level.Nothing, none)
   | inr some ↦ elim (cases_lt count size) [
     | inr all ↦ (level.Whole, omega (arith, le, all))
-    | inl part ↦ elim (cases_lt (count * 3) size) [
-      | inl one ↦ (level.BelowThird, (omega (arith, some), one))
-      | inr more ↦ elim (cases_lt (count * 3) (size * 2)) [
-        | inl two ↦ (level.FromThird, (more, two))
-        | inr most ↦ (level.FromTwoThirds, (most, part))
+    | inl part ↦ elim (cases_lt (count * 256) size) [
+      | inl one ↦ (level.Sparse, (omega (arith, some), one))
+      | inr more ↦ elim (cases_lt (count * 4) size) [
+        | inl two ↦ (level.BelowQuarter, (more, two))
+        | inr most ↦ (level.FromQuarter, (most, part))
       ]
     ]
   ]
@@ -129,41 +130,41 @@ level_of_same InSet n k l same h = record {
 -- the class of the cells of a level; the class of `Nothing` is not used
 abbrev class_at : Level → Class
 class_at level.Nothing = Removed
-class_at level.BelowThird = BelowThird
-class_at level.FromThird = FromThird
-class_at level.FromTwoThirds = FromTwoThirds
+class_at level.Sparse = Sparse
+class_at level.BelowQuarter = BelowQuarter
+class_at level.FromQuarter = FromQuarter
 class_at level.Whole = Whole
 
 level_class : (InSet : Address → Type 0) (q : Class) (n : Network) → HasLevelClass InSet q n
     → (l : Level) × (l ≢ level.Nothing) × (class_at l ≡ q) × IsLevelOf InSet n l
-level_class InSet BelowThird n h = (level.BelowThird, (λ e. cc), refl, h)
-level_class InSet FromThird n h = (level.FromThird, (λ e. cc), refl, h)
-level_class InSet FromTwoThirds n h = (level.FromTwoThirds, (λ e. cc), refl, h)
+level_class InSet Sparse n h = (level.Sparse, (λ e. cc), refl, h)
+level_class InSet BelowQuarter n h = (level.BelowQuarter, (λ e. cc), refl, h)
+level_class InSet FromQuarter n h = (level.FromQuarter, (λ e. cc), refl, h)
 level_class InSet Whole n h = (level.Whole, (λ e. cc), refl, h)
 level_class InSet q n h = absurd h
 
 class_of_level : (InSet : Address → Type 0) (n : Network) (l : Level) → l ≢ level.Nothing → IsLevelOf InSet n l
     → HasLevelClass InSet (class_at l) n
 class_of_level InSet n level.Nothing some h = absurd (some refl)
-class_of_level InSet n level.BelowThird some h = h
-class_of_level InSet n level.FromThird some h = h
-class_of_level InSet n level.FromTwoThirds some h = h
+class_of_level InSet n level.Sparse some h = h
+class_of_level InSet n level.BelowQuarter some h = h
+class_of_level InSet n level.FromQuarter some h = h
 class_of_level InSet n level.Whole some h = h
 
 class_listed : (l : Level) → l ≢ level.Nothing → Contains level_classes (class_at l)
 class_listed level.Nothing some = absurd (some refl)
-class_listed level.BelowThird some = contains_here BelowThird (FromThird ∷ FromTwoThirds ∷ Whole ∷ [])
-class_listed level.FromThird some =
-    contains_there BelowThird (FromThird ∷ FromTwoThirds ∷ Whole ∷ []) FromThird
-    (contains_here FromThird (FromTwoThirds ∷ Whole ∷ []))
-class_listed level.FromTwoThirds some =
-    contains_there BelowThird (FromThird ∷ FromTwoThirds ∷ Whole ∷ []) FromTwoThirds
-    (contains_there FromThird (FromTwoThirds ∷ Whole ∷ []) FromTwoThirds
-    (contains_here FromTwoThirds (Whole ∷ [])))
+class_listed level.Sparse some = contains_here Sparse (BelowQuarter ∷ FromQuarter ∷ Whole ∷ [])
+class_listed level.BelowQuarter some =
+    contains_there Sparse (BelowQuarter ∷ FromQuarter ∷ Whole ∷ []) BelowQuarter
+    (contains_here BelowQuarter (FromQuarter ∷ Whole ∷ []))
+class_listed level.FromQuarter some =
+    contains_there Sparse (BelowQuarter ∷ FromQuarter ∷ Whole ∷ []) FromQuarter
+    (contains_there BelowQuarter (FromQuarter ∷ Whole ∷ []) FromQuarter
+    (contains_here FromQuarter (Whole ∷ [])))
 class_listed level.Whole some =
-    contains_there BelowThird (FromThird ∷ FromTwoThirds ∷ Whole ∷ []) Whole
-    (contains_there FromThird (FromTwoThirds ∷ Whole ∷ []) Whole
-    (contains_there FromTwoThirds (Whole ∷ []) Whole (contains_here Whole [])))
+    contains_there Sparse (BelowQuarter ∷ FromQuarter ∷ Whole ∷ []) Whole
+    (contains_there BelowQuarter (FromQuarter ∷ Whole ∷ []) Whole
+    (contains_there FromQuarter (Whole ∷ []) Whole (contains_here Whole [])))
 
 -- one more class, which is none of the others
 pub distinct_more : (q : Class) (classes : List Class) → All (λ r. q ≢ r) classes → AllPairs (λ a b. a ≢ b) classes
@@ -176,15 +177,15 @@ distinct_none = λ i j d l m. absurd (omega (arith, m))
 
 levels_distinct : AllPairs (λ q r. q ≢ r) level_classes
 levels_distinct =
-    distinct_more BelowThird (FromThird ∷ FromTwoThirds ∷ Whole ∷ [])
-    (All-cons (λ r. BelowThird ≢ r) FromThird (FromTwoThirds ∷ Whole ∷ []) (λ e. cc)
-    (All-cons (λ r. BelowThird ≢ r) FromTwoThirds (Whole ∷ []) (λ e. cc)
-    (All-cons (λ r. BelowThird ≢ r) Whole [] (λ e. cc) (All-nil (λ r. BelowThird ≢ r)))))
-    (distinct_more FromThird (FromTwoThirds ∷ Whole ∷ [])
-    (All-cons (λ r. FromThird ≢ r) FromTwoThirds (Whole ∷ []) (λ e. cc)
-    (All-cons (λ r. FromThird ≢ r) Whole [] (λ e. cc) (All-nil (λ r. FromThird ≢ r))))
-    (distinct_more FromTwoThirds (Whole ∷ [])
-    (All-cons (λ r. FromTwoThirds ≢ r) Whole [] (λ e. cc) (All-nil (λ r. FromTwoThirds ≢ r)))
+    distinct_more Sparse (BelowQuarter ∷ FromQuarter ∷ Whole ∷ [])
+    (All-cons (λ r. Sparse ≢ r) BelowQuarter (FromQuarter ∷ Whole ∷ []) (λ e. cc)
+    (All-cons (λ r. Sparse ≢ r) FromQuarter (Whole ∷ []) (λ e. cc)
+    (All-cons (λ r. Sparse ≢ r) Whole [] (λ e. cc) (All-nil (λ r. Sparse ≢ r)))))
+    (distinct_more BelowQuarter (FromQuarter ∷ Whole ∷ [])
+    (All-cons (λ r. BelowQuarter ≢ r) FromQuarter (Whole ∷ []) (λ e. cc)
+    (All-cons (λ r. BelowQuarter ≢ r) Whole [] (λ e. cc) (All-nil (λ r. BelowQuarter ≢ r))))
+    (distinct_more FromQuarter (Whole ∷ [])
+    (All-cons (λ r. FromQuarter ≢ r) Whole [] (λ e. cc) (All-nil (λ r. FromQuarter ≢ r)))
     (distinct_more Whole [] (All-nil (λ r. Whole ≢ r)) distinct_none)))
 
 pub classes_of_levels : (InSet : Address → Type 0) → IsDecided InSet
@@ -221,11 +222,11 @@ most_decided m n = elim (cases_lt n m) [ inl gt ↦ inr (λ le. omega (arith, gt
 
 share_decided : (l : Level) (count size : ℕ) → IsShare l count size ⊎ (IsShare l count size → ⊥)
 share_decided level.Nothing count size = cases_eq count 0
-share_decided level.BelowThird count size = both_decided (less_decided 0 count) (less_decided (count * 3) size)
-share_decided level.FromThird count size =
-    both_decided (most_decided size (count * 3)) (less_decided (count * 3) (size * 2))
-share_decided level.FromTwoThirds count size =
-    both_decided (most_decided (size * 2) (count * 3)) (less_decided count size)
+share_decided level.Sparse count size = both_decided (less_decided 0 count) (less_decided (count * 256) size)
+share_decided level.BelowQuarter count size =
+    both_decided (most_decided size (count * 256)) (less_decided (count * 4) size)
+share_decided level.FromQuarter count size =
+    both_decided (most_decided size (count * 4)) (less_decided count size)
 share_decided level.Whole count size = cases_eq count size
 
 level_decided : (InSet : Address → Type 0) → IsDecided InSet → (n : Network) (l : Level)
@@ -240,9 +241,9 @@ level_decided InSet decided n l =
 
 pub level_class_decided : (InSet : Address → Type 0) → IsDecided InSet → (q : Class) (n : Network)
     → HasLevelClass InSet q n ⊎ (HasLevelClass InSet q n → ⊥)
-level_class_decided InSet decided BelowThird n = level_decided InSet decided n level.BelowThird
-level_class_decided InSet decided FromThird n = level_decided InSet decided n level.FromThird
-level_class_decided InSet decided FromTwoThirds n = level_decided InSet decided n level.FromTwoThirds
+level_class_decided InSet decided Sparse n = level_decided InSet decided n level.Sparse
+level_class_decided InSet decided BelowQuarter n = level_decided InSet decided n level.BelowQuarter
+level_class_decided InSet decided FromQuarter n = level_decided InSet decided n level.FromQuarter
 level_class_decided InSet decided Whole n = level_decided InSet decided n level.Whole
 level_class_decided InSet decided q n = inr (λ h. h)
 

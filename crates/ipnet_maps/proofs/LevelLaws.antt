@@ -12,11 +12,11 @@ use Rattle.ipnet.specs.NetworkOf.{ip_network}
 use Rattle.ipnet_sets.specs.Members.{IsCountOf}
 use Rattle.ipnet_sets.specs.Pushed.{IsPushed}
 use Rattle.ipnet_sets.proofs.CountSums.{one_count}
-use Rattle.ipnet_bars.specs.declared.share.Level.{Level}
-use Rattle.ipnet_bars.specs.declared.share.Level.TheVariants.{Nothing, BelowThird, FromThird, FromTwoThirds, Whole}
+use Rattle.ipnet_maps.specs.declared.level.Level.{Level}
+use Rattle.ipnet_maps.specs.declared.level.Level.TheVariants.{Nothing, Sparse, BelowQuarter, FromQuarter, Whole}
 use Rattle.ipnet_sets.specs.Parts.{IsInPart}
-use Rattle.ipnet_bars.specs.Parts.{HasSome, IsLevelOf, block_size}
-use Rattle.ipnet_bars.specs.Shares.{IsShare}
+use Rattle.ipnet_bars.specs.Parts.{HasSome, block_size}
+use Rattle.ipnet_maps.specs.Levels.{IsShare, IsLevelOf}
 use Rattle.ipnet_bars.proofs.PartLaws.{same_count, block_counted, most_addresses}
 use Rattle.ipnet_maps.specs.declared.levels.KnownCells.{KnownCells}
 use Rattle.ipnet_maps.specs.declared.levels.OpenCell.{OpenCell}
@@ -57,29 +57,29 @@ some_counted A count some h = of_list h.addresses h.count (λ x. (h.members x).0
 -- of a count there is one level
 one_share : (l k : Level) (count size : ℕ) → 0 < size → IsShare l count size → IsShare k count size → l ≡ k
 one_share Nothing Nothing count size some a b = refl
-one_share Nothing BelowThird count size some a b = absurd (omega (arith, a, b))
-one_share Nothing FromThird count size some a b = absurd (omega (arith, a, b))
-one_share Nothing FromTwoThirds count size some a b = absurd (omega (arith, a, b))
-one_share Nothing Whole count size some a b = absurd (omega (arith, a, b))
-one_share BelowThird Nothing count size some a b = absurd (omega (arith, a, b))
-one_share BelowThird BelowThird count size some a b = refl
-one_share BelowThird FromThird count size some a b = absurd (omega (arith, a, b))
-one_share BelowThird FromTwoThirds count size some a b = absurd (omega (arith, a, b))
-one_share BelowThird Whole count size some a b = absurd (omega (arith, a, b))
-one_share FromThird Nothing count size some a b = absurd (omega (arith, a, b))
-one_share FromThird BelowThird count size some a b = absurd (omega (arith, a, b))
-one_share FromThird FromThird count size some a b = refl
-one_share FromThird FromTwoThirds count size some a b = absurd (omega (arith, a, b))
-one_share FromThird Whole count size some a b = absurd (omega (arith, a, b))
-one_share FromTwoThirds Nothing count size some a b = absurd (omega (arith, a, b))
-one_share FromTwoThirds BelowThird count size some a b = absurd (omega (arith, a, b))
-one_share FromTwoThirds FromThird count size some a b = absurd (omega (arith, a, b))
-one_share FromTwoThirds FromTwoThirds count size some a b = refl
-one_share FromTwoThirds Whole count size some a b = absurd (omega (arith, a, b))
+one_share Nothing Sparse count size some a b = absurd (omega (arith, a, b))
+one_share Nothing BelowQuarter count size some a b = absurd (omega (arith, a, b))
+one_share Nothing FromQuarter count size some a b = absurd (omega (arith, a, b))
+one_share Nothing Whole count size some a b = absurd (omega (arith, some, a, b))
+one_share Sparse Nothing count size some a b = absurd (omega (arith, a, b))
+one_share Sparse Sparse count size some a b = refl
+one_share Sparse BelowQuarter count size some a b = absurd (omega (arith, a, b))
+one_share Sparse FromQuarter count size some a b = absurd (omega (arith, a, b))
+one_share Sparse Whole count size some a b = absurd (omega (arith, a, b))
+one_share BelowQuarter Nothing count size some a b = absurd (omega (arith, a, b))
+one_share BelowQuarter Sparse count size some a b = absurd (omega (arith, a, b))
+one_share BelowQuarter BelowQuarter count size some a b = refl
+one_share BelowQuarter FromQuarter count size some a b = absurd (omega (arith, a, b))
+one_share BelowQuarter Whole count size some a b = absurd (omega (arith, a, b))
+one_share FromQuarter Nothing count size some a b = absurd (omega (arith, a, b))
+one_share FromQuarter Sparse count size some a b = absurd (omega (arith, a, b))
+one_share FromQuarter BelowQuarter count size some a b = absurd (omega (arith, a, b))
+one_share FromQuarter FromQuarter count size some a b = refl
+one_share FromQuarter Whole count size some a b = absurd (omega (arith, a, b))
 one_share Whole Nothing count size some a b = absurd (omega (arith, a, b))
-one_share Whole BelowThird count size some a b = absurd (omega (arith, a, b))
-one_share Whole FromThird count size some a b = absurd (omega (arith, a, b))
-one_share Whole FromTwoThirds count size some a b = absurd (omega (arith, a, b))
+one_share Whole Sparse count size some a b = absurd (omega (arith, a, b))
+one_share Whole BelowQuarter count size some a b = absurd (omega (arith, a, b))
+one_share Whole FromQuarter count size some a b = absurd (omega (arith, a, b))
 one_share Whole Whole count size some a b = refl
 
 pub one_level : (InSet : Address → Type 0) (n : Network) (l k : Level) → IsLevelOf InSet n l → IsLevelOf InSet n k
@@ -91,9 +91,9 @@ one_level InSet n l k a b =
 
 some_share : (l : Level) (count size : ℕ) → l ≢ Nothing → 0 < size → IsShare l count size → 0 < count
 some_share Nothing count size ne some h = absurd (ne refl)
-some_share BelowThird count size ne some h = omega (arith, h)
-some_share FromThird count size ne some h = omega (arith, h)
-some_share FromTwoThirds count size ne some h = omega (arith, h)
+some_share Sparse count size ne some h = omega (arith, h)
+some_share BelowQuarter count size ne some h = omega (arith, h)
+some_share FromQuarter count size ne some h = omega (arith, h)
 some_share Whole count size ne some h = omega (arith, h)
 
 -- only the lowest level is of a cell without an address
@@ -116,12 +116,12 @@ all_level InSet n all = record {
 -- ---- the cells that are known, by level
 
 pub none_pushed : (known : KnownCells) → ((x : Address) → ¬ (IsPushed known.some x))
-    → ((x : Address) → ¬ (IsPushed known.third x)) → ((x : Address) → ¬ (IsPushed known.two_thirds x))
+    → ((x : Address) → ¬ (IsPushed known.below_quarter x)) → ((x : Address) → ¬ (IsPushed known.from_quarter x))
     → ((x : Address) → ¬ (IsPushed known.whole x)) → (l : Level) (x : Address) → ¬ (IsPushedAs known l x)
 none_pushed known a b c d Nothing x = λ p. p
-none_pushed known a b c d BelowThird x = a x
-none_pushed known a b c d FromThird x = b x
-none_pushed known a b c d FromTwoThirds x = c x
+none_pushed known a b c d Sparse x = a x
+none_pushed known a b c d BelowQuarter x = b x
+none_pushed known a b c d FromQuarter x = c x
 none_pushed known a b c d Whole x = d x
 
 -- the addresses of the open cell and of a network in it fit in a word

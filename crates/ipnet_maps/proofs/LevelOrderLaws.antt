@@ -3,12 +3,12 @@ use Rattle.std.proofs.Common.{ℕ, ◌-◌, ◌<◌, ◌≤◌, arith}
 use Rattle.std.proofs.lemmas.Nat.{pow_pos}
 use Rattle.ipnet_base.specs.Address.{Address, width}
 use Rattle.ipnet_base.specs.Network.{Network}
-use Rattle.ipnet_bars.specs.declared.share.Level.{Level}
-use Rattle.ipnet_bars.specs.declared.share.Level.TheVariants.{Nothing, BelowThird, FromThird}
-use Rattle.ipnet_bars.specs.declared.share.Level.TheVariants.{FromTwoThirds, Whole}
+use Rattle.ipnet_maps.specs.declared.level.Level.{Level}
+use Rattle.ipnet_maps.specs.declared.level.Level.TheVariants.{Nothing, Sparse, BelowQuarter}
+use Rattle.ipnet_maps.specs.declared.level.Level.TheVariants.{FromQuarter, Whole}
 use Rattle.ipnet_sets.specs.Parts.{IsInPart}
-use Rattle.ipnet_bars.specs.Parts.{IsLevelOf, block_size}
-use Rattle.ipnet_bars.specs.Shares.{IsShare}
+use Rattle.ipnet_bars.specs.Parts.{block_size}
+use Rattle.ipnet_maps.specs.Levels.{IsShare, IsLevelOf}
 use Rattle.ipnet_bars.proofs.PartLaws.{no_more, part_fits}
 use Rattle.ipnet_maps.specs.Levels.{place_of}
 
@@ -16,29 +16,29 @@ use Rattle.ipnet_maps.specs.Levels.{place_of}
 share_order : (l k : Level) (m n size : ℕ) → 0 < size → m ≤ n → n ≤ size → IsShare l m size → IsShare k n size
     → place_of l ≤ place_of k
 share_order Nothing Nothing m n size some le fits a b = omega arith
-share_order Nothing BelowThird m n size some le fits a b = omega arith
-share_order Nothing FromThird m n size some le fits a b = omega arith
-share_order Nothing FromTwoThirds m n size some le fits a b = omega arith
+share_order Nothing Sparse m n size some le fits a b = omega arith
+share_order Nothing BelowQuarter m n size some le fits a b = omega arith
+share_order Nothing FromQuarter m n size some le fits a b = omega arith
 share_order Nothing Whole m n size some le fits a b = omega arith
-share_order BelowThird Nothing m n size some le fits a b = absurd (omega (arith, some, le, fits, a, b))
-share_order BelowThird BelowThird m n size some le fits a b = omega arith
-share_order BelowThird FromThird m n size some le fits a b = omega arith
-share_order BelowThird FromTwoThirds m n size some le fits a b = omega arith
-share_order BelowThird Whole m n size some le fits a b = omega arith
-share_order FromThird Nothing m n size some le fits a b = absurd (omega (arith, some, le, fits, a, b))
-share_order FromThird BelowThird m n size some le fits a b = absurd (omega (arith, some, le, fits, a, b))
-share_order FromThird FromThird m n size some le fits a b = omega arith
-share_order FromThird FromTwoThirds m n size some le fits a b = omega arith
-share_order FromThird Whole m n size some le fits a b = omega arith
-share_order FromTwoThirds Nothing m n size some le fits a b = absurd (omega (arith, some, le, fits, a, b))
-share_order FromTwoThirds BelowThird m n size some le fits a b = absurd (omega (arith, some, le, fits, a, b))
-share_order FromTwoThirds FromThird m n size some le fits a b = absurd (omega (arith, some, le, fits, a, b))
-share_order FromTwoThirds FromTwoThirds m n size some le fits a b = omega arith
-share_order FromTwoThirds Whole m n size some le fits a b = omega arith
+share_order Sparse Nothing m n size some le fits a b = absurd (omega (arith, some, le, fits, a, b))
+share_order Sparse Sparse m n size some le fits a b = omega arith
+share_order Sparse BelowQuarter m n size some le fits a b = omega arith
+share_order Sparse FromQuarter m n size some le fits a b = omega arith
+share_order Sparse Whole m n size some le fits a b = omega arith
+share_order BelowQuarter Nothing m n size some le fits a b = absurd (omega (arith, some, le, fits, a, b))
+share_order BelowQuarter Sparse m n size some le fits a b = absurd (omega (arith, some, le, fits, a, b))
+share_order BelowQuarter BelowQuarter m n size some le fits a b = omega arith
+share_order BelowQuarter FromQuarter m n size some le fits a b = omega arith
+share_order BelowQuarter Whole m n size some le fits a b = omega arith
+share_order FromQuarter Nothing m n size some le fits a b = absurd (omega (arith, some, le, fits, a, b))
+share_order FromQuarter Sparse m n size some le fits a b = absurd (omega (arith, some, le, fits, a, b))
+share_order FromQuarter BelowQuarter m n size some le fits a b = absurd (omega (arith, some, le, fits, a, b))
+share_order FromQuarter FromQuarter m n size some le fits a b = omega arith
+share_order FromQuarter Whole m n size some le fits a b = omega arith
 share_order Whole Nothing m n size some le fits a b = absurd (omega (arith, some, le, fits, a, b))
-share_order Whole BelowThird m n size some le fits a b = absurd (omega (arith, some, le, fits, a, b))
-share_order Whole FromThird m n size some le fits a b = absurd (omega (arith, some, le, fits, a, b))
-share_order Whole FromTwoThirds m n size some le fits a b = absurd (omega (arith, some, le, fits, a, b))
+share_order Whole Sparse m n size some le fits a b = absurd (omega (arith, some, le, fits, a, b))
+share_order Whole BelowQuarter m n size some le fits a b = absurd (omega (arith, some, le, fits, a, b))
+share_order Whole FromQuarter m n size some le fits a b = absurd (omega (arith, some, le, fits, a, b))
 share_order Whole Whole m n size some le fits a b = omega arith
 
 pub level_order : (A B : Address → Type 0) (n : Network) (l k : Level) → ((x : Address) → A x → B x)

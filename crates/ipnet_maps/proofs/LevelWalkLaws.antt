@@ -16,11 +16,11 @@ use Rattle.ipnet_base.proofs.NestingLaws.{nested}
 use Rattle.ipnet.specs.NetworkOf.{ip_network}
 use Rattle.ipnet.specs.NetworkParts.{network_at}
 use Rattle.ipnet_sets.specs.Members.{IsCountOf}
-use Rattle.ipnet_bars.specs.declared.share.Level.{Level}
-use Rattle.ipnet_bars.specs.declared.share.Level.TheVariants.{Nothing, Whole}
+use Rattle.ipnet_maps.specs.declared.level.Level.{Level}
+use Rattle.ipnet_maps.specs.declared.level.Level.TheVariants.{Nothing, Whole}
 use Rattle.ipnet_sets.specs.Parts.{IsInPart}
-use Rattle.ipnet_bars.specs.Parts.{HasSome, IsLevelOf, block_size}
-use Rattle.ipnet_bars.specs.Shares.{IsShare}
+use Rattle.ipnet_bars.specs.Parts.{HasSome, block_size}
+use Rattle.ipnet_maps.specs.Levels.{IsShare, IsLevelOf}
 use Rattle.ipnet_bars.proofs.PartLaws.{same_count, block_counted, part_fits}
 use Rattle.ipnet_maps.specs.declared.levels.KnownCells.{KnownCells}
 use Rattle.ipnet_maps.specs.declared.levels.OpenCell.{OpenCell}

@@ -11,6 +11,7 @@ pub mod PlaceLaws
 pub mod ReadLaws
 pub mod LineLaws
 pub mod LineReadLaws
+pub mod ShareLaws
 pub mod LevelLaws
 pub mod LevelWalkLaws
 pub mod LevelOrderLaws

@@ -4,29 +4,30 @@ use Rattle.ipnet_base.specs.Address.{Address}
 use Rattle.ipnet_base.specs.Network.{Network}
 use Rattle.ipnet_sets.specs.declared.set.IpSet.{IpSet}
 use Rattle.ipnet_sets.specs.Members.{IsMember}
-use Rattle.ipnet_bars.specs.declared.share.Level.TheVariants as level
+use Rattle.ipnet_maps.specs.declared.level.Level.TheVariants as level
 use Rattle.ipnet_bars.specs.declared.change.Change.TheVariants as change
-use Rattle.ipnet_bars.specs.Parts.{HasSome, HasNone, HasAll, IsLevelOf}
+use Rattle.ipnet_bars.specs.Parts.{HasSome, HasNone, HasAll}
+use Rattle.ipnet_maps.specs.Levels.{IsLevelOf}
 use Rattle.ipnet_bars.specs.Changes.{IsChange}
 use Rattle.ipnet_maps.specs.declared.drawing.Class.{Class}
-use Rattle.ipnet_maps.specs.declared.drawing.Class.TheVariants.{BelowThird, FromThird, FromTwoThirds, Whole}
+use Rattle.ipnet_maps.specs.declared.drawing.Class.TheVariants.{Sparse, BelowQuarter, FromQuarter, Whole}
 use Rattle.ipnet_maps.specs.declared.drawing.Class.TheVariants.{Removed, Added, Mixed, KeptPart, KeptWhole}
 use Rattle.ipnet_maps.specs.declared.drawing.Class.TheVariants.{Overlap, Several, PartOf, WholeOf}
 use Rattle.ipnet_maps.specs.Cells.{IsKeptPart, IsKeptWhole}
 use Rattle.ipnet_maps.specs.Shared.{IsInTwo}
 
 -- The cell has this class in a map of one set: its level.
--- Example: if the set is 10.0.0.0 to 10.0.0.9, 10.0.0.0/29 is `Whole` and 10.0.0.8/29 is `BelowThird`.
+-- Example: if the set is 10.0.0.0 to 10.0.0.9, 10.0.0.0/29 is `Whole` and 10.0.0.8/29 is `FromQuarter`.
 abbrev pub HasLevelClass : (Address → Type 0) → Class → Network → Type 0
-HasLevelClass InSet BelowThird n = IsLevelOf InSet n level.BelowThird
-HasLevelClass InSet FromThird n = IsLevelOf InSet n level.FromThird
-HasLevelClass InSet FromTwoThirds n = IsLevelOf InSet n level.FromTwoThirds
+HasLevelClass InSet Sparse n = IsLevelOf InSet n level.Sparse
+HasLevelClass InSet BelowQuarter n = IsLevelOf InSet n level.BelowQuarter
+HasLevelClass InSet FromQuarter n = IsLevelOf InSet n level.FromQuarter
 HasLevelClass InSet Whole n = IsLevelOf InSet n level.Whole
 HasLevelClass InSet q n = ⊥
 
 -- The classes of a map of one set, in the order of its layers.
 abbrev pub level_classes : List Class
-level_classes = BelowThird ∷ FromThird ∷ FromTwoThirds ∷ Whole ∷ []
+level_classes = Sparse ∷ BelowQuarter ∷ FromQuarter ∷ Whole ∷ []
 
 -- The cell has this class in a map of a change. A cell is kept only if nothing changes in it.
 -- Example: from 10.0.0.0/30 to 10.0.0.2/31, 10.0.0.0/30 is `Removed`, and 10.0.0.2/31 is `KeptWhole`.

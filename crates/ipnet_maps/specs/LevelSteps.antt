@@ -4,19 +4,19 @@ use Rattle.ipnet_base.specs.Address.{Address}
 use Rattle.ipnet_base.specs.Network.{Network, InBlock, IsSubnetOf}
 use Rattle.ipnet.specs.NetworkOf.{ip_network}
 use Rattle.ipnet_sets.specs.Pushed.{IsPushed}
-use Rattle.ipnet_bars.specs.declared.share.Level.{Level}
-use Rattle.ipnet_bars.specs.declared.share.Level.TheVariants.{Nothing, BelowThird, FromThird, FromTwoThirds, Whole}
+use Rattle.ipnet_maps.specs.declared.level.Level.{Level}
+use Rattle.ipnet_maps.specs.declared.level.Level.TheVariants.{Nothing, Sparse, BelowQuarter, FromQuarter, Whole}
 use Rattle.ipnet_bars.specs.Parts.{block_size}
-use Rattle.ipnet_bars.specs.Shares.{IsShare}
+use Rattle.ipnet_maps.specs.Levels.{IsShare}
 use Rattle.ipnet_maps.specs.declared.levels.KnownCells.{KnownCells}
 use Rattle.ipnet_maps.specs.declared.levels.OpenCell.{OpenCell}
 
 -- The address is in a cell that is known to have this level. Example: no address is in a cell of the level `Nothing`.
 abbrev pub IsPushedAs : KnownCells → Level → Address → Type 0
 IsPushedAs known Nothing x = ⊥
-IsPushedAs known BelowThird x = IsPushed known.some x
-IsPushedAs known FromThird x = IsPushed known.third x
-IsPushedAs known FromTwoThirds x = IsPushed known.two_thirds x
+IsPushedAs known Sparse x = IsPushed known.some x
+IsPushedAs known BelowQuarter x = IsPushed known.below_quarter x
+IsPushedAs known FromQuarter x = IsPushed known.from_quarter x
 IsPushedAs known Whole x = IsPushed known.whole x
 
 -- The addresses of the network are added to the cells of the level, and the other cells stay.

@@ -27,12 +27,12 @@ use std::alloc::{AllocError, Global};
 /// The class of a cell of a map. A cell without an address of a set has no class.
 #[derive(Clone, Copy, Debug, PartialEq, Eq)]
 pub enum Class {
-    /// In a map of one set: some of the addresses, and less than a third.
-    BelowThird,
-    /// In a map of one set: at least a third of the addresses, and less than two thirds.
-    FromThird,
-    /// In a map of one set: at least two thirds of the addresses, and not all.
-    FromTwoThirds,
+    /// In a map of one set: some of the addresses, and less than one of 256.
+    Sparse,
+    /// In a map of one set: at least one of 256 addresses, and less than a quarter.
+    BelowQuarter,
+    /// In a map of one set: at least a quarter of the addresses, and not all.
+    FromQuarter,
     /// In a map of one set: all addresses.
     Whole,
     /// In a map of a change: addresses went, and none came.
@@ -95,22 +95,22 @@ fn level_class_cells(
 {
     let LevelCells {
         some,
-        third,
-        two_thirds,
+        below_quarter,
+        from_quarter,
         whole,
     } = level_cells(alloc, set, cell_len)?;
     let mut list = Vec::new(alloc);
     list.push(ClassCells {
-        class: Class::BelowThird,
+        class: Class::Sparse,
         cells: some,
     })?;
     list.push(ClassCells {
-        class: Class::FromThird,
-        cells: third,
+        class: Class::BelowQuarter,
+        cells: below_quarter,
     })?;
     list.push(ClassCells {
-        class: Class::FromTwoThirds,
-        cells: two_thirds,
+        class: Class::FromQuarter,
+        cells: from_quarter,
     })?;
     list.push(ClassCells {
         class: Class::Whole,
@@ -245,7 +245,7 @@ fn draw_to(
     }
 }
 
-/// Returns the map of the set in the frame: a layer for each level, from the cells with less than a third of their
+/// Returns the map of the set in the frame: a layer for each level, from the cells with less than one of 256 of their
 /// addresses in the set to those with all. Addresses outside the frame are left out. Fails only if memory runs out.
 ///
 /// The cells are as small as they can be with at most 65,536 rectangles.

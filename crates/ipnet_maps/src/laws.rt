@@ -3,15 +3,15 @@ ghost use Rattle.std.specs.Prelude.{◌≡◌, ◌↔◌, ◌⊎◌, ◌+◌, �
 ghost use Rattle.ipnet_base.specs.Network.{Network};
 ghost use Rattle.ipnet_sets.specs.declared.set.IpSet.{IpSet};
 ghost use Rattle.ipnet_sets.specs.Members.{IsMember, IsSubset};
-ghost use Rattle.ipnet_bars.specs.declared.share.Level.{Level};
-ghost use Rattle.ipnet_bars.specs.declared.share.Level.TheVariants.{Nothing, Whole};
-ghost use Rattle.ipnet_bars.specs.Parts.{HasNone, HasAll, IsLevelOf};
+ghost use Rattle.ipnet_maps.specs.declared.level.Level.{Level};
+ghost use Rattle.ipnet_maps.specs.declared.level.Level.TheVariants.{Nothing, Whole};
+ghost use Rattle.ipnet_bars.specs.Parts.{HasNone, HasAll};
 ghost use Rattle.ipnet_maps.specs.declared.layout.Axis.{Axis};
 ghost use Rattle.ipnet_maps.specs.declared.layout.Rectangle.{Rectangle};
 ghost use Rattle.ipnet_maps.specs.Cuts.{columns_in, rows_in, column_of, row_of, cell_at};
 ghost use Rattle.ipnet_maps.specs.Squares.{cuts_from, square_cuts, IsRectangleOf, IsInRectangle};
 ghost use Rattle.ipnet_maps.specs.Paths.{corner, path_of, rows_path, FitsWords};
-ghost use Rattle.ipnet_maps.specs.Levels.{place_of};
+ghost use Rattle.ipnet_maps.specs.Levels.{IsLevelOf, place_of};
 
 /// The cells of a map and the places of its grid are one to one, whatever the cuts are.
 pub fn cells_and_places_are_one_to_one()

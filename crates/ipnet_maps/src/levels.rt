@@ -4,17 +4,18 @@ ghost use Rattle.ipnet_base.specs.Address.{Address};
 ghost use Rattle.ipnet_base.specs.Network.{InBlock, IsSubnetOf};
 ghost use Rattle.ipnet.specs.NetworkOf.{ip_network};
 ghost use Rattle.ipnet_sets.specs.Members.{IsMember};
-ghost use Rattle.ipnet_bars.specs.Parts.{IsLevelOf, block_size};
-ghost use Rattle.ipnet_bars.specs.Shares.{IsShare};
-ghost use Rattle.ipnet_bars.specs.declared.share.Level.{Level};
-ghost use Rattle.ipnet_bars.specs.declared.share.Level.TheVariants.{Nothing, BelowThird, FromThird};
-ghost use Rattle.ipnet_bars.specs.declared.share.Level.TheVariants.{FromTwoThirds, Whole};
+ghost use Rattle.ipnet_bars.specs.Parts.{block_size};
+ghost use Rattle.ipnet_maps.specs.Levels.{IsShare, IsLevelOf};
+ghost use Rattle.ipnet_maps.specs.declared.level.Level.{Level};
+ghost use Rattle.ipnet_maps.specs.declared.level.Level.TheVariants.{Nothing, Sparse, BelowQuarter};
+ghost use Rattle.ipnet_maps.specs.declared.level.Level.TheVariants.{FromQuarter, Whole};
 ghost use Rattle.ipnet_maps.specs.Cells.{IsInCell, widened};
 ghost use Rattle.ipnet_maps.specs.LevelSteps.{IsPushedAs, IsPushedTo, IsClosed, IsJoined, IsOpenFor};
 
 use crate::cells::widened_to;
+use crate::level::{Level, level_of};
 use ipnet::IpNet;
-use ipnet_bars::{Level, last_place, level_of};
+use ipnet_bars::last_place;
 use ipnet_sets::{IpSet, IpSetBuilder};
 use std::alloc::{AllocError, Global};
 
@@ -26,12 +27,12 @@ use std::alloc::{AllocError, Global};
 /// ```
 #[derive(Drop)]
 pub struct LevelCells {
-    /// Some of the addresses, and less than a third.
+    /// Some of the addresses, and less than one of 256.
     pub some: IpSet,
-    /// At least a third, and less than two thirds.
-    pub third: IpSet,
-    /// At least two thirds, and not all.
-    pub two_thirds: IpSet,
+    /// At least one of 256, and less than a quarter.
+    pub below_quarter: IpSet,
+    /// At least a quarter, and not all.
+    pub from_quarter: IpSet,
     /// All addresses.
     pub whole: IpSet,
 }
@@ -40,8 +41,8 @@ pub struct LevelCells {
 #[derive(Drop)]
 struct KnownCells {
     some: IpSetBuilder,
-    third: IpSetBuilder,
-    two_thirds: IpSetBuilder,
+    below_quarter: IpSetBuilder,
+    from_quarter: IpSetBuilder,
     whole: IpSetBuilder,
 }
 
@@ -52,8 +53,8 @@ impl KnownCells {
     {
         KnownCells {
             some: IpSetBuilder::new(alloc),
-            third: IpSetBuilder::new(alloc),
-            two_thirds: IpSetBuilder::new(alloc),
+            below_quarter: IpSetBuilder::new(alloc),
+            from_quarter: IpSetBuilder::new(alloc),
             whole: IpSetBuilder::new(alloc),
         }
     }
@@ -65,9 +66,9 @@ impl KnownCells {
     {
         match level {
             Level::Nothing => Ok(()),
-            Level::BelowThird => self.some.push_network(network),
-            Level::FromThird => self.third.push_network(network),
-            Level::FromTwoThirds => self.two_thirds.push_network(network),
+            Level::Sparse => self.some.push_network(network),
+            Level::BelowQuarter => self.below_quarter.push_network(network),
+            Level::FromQuarter => self.from_quarter.push_network(network),
             Level::Whole => self.whole.push_network(network),
         }
     }
@@ -85,26 +86,27 @@ impl KnownCells {
 
     /// Returns the sets of the cells.
     fn into_cells(self, alloc: Global) -> Result<LevelCells, AllocError>
-        ensures some { IfOk result (λ cells. (x : Address) → IsMember cells.some x ↔ IsPushedAs self BelowThird x) }
-        ensures third { IfOk result (λ cells. (x : Address) → IsMember cells.third x ↔ IsPushedAs self FromThird x) }
-        ensures two_thirds { IfOk result (λ cells. (x : Address)
-            → IsMember cells.two_thirds x ↔ IsPushedAs self FromTwoThirds x) }
+        ensures some { IfOk result (λ cells. (x : Address) → IsMember cells.some x ↔ IsPushedAs self Sparse x) }
+        ensures below_quarter { IfOk result (λ cells. (x : Address)
+            → IsMember cells.below_quarter x ↔ IsPushedAs self BelowQuarter x) }
+        ensures from_quarter { IfOk result (λ cells. (x : Address)
+            → IsMember cells.from_quarter x ↔ IsPushedAs self FromQuarter x) }
         ensures whole { IfOk result (λ cells. (x : Address) → IsMember cells.whole x ↔ IsPushedAs self Whole x) }
     {
         let KnownCells {
             some,
-            third,
-            two_thirds,
+            below_quarter,
+            from_quarter,
             whole,
         } = self;
         let some = some.into_set(alloc)?;
-        let third = third.into_set(alloc)?;
-        let two_thirds = two_thirds.into_set(alloc)?;
+        let below_quarter = below_quarter.into_set(alloc)?;
+        let from_quarter = from_quarter.into_set(alloc)?;
         let whole = whole.into_set(alloc)?;
         Ok(LevelCells {
             some,
-            third,
-            two_thirds,
+            below_quarter,
+            from_quarter,
             whole,
         })
     }
@@ -169,11 +171,11 @@ fn joined(current: Option<OpenCell>, network: &IpNet) -> Option<OpenCell>
 /// ```
 pub fn level_cells(alloc: Global, set: &IpSet, cell_len: u8) -> Result<LevelCells, AllocError>
     ensures some { IfOk result (λ cells. (x : Address) → IsMember cells.some x
-        ↔ IsInCell cell_len (λ n. IsLevelOf (IsMember set.now) n BelowThird) x) }
-    ensures third { IfOk result (λ cells. (x : Address) → IsMember cells.third x
-        ↔ IsInCell cell_len (λ n. IsLevelOf (IsMember set.now) n FromThird) x) }
-    ensures two_thirds { IfOk result (λ cells. (x : Address) → IsMember cells.two_thirds x
-        ↔ IsInCell cell_len (λ n. IsLevelOf (IsMember set.now) n FromTwoThirds) x) }
+        ↔ IsInCell cell_len (λ n. IsLevelOf (IsMember set.now) n Sparse) x) }
+    ensures below_quarter { IfOk result (λ cells. (x : Address) → IsMember cells.below_quarter x
+        ↔ IsInCell cell_len (λ n. IsLevelOf (IsMember set.now) n BelowQuarter) x) }
+    ensures from_quarter { IfOk result (λ cells. (x : Address) → IsMember cells.from_quarter x
+        ↔ IsInCell cell_len (λ n. IsLevelOf (IsMember set.now) n FromQuarter) x) }
     ensures whole { IfOk result (λ cells. (x : Address) → IsMember cells.whole x
         ↔ IsInCell cell_len (λ n. IsLevelOf (IsMember set.now) n Whole) x) }
 {

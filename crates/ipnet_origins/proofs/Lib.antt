@@ -1,5 +1,8 @@
 -- Lemmas of this crate.
 pub mod OrderLaws
+pub mod RankLaws
 pub mod LastLaws
 pub mod ValidityLaws
+pub mod ThoseLaws
+pub mod CoveringLaws
 pub mod WalkLaws

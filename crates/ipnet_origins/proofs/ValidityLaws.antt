@@ -1,16 +1,11 @@
 -- The validity of a route, by the networks in the table of its payloads.
-use Rattle.std.proofs.Common.{◌≡◌, ℕ, ◌↔◌, List, Contains, Any, Option, Some, None, refl, sym, ap, ◌∙◌, subst}
-use Rattle.std.proofs.Common.{arith, IsTrue, IsNone, IfSome}
-use Rattle.std.specs.Option.{is_some}
-use Rattle.std.specs.Borrow.{Bor}
-use Rattle.std.proofs.lemmas.List.{length-map, get_or-map}
+use Rattle.std.proofs.Common.{◌≡◌, ℕ, ◌↔◌, List, Contains, Any, Option, refl, sym, ap, ◌∙◌, subst}
 use Rattle.ipnet_base.specs.Network.{Network, IsNetwork, IsSubnetOf}
 use Rattle.ipnet_base.proofs.BlockLaws.{own, own_in}
 use Rattle.ipnet_base.proofs.NestingLaws.{longer_from_subnet, subnet_from_own}
 use Rattle.ipnet_base.proofs.ListLaws.{any_from_contains}
-use Rattle.ipnet.specs.declared.net.IpNet.{IpNet}
 use Rattle.ipnet.specs.NetLaws.{ip_valid}
-use Rattle.ipnet_routes.specs.Routes.{Route, networks_of, ip_route, IsLongestHolder}
+use Rattle.ipnet_routes.specs.Routes.{Route}
 use Rattle.ipnet_origins.specs.declared.payload.Payload.{Payload}
 use Rattle.ipnet_origins.specs.declared.origins.Validity.{Validity}
 use Rattle.ipnet_origins.specs.declared.origins.Validity.TheVariants.{Valid, Invalid, NotFound}
@@ -29,14 +24,6 @@ covered_from route vrp valid h = record {
   same_bits = h (own route) (own_in route);
 }
 
--- the network of a route is one of the networks of the routes
-network_in : (routes : List (Route ℕ)) (r : Route ℕ) → Contains routes r → Contains (networks_of routes) r.0
-network_in routes r (i, l, e) = (
-  i,
-  omega (arith, l, length-map routes (λ z. z.0)),
-  get_or-map (λ z. z.0) routes i r r.0 l ∙ ap (λ z. z.0) e,
-)
-
 -- a network of the table that contains the route is the network of a payload that covers it
 pub some_covers : (vrps : List Payload) (routes : List (Route ℕ)) → AreLasts vrps routes → (n : Network) → IsNetwork n
     → (r : Route ℕ) → Contains routes r → IsSubnetOf n r.0 → Any (IsCovered n) vrps
@@ -46,14 +33,6 @@ some_covers vrps routes lasts n valid r c sub =
     let same : r.0 ≡ network_of found.0 = sym (last.is found.0) ∙ ap network_of (found.2 found.0) in
     any_from_contains (IsCovered n) vrps found.0 found.1
     (covered_from n found.0 valid (subst (IsSubnetOf n) same sub))
-
--- if no network of the table contains the route, no payload covers it
-none_covers : (vrps : List Payload) (routes : List (Route ℕ)) → AreLasts vrps routes → (n : Network)
-    → ((k : Network) → Contains (networks_of routes) k → IsSubnetOf n k → ⊥)
-    → Any (IsCovered n) vrps → ⊥
-none_covers vrps routes lasts n none (i, vrp, l, e, covered) =
-    lasts.reached vrp (i, l, e) (λ r c same. none r.0 (network_in routes r c)
-    (subst (IsSubnetOf n) (sym same) (contained n vrp covered)))
 
 -- a route has one validity
 pub one : (vrps : List Payload) (route : Network) (origin : Option ℕ) (v w : Validity)
@@ -84,18 +63,3 @@ by_members vrps others route origin Invalid same h = (
 )
 by_members vrps others route origin NotFound same h =
     λ m. h (any_other (IsCovered route) others vrps (λ vrp. (same vrp).1) m)
-
--- a search that finds the longest network that contains the route finds one if and only if a payload covers the route
-pub found_or_not : (vrps : List Payload) (routes : List (Route ℕ)) → AreLasts vrps routes → (n : Network) → IsNetwork n
-    → (o : Option (Bor (IpNet × ℕ)))
-    → (IsNone o ↔ ((k : Network) → Contains (networks_of routes) k → ¬ (IsSubnetOf n k)))
-    → IfSome o (λ r. IsLongestHolder routes n (ip_route r))
-    → (IsTrue (is_some o) → Any (IsCovered n) vrps) × (Any (IsCovered n) vrps → IsTrue (is_some o))
-found_or_not vrps routes lasts n valid None none some = (
-  λ e. absurd (cc),
-  λ h. absurd (none_covers vrps routes lasts n (none.0 refl) h),
-)
-found_or_not vrps routes lasts n valid (Some r) none some = (
-  λ e. some_covers vrps routes lasts n valid (ip_route r) some.member some.holds,
-  λ h. refl,
-)

@@ -1,43 +1,43 @@
 -- The payloads on the walk over the networks of the table that contain the address of a route.
-use Rattle.std.proofs.Common.{◌≡◌, ◌≢◌, ℕ, ◌<◌, ◌≤◌, ◌⊎◌, ◌↔◌, List, [], ◌∷◌, ◌++◌, length, map, get_or, Contains, Any}
-use Rattle.std.proofs.Common.{Option, sym, ap, ◌∙◌, subst, subst₂, arith, take, inl, inr}
-use Rattle.std.proofs.lemmas.Bool.{cases_eq}
-use Rattle.std.proofs.lemmas.List.{length-map, get_or-map, get_or-take}
-use Rattle.std.proofs.lemmas.List.Elements.{Contains-push_cases, Contains-append_cases, Contains-append_left}
-use Rattle.std.proofs.lemmas.List.Elements.{Contains-append_right, Contains-push}
+use Rattle.std.proofs.Common.{◌≡◌, ℕ, ◌+◌, ◌<◌, ◌≤◌, ◌⊎◌, ◌↔◌, List, [], ◌∷◌, ◌++◌, length, map, get_or, Contains}
+use Rattle.std.proofs.Common.{Any, Bool, false, IsTrue, Option, sym, ap, ◌∙◌, subst, arith, take, inl, inr, refl}
+use Rattle.std.proofs.Common.{append_assoc, append-nil}
+use Rattle.std.proofs.lemmas.Bool.{cases_lt}
+use Rattle.std.proofs.lemmas.List.{length-map, get_or-map, get_or-take, length-take}
+use Rattle.std.proofs.lemmas.List.Elements.{Contains-push_cases, Contains-append_left, Contains-push}
 use Rattle.std.specs.Borrow.{Bor}
 use Rattle.ipnet_base.specs.Address.{Address}
-use Rattle.ipnet_base.specs.Network.{Network, InBlock}
+use Rattle.ipnet_base.specs.Network.{Network, InBlock, IsTruncated}
 use Rattle.ipnet_base.proofs.BlockLaws.{own}
-use Rattle.ipnet_base.proofs.FamilyLaws.{cases_family}
-use Rattle.ipnet_base.proofs.NetworkLaws.{same_network}
-use Rattle.ipnet_base.proofs.ListLaws.{contains_nil, contains_here, contains_there, contains_cases, any_from_contains}
-use Rattle.ipnet_base.proofs.ListLaws.{at_place, pairs_append}
+use Rattle.ipnet_base.proofs.ListLaws.{contains_nil, any_from_contains, at_place}
 use Rattle.ipnet.specs.declared.net.IpNet.{IpNet}
 use Rattle.ipnet.specs.NetworkOf.{ip_network}
 use Rattle.ipnet_routes.specs.Routes.{Route, ip_route, AreMatches}
 use Rattle.ipnet_routes.proofs.LastPassing.{element_at}
 use Rattle.ipnet_origins.specs.declared.payload.Payload.{Payload}
 use Rattle.ipnet_origins.specs.Groups.{network_of, AreLasts, IsGroup}
-use Rattle.ipnet_origins.specs.Origins.{IsCovered, IsMatched, AreLongestFirst}
+use Rattle.ipnet_origins.specs.Origins.{IsCovered, IsMatched, IsCoveredAt, AreThose, AreCoveringBelow, AreCovering}
+use Rattle.ipnet_origins.proofs.CoveringLaws.{same_at, none_below, more_below}
+use Rattle.ipnet_origins.proofs.LastLaws.{payload_at}
+use Rattle.ipnet_origins.proofs.ThoseLaws.{those_same, those_members}
 
 -- a route of the table, by reference
 abbrev pub Place : Type 0
 Place = Bor (IpNet × ℕ)
 
--- no payload of the networks of the places matches the route
-abbrev pub NoneMatches : List Payload → Network → Option ℕ → List Place → Type 0
-NoneMatches vrps n origin places = (b : Place) → Contains places b → (vrp : Payload) → Contains vrps vrp
-    → network_of vrp ≡ ip_network b.now.0 → ¬ (IsMatched n origin vrp)
+-- no payload of the networks of the places has the property
+abbrev pub NoneOf : (Payload → Type 0) → List Payload → List Place → Type 0
+NoneOf P vrps places = (b : Place) → Contains places b → (vrp : Payload) → Contains vrps vrp
+    → network_of vrp ≡ ip_network b.now.0 → ¬ (P vrp)
 
--- the list has only payloads that cover the route, and all of them of the networks of the places, the longest first
+-- The list has the payloads of the networks of the places that cover the route. The others have shorter networks.
 pub record HasCovering (vrps : List Payload) (n : Network) (places : List Place) (found : List Payload) : Type 0 where
-  pub sound : (vrp : Payload) → Contains found vrp → Contains vrps vrp × IsCovered n vrp
-  pub complete : (b : Place) → Contains places b → (vrp : Payload) → Contains vrps vrp
-      → network_of vrp ≡ ip_network b.now.0 → IsCovered n vrp → Contains found vrp
-  pub of_places : (vrp : Payload) → Contains found vrp
-      → (b : Place) × Contains places b × (network_of vrp ≡ ip_network b.now.0)
-  pub longest_first : AreLongestFirst found
+  pub limit : ℕ
+  pub is : (limit ≡ n.prefix_len + 1) ⊎ ((b : Place) × Contains places b × (limit ≡ (ip_network b.now.0).prefix_len))
+  pub above : (b : Place) → Contains places b → (ip_network b.now.0).prefix_len ≤ n.prefix_len
+      → limit ≤ (ip_network b.now.0).prefix_len
+  pub whole : (shorter : List Payload) → AreCoveringBelow vrps n limit shorter
+      → AreCovering vrps n (found ++ shorter)
 
 -- the place that the walk comes to is a route of the table, and its network has the address
 pub turn_in : (routes all : List (Route ℕ)) (x : Address) → AreMatches routes x all → (k : ℕ) (q : Route ℕ)
@@ -55,67 +55,69 @@ place_of places r (k, l, e) =
       ap ip_route (sym (found.1 found.0)) ∙ sym (get_or-map ip_route places k found.0 r inside) ∙ e,
     )
 
--- if no payload of the group matches, none of the network of the next place does
-pub none_more : (vrps group : List Payload) (n : Network) (origin : Option ℕ) (places : List Place) (next : Place)
-    → NoneMatches vrps n origin places → IsGroup vrps (ip_network next.now.0) group
-    → (Any (IsMatched n origin) group → ⊥) → NoneMatches vrps n origin (places ++ next ∷ [])
-none_more vrps group n origin places next none is none_here b c vrp there same match' =
+-- the members of a group
+in_group : (vrps group : List Payload) (n : Network) → IsGroup vrps n group → (vrp : Payload)
+    → Contains group vrp ↔ (Contains vrps vrp × (network_of vrp ≡ n))
+in_group vrps group n is = those_members (λ vrp. network_of vrp ≡ n) vrps group is
+
+-- if no payload of the group has the property, none of the network of the next place has it
+pub none_more : (P : Payload → Type 0) (vrps group : List Payload) (places : List Place) (next : Place)
+    → NoneOf P vrps places → IsGroup vrps (ip_network next.now.0) group → (Any P group → ⊥)
+    → NoneOf P vrps (places ++ next ∷ [])
+none_more P vrps group places next none is none_here b c vrp there same has =
     elim (Contains-push_cases places next b c) [
-      | inl before ↦ none b before vrp there same match'
-      | inr e ↦ none_here (any_from_contains (IsMatched n origin) group vrp
-          ((is vrp).1 (there, same ∙ ap (λ z. ip_network z.now.0) (sym e))) match')
+      | inl before ↦ none b before vrp there same has
+      | inr e ↦ none_here (any_from_contains P group vrp
+          ((in_group vrps group (ip_network next.now.0) is vrp).1
+          (there, same ∙ ap (λ z. ip_network z.now.0) (sym e))) has)
     ]
 
--- if no payload on the whole walk matches, none does
-pub none_matches : (vrps : List Payload) (routes : List (Route ℕ)) → AreLasts vrps routes → (n : Network)
-    (origin : Option ℕ) (places : List Place) → AreMatches routes (own n) (map ip_route places)
-    → NoneMatches vrps n origin places → Any (IsMatched n origin) vrps → ⊥
-none_matches vrps routes lasts n origin places matches none (i, vrp, l, e, m) =
+-- no payload of a network that is longer than the route covers it
+pub none_longer : (P : Payload → Type 0) (n : Network) → ((vrp : Payload) → P vrp → IsCovered n vrp)
+    → (vrps : List Payload) (places : List Place) (next : Place) → NoneOf P vrps places
+    → ((ip_network next.now.0).prefix_len ≤ n.prefix_len → ⊥) → NoneOf P vrps (places ++ next ∷ [])
+none_longer P n covers vrps places next none long b c vrp there same has =
+    elim (Contains-push_cases places next b c) [
+      | inl before ↦ none b before vrp there same has
+      | inr e ↦ long (subst (λ k. k.prefix_len ≤ n.prefix_len) (same ∙ ap (λ z. ip_network z.now.0) (sym e))
+          (covers vrp has).no_longer)
+    ]
+
+-- if no payload on the whole walk has the property, none has it
+pub none_at_all : (P : Payload → Type 0) (n : Network) → ((vrp : Payload) → P vrp → IsCovered n vrp)
+    → (vrps : List Payload) (routes : List (Route ℕ)) → AreLasts vrps routes → (places : List Place)
+    → AreMatches routes (own n) (map ip_route places) → NoneOf P vrps places → Any P vrps → ⊥
+none_at_all P n covers vrps routes lasts places matches none (i, vrp, l, e, has) =
     lasts.reached vrp (i, l, e) (λ r c same.
     let found = place_of places r ((matches.members r).1
-    (c, subst (λ k. InBlock k (own n)) (sym same) m.covered.same_bits)) in
-    none found.0 found.1 vrp (i, l, e) (sym same ∙ ap (λ z. z.0) (sym found.2)) m)
+    (c, subst (λ k. InBlock k (own n)) (sym same) (covers vrp has).same_bits)) in
+    none found.0 found.1 vrp (i, l, e) (sym same ∙ ap (λ z. z.0) (sym found.2)) has)
+
+-- a payload on the way covers the route, or none does
+abbrev pub IsCoveredSoFar : List Payload → Network → List Place → Bool → Type 0
+IsCoveredSoFar vrps n places covered = (IsTrue covered × Any (IsCovered n) vrps)
+    ⊎ ((covered ≡ false) × NoneOf (IsCovered n) vrps places)
+
+-- a network that is longer than the route changes nothing
+pub covered_same : (n : Network) (vrps : List Payload) (places : List Place) (next : Place) (covered : Bool)
+    → IsCoveredSoFar vrps n places covered → ((ip_network next.now.0).prefix_len ≤ n.prefix_len → ⊥)
+    → IsCoveredSoFar vrps n (places ++ next ∷ []) covered
+covered_same n vrps places next covered (inl h) long = inl h
+covered_same n vrps places next covered (inr h) long =
+    inr (h.0, none_longer (IsCovered n) n (λ vrp c. c) vrps places next h.1 long)
 
 -- a group on the way matches, so a payload does
 pub some_matches : (vrps group : List Payload) (k n : Network) (origin : Option ℕ) → IsGroup vrps k group
     → Any (IsMatched n origin) group → Any (IsMatched n origin) vrps
 some_matches vrps group k n origin is (i, vrp, l, e, m) =
-    any_from_contains (IsMatched n origin) vrps vrp ((is vrp).0 (i, l, e)).0 m
+    any_from_contains (IsMatched n origin) vrps vrp ((in_group vrps group k is vrp).0 (i, l, e)).0 m
 
--- one of the places has the network, or none has it
-find : (places : List Place) (n : Network)
-    → ((b : Place) × Contains places b × (n ≡ ip_network b.now.0))
-    ⊎ ((b : Place) → Contains places b → n ≢ ip_network b.now.0)
-find [] n = inr (λ b c. absurd (contains_nil b c))
-find (p ∷ places) n = elim (find places n) [
-  | inl (b, c, e) ↦ inl (b, contains_there p places b c, e)
-  | inr none ↦ elim (is_same n (ip_network p.now.0)) [
-    | inl same ↦ inl (p, contains_here p places, same)
-    | inr other ↦ inr (λ b c. elim (contains_cases p places b c) [
-      | inl e ↦ subst (λ z. n ≢ ip_network z.now.0) e other
-      | inr there ↦ none b there
-    ])
-  ]
-]
-  where
-    is_same : (n k : Network) → (n ≡ k) ⊎ (n ≢ k)
-    is_same n k = elim (cases_family n.family k.family) [
-      | inr other ↦ inr (λ e. other (ap (λ z. z.family) e))
-      | inl family ↦ elim (cases_eq n.number k.number) [
-        | inr other ↦ inr (λ e. other (ap (λ z. z.number) e))
-        | inl number ↦ elim (cases_eq n.prefix_len k.prefix_len) [
-          | inr other ↦ inr (λ e. other (ap (λ z. z.prefix_len) e))
-          | inl length ↦ inl (same_network n k family number length)
-        ]
-      ]
-    ]
-
--- the next place of the walk has no longer network than the places so far
-pub no_longer : (routes all : List (Route ℕ)) (x : Address) → AreMatches routes x all → (places : List Place)
+-- the next place of the walk has a shorter network than the places so far
+is_shorter : (routes all : List (Route ℕ)) (x : Address) → AreMatches routes x all → (places : List Place)
     (next : Place) → map ip_route places ≡ take (length places) all → length places < length all
     → ip_route next ≡ get_or all (length places) (ip_route next) → (b : Place) → Contains places b
-    → (ip_network next.now.0).prefix_len ≤ (ip_network b.now.0).prefix_len
-no_longer routes all x matches places next so_far inside is b (k, l, e) =
+    → (ip_network next.now.0).prefix_len < (ip_network b.now.0).prefix_len
+is_shorter routes all x matches places next so_far inside is b (k, l, e) =
     let d : Route ℕ = ip_route next in
     let there : get_or all k d ≡ ip_route b
     = sym (get_or-take (length places) all k d l) ∙ ap (λ z. get_or z k d) (sym so_far)
@@ -127,82 +129,146 @@ no_longer routes all x matches places next so_far inside is b (k, l, e) =
       ap (λ (r : Route ℕ). r.0.prefix_len) is,
     )
 
--- the payloads of a group have networks of one length
-group_pairs : (vrps group : List Payload) (n : Network) → IsGroup vrps n group → AreLongestFirst group
-group_pairs vrps group n is i j d l m =
-    omega (
-      arith,
-      ap (λ k. k.prefix_len) (same i d (omega (arith, l, m))),
-      ap (λ k. k.prefix_len) (same j d m),
-    )
-  where
-    same : (k : ℕ) (d : Payload) → k < length group → network_of (get_or group k d) ≡ n
-    same k d l = ((is (get_or group k d)).0 (k, l, at_place group k (get_or group k d) d l)).1
+-- a network of the table that contains the address, and is longer than the next place, is one of the places so far
+longer_before : (routes all : List (Route ℕ)) (x : Address) → AreMatches routes x all → (places : List Place)
+    (next : Place) → map ip_route places ≡ take (length places) all → length places < length all
+    → ip_route next ≡ get_or all (length places) (ip_route next) → (r : Route ℕ) → Contains routes r → InBlock r.0 x
+    → (ip_network next.now.0).prefix_len < r.0.prefix_len → (b : Place) × Contains places b × (ip_route b ≡ r)
+longer_before routes all x matches places next so_far inside is r c holds long =
+    let (k, l, e) = (matches.members r).1 (c, holds) in
+    elim (cases_lt k (length places)) [
+      | inl before ↦ place_of places r (subst (λ z. Contains z r) (sym so_far) (
+        k,
+        omega (arith, before, inside, length-take (length places) all),
+        get_or-take (length places) all k r before ∙ e,
+      ))
+      | inr from ↦ absurd (elim (cases_lt (length places) k) [
+        | inl later ↦ omega (
+          arith,
+          matches.longest_first (length places) k r later l,
+          ap (λ (q : Route ℕ). q.0.prefix_len) e,
+          ap (λ (q : Route ℕ). q.0.prefix_len) (is ∙ at_place all (length places) (ip_route next) r inside),
+          long,
+        )
+        | inr up_to ↦
+            let same : k ≡ length places = omega (arith, from, up_to) in
+            omega (
+              arith,
+              ap (λ (q : Route ℕ). q.0.prefix_len)
+                  (is ∙ at_place all (length places) (ip_route next) r inside
+                  ∙ ap (λ j. get_or all j r) (sym same) ∙ e),
+              long,
+            )
+      ])
+    ]
 
 -- the payloads of the network of the next place are added if it is not longer than the route
-pub covering_more : (vrps group found : List Payload) (n : Network) (places : List Place) (next : Place)
+pub covering_more : (vrps group found : List Payload) (routes all : List (Route ℕ)) → AreLasts vrps routes
+    → (n : Network) → AreMatches routes (own n) all → (places : List Place) (next : Place)
     → HasCovering vrps n places found → IsGroup vrps (ip_network next.now.0) group
-    → InBlock (ip_network next.now.0) (own n) → (ip_network next.now.0).prefix_len ≤ n.prefix_len
-    → ((b : Place) → Contains places b → (ip_network next.now.0).prefix_len ≤ (ip_network b.now.0).prefix_len)
+    → Contains routes (ip_route next) → InBlock (ip_network next.now.0) (own n)
+    → (ip_network next.now.0).prefix_len ≤ n.prefix_len
+    → map ip_route places ≡ take (length places) all → length places < length all
+    → ip_route next ≡ get_or all (length places) (ip_route next)
     → HasCovering vrps n (places ++ next ∷ []) (found ++ group)
-covering_more vrps group found n places next has is holds short longer = record {
-  sound = λ vrp c. elim (Contains-append_cases found group vrp c) [
-    | inl old ↦ has.sound vrp old
-    | inr new ↦
-        let of = (is vrp).0 new in (
-          of.0,
-          record {
-            no_longer = subst (λ k. k.prefix_len ≤ n.prefix_len) (sym of.1) short;
-            same_bits = subst (λ k. InBlock k (own n)) (sym of.1) holds;
+covering_more vrps group found routes all lasts n matches places next has is there holds short so_far inside at =
+    record {
+      limit = m.prefix_len;
+      is = inr (next, Contains-push places next, refl);
+      above = λ b c low. elim (Contains-push_cases places next b c) [
+        | inl before ↦ omega (arith, shorter b before)
+        | inr e ↦ omega (arith, ap (λ z. (ip_network z.now.0).prefix_len) e)
+      ];
+      whole = λ rest below.
+          subst (AreCovering vrps n) (sym (append_assoc found group rest))
+          (has.whole (group ++ rest) (more_below vrps group rest n m.prefix_len has.limit low those below gap));
+    }
+  where
+    m : Network
+    m = ip_network next.now.0
+
+    shorter : (b : Place) → Contains places b → m.prefix_len < (ip_network b.now.0).prefix_len
+    shorter = is_shorter routes all (own n) matches places next so_far inside at
+
+    low : m.prefix_len < has.limit
+    low = elim has.is [
+      | inl whole ↦ omega (arith, whole, short)
+      | inr (b, c, e) ↦ omega (arith, e, shorter b c)
+    ]
+
+    cut : IsTruncated m
+    cut =
+        let last = lasts.lasts (ip_route next) there in
+        let some = payload_at vrps (ip_route next).1 last.within in
+        subst IsTruncated (sym (ap network_of (some.2 some.0)) ∙ last.is some.0) some.0.truncated
+
+    those : AreThose (IsCoveredAt n m.prefix_len) vrps group
+    those = those_same (λ vrp. network_of vrp ≡ m) (IsCoveredAt n m.prefix_len) vrps group
+        (λ vrp c. (
+          λ same. record {
+            covered = record {
+              no_longer = omega (arith, ap (λ k. k.prefix_len) same, short);
+              same_bits = subst (λ k. InBlock k (own n)) (sym same) holds;
+            };
+            of_length = ap (λ k. k.prefix_len) same;
           },
-        )
-  ];
-  complete = λ b c vrp there same covered. elim (Contains-push_cases places next b c) [
-    | inl before ↦ Contains-append_left found group vrp (has.complete b before vrp there same covered)
-    | inr e ↦ Contains-append_right found group vrp
-        ((is vrp).1 (there, same ∙ ap (λ z. ip_network z.now.0) (sym e)))
-  ];
-  of_places = λ vrp c. elim (Contains-append_cases found group vrp c) [
-    | inl old ↦
-        let (b, at, e) = has.of_places vrp old in (b, Contains-append_left places (next ∷ []) b at, e)
-    | inr new ↦ (next, Contains-push places next, ((is vrp).0 new).1)
-  ];
-  longest_first = pairs_append
-      (λ vrp later. (ip_network later.network).prefix_len ≤ (ip_network vrp.network).prefix_len) found group
-      has.longest_first (group_pairs vrps group (ip_network next.now.0) is)
-      (λ vrp later old new.
-      let (b, at, e) = has.of_places vrp old in
-      subst₂ (λ k m. k.prefix_len ≤ m.prefix_len) (sym ((is later).0 new).1) (sym e) (longer b at));
-}
+          λ h. same_at (own n) (network_of vrp) m vrp.truncated cut h.covered.same_bits holds h.of_length,
+        ))
+        is
+
+    gap : (vrp : Payload) → Contains vrps vrp → IsCovered n vrp → m.prefix_len < (network_of vrp).prefix_len
+        → has.limit ≤ (network_of vrp).prefix_len
+    gap vrp c covered long = elim (cases_lt (network_of vrp).prefix_len has.limit) [
+      | inr reached ↦ reached
+      | inl between ↦ absurd (lasts.reached vrp c (λ r d same.
+          let (b, e, is_r) = longer_before routes all (own n) matches places next so_far inside at r d
+          (subst (λ k. InBlock k (own n)) (sym same) covered.same_bits)
+          (omega (arith, ap (λ k. k.prefix_len) same, long)) in
+          let of_b : (ip_network b.now.0).prefix_len ≡ (network_of vrp).prefix_len
+          = ap (λ (q : Route ℕ). q.0.prefix_len) is_r ∙ ap (λ k. k.prefix_len) same in
+          omega (arith, has.above b e (omega (arith, of_b, covered.no_longer)), of_b, between)))
+    ]
 
 -- no payload of a longer network covers the route
 pub covering_same : (vrps found : List Payload) (n : Network) (places : List Place) (next : Place)
     → HasCovering vrps n places found → ((ip_network next.now.0).prefix_len ≤ n.prefix_len → ⊥)
     → HasCovering vrps n (places ++ next ∷ []) found
 covering_same vrps found n places next has long = record {
-  sound = has.sound;
-  complete = λ b c vrp there same covered. elim (Contains-push_cases places next b c) [
-    | inl before ↦ has.complete b before vrp there same covered
-    | inr e ↦ absurd (long (subst (λ k. k.prefix_len ≤ n.prefix_len)
-        (same ∙ ap (λ z. ip_network z.now.0) (sym e)) covered.no_longer))
+  limit = has.limit;
+  is = elim has.is [
+    | inl whole ↦ inl whole
+    | inr (b, c, e) ↦ inr (b, Contains-append_left places (next ∷ []) b c, e)
   ];
-  of_places = λ vrp c.
-      let (b, at, e) = has.of_places vrp c in (b, Contains-append_left places (next ∷ []) b at, e);
-  longest_first = has.longest_first;
+  above = λ b c low. elim (Contains-push_cases places next b c) [
+    | inl before ↦ has.above b before low
+    | inr e ↦ absurd (long (subst (λ z. (ip_network z.now.0).prefix_len ≤ n.prefix_len) (sym e) low))
+  ];
+  whole = has.whole;
 }
 
--- after the whole walk the list has exactly the payloads that cover the route
+-- before the walk nothing is found
+pub covering_start : (vrps : List Payload) (n : Network) → HasCovering vrps n [] []
+covering_start vrps n = record {
+  limit = n.prefix_len + 1;
+  is = inl refl;
+  above = λ b c low. absurd (contains_nil b c);
+  whole = λ shorter h. h;
+}
+
+-- after the whole walk the list is whole
 pub covering_all : (vrps : List Payload) (routes : List (Route ℕ)) → AreLasts vrps routes → (n : Network)
     (places : List Place) → AreMatches routes (own n) (map ip_route places) → (found : List Payload)
-    → HasCovering vrps n places found → (vrp : Payload)
-    → Contains found vrp ↔ (Contains vrps vrp × IsCovered n vrp)
-covering_all vrps routes lasts n places matches found has vrp = (
-  has.sound vrp,
-  λ (there, covered). elim (find places (network_of vrp)) [
-    | inl (b, c, same) ↦ has.complete b c vrp there same covered
-    | inr none ↦ absurd (lasts.reached vrp there (λ r c same.
-        let at = place_of places r ((matches.members r).1
-        (c, subst (λ k. InBlock k (own n)) (sym same) covered.same_bits)) in
-        none at.0 at.1 (sym same ∙ ap (λ z. z.0) (sym at.2))))
-  ],
-)
+    → HasCovering vrps n places found → AreCovering vrps n found
+covering_all vrps routes lasts n places matches found has =
+    subst (AreCovering vrps n) (append-nil found) (has.whole [] (none_below vrps n has.limit none))
+  where
+    none : (vrp : Payload) → Contains vrps vrp → IsCovered n vrp → has.limit ≤ (network_of vrp).prefix_len
+    none vrp c covered = elim (cases_lt (network_of vrp).prefix_len has.limit) [
+      | inr reached ↦ reached
+      | inl between ↦ absurd (lasts.reached vrp c (λ r d same.
+          let (b, e, is_r) = place_of places r ((matches.members r).1
+          (d, subst (λ k. InBlock k (own n)) (sym same) covered.same_bits)) in
+          let of_b : (ip_network b.now.0).prefix_len ≡ (network_of vrp).prefix_len
+          = ap (λ (q : Route ℕ). q.0.prefix_len) is_r ∙ ap (λ k. k.prefix_len) same in
+          omega (arith, has.above b e (omega (arith, of_b, covered.no_longer)), of_b, between)))
+    ]

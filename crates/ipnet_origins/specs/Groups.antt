@@ -1,10 +1,11 @@
 -- Payloads in the order of their networks: the payloads of one network are neighbours, a group. A table promises
--- `AreInOrder` of its payloads; only private contracts use the others.
-use Rattle.std.specs.Prelude.{◌≡◌, ◌≢◌, ℕ, ◌<◌, ◌≤◌, ◌↔◌, List, length, get_or, Contains}
+-- `AreInOrder` and `AreRanked` of its payloads; only private contracts use the others.
+use Rattle.std.specs.Prelude.{◌≡◌, ◌≢◌, ℕ, ◌+◌, ◌*◌, ◌<◌, ◌≤◌, List, length, get_or, Contains}
 use Rattle.ipnet_base.specs.Network.{Network, IsBefore}
 use Rattle.ipnet.specs.declared.net.IpNet.{IpNet}
 use Rattle.ipnet.specs.NetworkOf.{ip_network}
 use Rattle.ipnet_routes.specs.Routes.{Route}
+use Rattle.ipnet_origins.specs.Origins.{AreThose}
 use Rattle.ipnet_origins.specs.declared.payload.Payload.{Payload}
 
 -- the network of a payload
@@ -16,6 +17,21 @@ network_of vrp = ip_network vrp.network
 abbrev pub AreInOrder : List Payload → Type 0
 AreInOrder vrps = (i j : ℕ) (d : Payload) → i ≤ j → j < length vrps
     → ¬ (IsBefore (network_of (get_or vrps j d)) (network_of (get_or vrps i d)))
+
+-- The rank of a payload: payloads of one network are sorted by AS number, and then by greatest length.
+abbrev pub rank_of : Payload → ℕ
+rank_of vrp = vrp.asn * 256 + vrp.max_len
+
+-- The payloads of each network are in the order of their ranks.
+-- Example: of 192.0.2.0/24: AS 1 with 24, AS 1 with 25, AS 2 with 24.
+abbrev pub AreRanked : List Payload → Type 0
+AreRanked vrps = (i j : ℕ) (d : Payload) → i ≤ j → j < length vrps
+    → network_of (get_or vrps i d) ≡ network_of (get_or vrps j d)
+    → rank_of (get_or vrps i d) ≤ rank_of (get_or vrps j d)
+
+-- the payloads have one network
+abbrev pub AreOfOne : List Payload → Type 0
+AreOfOne vrps = (vrp other : Payload) → Contains vrps vrp → Contains vrps other → network_of vrp ≡ network_of other
 
 -- the index is the last of the payloads of the network
 pub record IsLastOf (vrps : List Payload) (n : Network) (place : ℕ) : Type 0 where
@@ -37,7 +53,7 @@ pub record IsStartOf (vrps : List Payload) (n : Network) (start last : ℕ) : Ty
 
 -- the payloads of the network
 abbrev pub IsGroup : List Payload → Network → List Payload → Type 0
-IsGroup vrps n group = (vrp : Payload) → Contains group vrp ↔ (Contains vrps vrp × (network_of vrp ≡ n))
+IsGroup vrps n group = AreThose (λ vrp. network_of vrp ≡ n) vrps group
 
 -- the routes of the payloads, each with the index of the payload
 pub record ArePlaces (vrps : List Payload) (routes : List (IpNet × ℕ)) : Type 0 where

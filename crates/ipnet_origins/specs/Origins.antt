@@ -1,7 +1,8 @@
 -- Validation of the origin of a route by validated ROA payloads (VRPs): RFC 6811, section 2; RFC 6483, section 4;
--- RFC 7607. A route has a network and an origin, the AS number that announced it. The origin `None` is the value "NONE"
--- of RFC 6811: the path ends with a set of AS numbers, so no single AS is the origin.
-use Rattle.std.specs.Prelude.{◌≡◌, ◌≢◌, ℕ, ◌≤◌, Option, Some, List, Any, AllPairs}
+-- RFC 7607. A route has a network and an origin, the AS number that announced it. If the path is empty, or ends with a
+-- segment of a confederation, the origin is the speaker's own AS number. The origin `None` is the value "NONE" of RFC
+-- 6811: the path ends with a set of AS numbers, so no single AS is the origin.
+use Rattle.std.specs.Prelude.{◌≡◌, ◌≢◌, ◌⊎◌, ℕ, zero, suc, ◌+◌, ◌≤◌, Option, Some, List, [], ◌∷◌, ◌++◌, Any, AllPairs}
 use Rattle.ipnet_base.specs.Network.{Network, InBlock}
 use Rattle.ipnet.specs.NetworkOf.{ip_network}
 use Rattle.ipnet.specs.NetworkParts.{own_address}
@@ -31,7 +32,8 @@ pub record IsMatched (route : Network) (origin : Option ℕ) (vrp : Payload) : T
 -- "Valid: At least one VRP Matches the Route Prefix. Invalid: At least one VRP Covers the Route Prefix, but no VRP
 -- Matches it. NotFound: No VRP Covers the Route Prefix." (RFC 6811, section 2)
 -- Example: by 192.0.2.0/24 with greatest length 24 and AS 64496, 192.0.2.0/24 of AS 64496 is valid, 192.0.2.0/25 of
--- AS 64496 and 192.0.2.0/24 of AS 64497 are invalid, and 192.0.0.0/16 of AS 64496 is not found.
+-- AS 64496 and 192.0.2.0/24 of AS 64497 are invalid, and 192.0.0.0/16 of AS 64496 is not found. By 192.0.2.0/24 with
+-- AS 0 and 192.0.2.0/24 with AS 64496, each with greatest length 24, 192.0.2.0/24 of AS 64496 is valid.
 abbrev pub IsValidity : List Payload → Network → Option ℕ → Validity → Type 0
 IsValidity vrps route origin Valid = Any (IsMatched route origin) vrps
 IsValidity vrps route origin Invalid = Any (IsCovered route) vrps × ¬ (Any (IsMatched route origin) vrps)
@@ -42,3 +44,29 @@ IsValidity vrps route origin NotFound = ¬ (Any (IsCovered route) vrps)
 abbrev pub AreLongestFirst : List Payload → Type 0
 AreLongestFirst vrps =
     AllPairs (λ vrp later. (ip_network later.network).prefix_len ≤ (ip_network vrp.network).prefix_len) vrps
+
+-- The payloads of the list with the property, in order, each as often as the list has it.
+-- Example: of a, b, a, c with the property of not being b: a, a, c.
+abbrev pub AreThose : (Payload → Type 0) → List Payload → List Payload → Type 0
+AreThose Is [] those = those ≡ []
+AreThose Is (vrp ∷ vrps) those = (Is vrp × (more : List Payload) × (those ≡ vrp ∷ more) × AreThose Is vrps more)
+    ⊎ ((¬ (Is vrp)) × AreThose Is vrps those)
+
+-- The payload covers the route, and its network has this length.
+pub record IsCoveredAt (route : Network) (length : ℕ) (vrp : Payload) : Type 0 where
+  pub covered : IsCovered route vrp
+  pub of_length : (ip_network vrp.network).prefix_len ≡ length
+
+-- The payloads that cover the route and whose networks are shorter than the limit, those of longer networks first.
+-- Payloads of one network are in the order of the list, each as often as in the list.
+abbrev pub AreCoveringBelow : List Payload → Network → ℕ → List Payload → Type 0
+AreCoveringBelow vrps route zero covering = covering ≡ []
+AreCoveringBelow vrps route (suc length) covering = (here shorter : List Payload)
+    × AreThose (IsCoveredAt route length) vrps here × AreCoveringBelow vrps route length shorter
+    × (covering ≡ here ++ shorter)
+
+-- The payloads that cover the route: the whole list of them, in this order.
+-- Example: of 192.0.0.0/16, 192.0.2.0/24 with 24, 192.0.2.0/24 with 25 and 192.0.2.0/25, for the route 192.0.2.0/24:
+-- 192.0.2.0/24 with 24, 192.0.2.0/24 with 25 and 192.0.0.0/16.
+abbrev pub AreCovering : List Payload → Network → List Payload → Type 0
+AreCovering vrps route covering = AreCoveringBelow vrps route (route.prefix_len + 1) covering

@@ -1,8 +1,10 @@
 //! Payloads in the order of their networks, and the payloads of one network among them.
 ghost use Rattle.std.specs.Prelude.{◌≡◌, ◌↔◌, IsTrue, Any, IfOk, OnOk, IsPermutation, get_or};
+ghost use Rattle.std.specs.List.Sorted.{IsNonDecreasingBy};
 ghost use Rattle.ipnet_base.specs.Network.{Network};
 ghost use Rattle.ipnet.specs.NetworkOf.{ip_network};
 ghost use Rattle.ipnet_origins.specs.Groups.{network_of, AreInOrder, IsLastOf, IsStartOf, IsGroup, ArePlaces};
+ghost use Rattle.ipnet_origins.specs.Groups.{rank_of, AreRanked, AreOfOne};
 ghost use Rattle.ipnet_origins.specs.Origins.{IsMatched};
 
 use crate::payload::Payload;
@@ -10,13 +12,14 @@ use ipnet::IpNet;
 use ipnet::net::laws::ip_nets_compare_by_network;
 use std::alloc::{AllocError, Global};
 
-/// Puts the payloads in the order of their networks.
+/// Puts the payloads in the order of their networks, and payloads of one network in the order of their ranks.
 pub(crate) fn sort(payloads: &mut Vec<Payload>) -> Result<(), AllocError>
     ensures order { OnOk result (AreInOrder payloads.new.items) }
+    ensures ranked { OnOk result (AreRanked payloads.new.items) }
     ensures permutation { IsPermutation payloads.old.items payloads.new.items }
 {
     ip_nets_compare_by_network();
-    payloads.sort_by_key(|payload| payload.network)?;
+    payloads.sort_by_key(|payload| (payload.network, payload.rank()))?;
     Ok(())
 }
 
@@ -39,40 +42,50 @@ fn is_of(payload: &Payload, network: &IpNet) -> bool
     payload.network == *network
 }
 
-/// Returns the index of the first payload of the network; `last` is the index of the last one.
+/// Returns the index of the first payload of the network; `last` is the index of the last one. Most networks have one
+/// payload, for which no search is made.
 fn start_of(payloads: &[Payload], last: usize, network: &IpNet) -> usize
     requires order { AreInOrder payloads.now }
     requires last { IsLastOf payloads.now (ip_network network.now) last }
     ensures { IsStartOf payloads.now (ip_network network.now) result last }
 {
-    let mut start = last;
-    while start > 0 {
-        if !is_of(&payloads[start - 1], network) {
-            return start;
-        }
-        start -= 1;
+    if last == 0 {
+        return 0;
     }
-    0
+    if !is_of(&payloads[last - 1], network) {
+        return last;
+    }
+    ip_nets_compare_by_network();
+    payloads.partition_point(|payload| payload.network.cmp(network).is_lt())
 }
 
-/// Returns the payloads of the network; `last` is the index of the last one.
+/// Returns the payloads of the network, in the order of their ranks; `last` is the index of the last one.
 pub(crate) fn group<'a>(payloads: &'a [Payload], last: usize, network: &IpNet) -> &'a [Payload]
     requires order { AreInOrder payloads.now }
+    requires ranked { AreRanked payloads.now }
     requires last { IsLastOf payloads.now (ip_network network.now) last }
-    ensures { IsGroup payloads.now (ip_network network.now) result.now }
+    ensures group { IsGroup payloads.now (ip_network network.now) result.now }
+    ensures one { AreOfOne result.now }
+    ensures ranked { IsNonDecreasingBy rank_of result.now }
 {
     let start = start_of(payloads, last, network);
     &payloads[start..last + 1]
 }
 
-/// Returns whether one of the payloads matches the route with this network and this origin.
+/// Returns whether one of the payloads of a network matches the route with this network and this origin. It looks only
+/// at the payload of the origin that has the greatest length.
 pub(crate) fn any_matches(payloads: &[Payload], network: &IpNet, origin: Option<u32>) -> bool
+    requires one { AreOfOne payloads.now }
+    requires ranked { IsNonDecreasingBy rank_of payloads.now }
     ensures { IsTrue result ↔ Any (IsMatched (ip_network network.now) origin) payloads.now }
 {
-    for payload in payloads {
-        if payload.matches(network, origin) {
-            return true;
-        }
+    let Some(asn) = origin else {
+        return false;
+    };
+    let most = u64::from(asn) * 256 + 255;
+    let end = payloads.partition_point(|payload| payload.rank() <= most);
+    if end == 0 {
+        return false;
     }
-    false
+    payloads[end - 1].matches(network, origin)
 }

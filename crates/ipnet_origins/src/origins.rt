@@ -1,9 +1,9 @@
 //! Tables of validated ROA payloads, and the validity of the origin of a route.
-ghost use Rattle.std.specs.Prelude.{◌≡◌, ◌↔◌, IsTrue, Any, Contains, IfOk, IsOk, IsPermutation};
+ghost use Rattle.std.specs.Prelude.{◌≡◌, ◌↔◌, Any, Contains, IfOk, IsOk, IsPermutation};
 ghost use Rattle.ipnet.specs.NetworkOf.{ip_network};
 ghost use Rattle.ipnet_routes.specs.RoutesOf.{routes_of};
-ghost use Rattle.ipnet_origins.specs.Groups.{AreInOrder, AreLasts};
-ghost use Rattle.ipnet_origins.specs.Origins.{IsCovered, IsMatched};
+ghost use Rattle.ipnet_origins.specs.Groups.{AreInOrder, AreRanked, AreLasts};
+ghost use Rattle.ipnet_origins.specs.Origins.{IsCovered};
 ghost use Rattle.ipnet_origins.specs.declared.payload.Payload.{Payload};
 
 use crate::groups::{any_matches, group, places, sort};
@@ -35,12 +35,13 @@ pub struct OriginTable {
     payloads: Vec<Payload>,
     lasts: RouteTable<usize>,
     ghost order: { AreInOrder payloads.items },
+    ghost ranked: { AreRanked payloads.items },
     ghost reach: { AreLasts payloads.items (routes_of lasts) },
 }
 
 impl OriginTable {
     ghost use Rattle.ipnet_origins.specs.OriginsOf.{payloads_of};
-    ghost use Rattle.ipnet_origins.specs.Origins.{IsValidity, AreLongestFirst};
+    ghost use Rattle.ipnet_origins.specs.Origins.{IsValidity, AreCovering, AreLongestFirst};
 
     /// Returns the table of the payloads, in any order. They may overlap and repeat. Fails only if memory runs out.
     ///
@@ -58,7 +59,8 @@ impl OriginTable {
     }
 
     /// Returns the payloads of the table, in the order of their networks: IPv4 before IPv6, then by number, then by
-    /// length. Allocates nothing.
+    /// length. Payloads of one network are in the order of their AS numbers, and then of their greatest lengths.
+    /// Allocates nothing.
     ///
     /// ```text
     /// the table of 198.51.100.0/24 with 24 and AS 64497, 192.0.2.0/24 with 25 and AS 64496: the second, then the first
@@ -66,35 +68,16 @@ impl OriginTable {
     pub fn payloads(&self) -> &[Payload]
         ensures payloads { result.now ≡ payloads_of self.now }
         ensures order { AreInOrder (payloads_of self.now) }
+        ensures ranked { AreRanked (payloads_of self.now) }
     {
         self.payloads.as_slice()
-    }
-
-    /// Returns whether a payload covers the network.
-    fn is_covered(&self, network: &IpNet) -> bool
-        ensures { IsTrue result ↔ Any (IsCovered (ip_network network.now)) (payloads_of self.now) }
-    {
-        self.lasts.covering(network).is_some()
-    }
-
-    /// Returns whether a payload matches the route with this network and this origin.
-    fn is_matched(&self, network: &IpNet, origin: Option<u32>) -> bool
-        ensures { IsTrue result ↔ Any (IsMatched (ip_network network.now) origin) (payloads_of self.now) }
-    {
-        let payloads = self.payloads.as_slice();
-        for route in self.lasts.matches(&network.addr()) {
-            if any_matches(group(payloads, route.1, &route.0), network, origin) {
-                return true;
-            }
-        }
-        false
     }
 
     /// Returns the validity of a route with this network and this origin. If the path ends with a set of AS numbers,
     /// the route has no single origin, and `origin` is `None`. Host bits of the network do not matter.
     ///
-    /// Allocates nothing. The time is O(log n) for n payloads, and grows with the number of payloads that contain the
-    /// network's address.
+    /// Allocates nothing. For n payloads, the time is the time of `RouteTable::longest_match`, and O(log n) for each
+    /// network of the table that contains the network's address. The search in the payloads of one network is binary.
     ///
     /// ```text
     /// of 192.0.2.0/24 with greatest length 25 and AS 64496, and 198.51.100.0/24 with greatest length 24 and AS 0:
@@ -107,17 +90,26 @@ impl OriginTable {
     pub fn validity(&self, network: &IpNet, origin: Option<u32>) -> Validity
         ensures { IsValidity (payloads_of self.now) (ip_network network.now) origin result }
     {
-        if !self.is_covered(network) {
-            return Validity::NotFound;
+        let payloads = self.payloads.as_slice();
+        let mut is_covered = false;
+        for route in self.lasts.matches(&network.addr()) {
+            if route.0.prefix_len() <= network.prefix_len() {
+                if any_matches(group(payloads, route.1, &route.0), network, origin) {
+                    return Validity::Valid;
+                }
+                is_covered = true;
+            }
         }
-        if self.is_matched(network, origin) {
-            return Validity::Valid;
+        if is_covered {
+            Validity::Invalid
+        } else {
+            Validity::NotFound
         }
-        Validity::Invalid
     }
 
-    /// Returns the payloads that cover a route with this network, the longest networks first. Fails only if
-    /// memory runs out; an empty list needs none.
+    /// Returns the payloads that cover a route with this network, the longest networks first. Payloads of one network
+    /// are in the order of `payloads`, and each comes as often as the table has it. Fails only if memory runs out; an
+    /// empty list needs none.
     ///
     /// ```text
     /// of 192.0.2.0/24 with 25 and AS 64496, 192.0.0.0/16 with 16 and AS 64497, 192.0.2.0/25 with 25 and AS 64496:
@@ -125,6 +117,8 @@ impl OriginTable {
     /// ```
     pub fn covering(&self, alloc: Global, network: &IpNet) -> Result<Vec<Payload>, AllocError>
         ensures empty { ¬ (Any (IsCovered (ip_network network.now)) (payloads_of self.now)) → IsOk result }
+        ensures covering { IfOk result (λ covering. AreCovering (payloads_of self.now) (ip_network network.now)
+            covering.items) }
         ensures members { IfOk result (λ covering. (vrp : Payload) → Contains covering.items vrp
             ↔ (Contains (payloads_of self.now) vrp × IsCovered (ip_network network.now) vrp)) }
         ensures longest_first { IfOk result (λ covering. AreLongestFirst covering.items) }

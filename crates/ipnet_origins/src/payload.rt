@@ -36,6 +36,7 @@ pub struct Payload {
 }
 
 impl Payload {
+    ghost use Rattle.ipnet_origins.specs.Groups.{rank_of};
     ghost use Rattle.ipnet_origins.specs.Origins.{IsCovered, IsMatched};
 
     /// Returns the payload of the network, the greatest prefix length and the AS number. Host bits of the network do
@@ -96,7 +97,8 @@ impl Payload {
         self.max_len
     }
 
-    /// Returns the number of the AS. If it is 0, no AS may announce the network.
+    /// Returns the number of the AS. If it is 0, this payload covers routes and matches none. Another payload may match
+    /// them.
     ///
     /// ```text
     /// 192.0.2.0/24 with greatest length 26 and AS 64496: 64496
@@ -105,6 +107,13 @@ impl Payload {
         ensures { result ≡ self.now.asn }
     {
         self.asn
+    }
+
+    /// Returns the rank of the payload, by which payloads of one network are sorted.
+    pub(crate) fn rank(&self) -> u64
+        ensures { result ≡ rank_of self.now }
+    {
+        u64::from(self.asn) * 256 + u64::from(self.max_len)
     }
 
     /// Returns whether the payload covers the route: the payload's network contains the route's network. Allocates

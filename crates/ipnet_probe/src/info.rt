@@ -2,8 +2,8 @@
 use crate::{Answer, Question, show};
 use ipnet::{IpAddr, IpNet};
 use ipnet_info::{
-    address_count, decimal_text, first_host, hexadecimal_text, host_count, last_host,
-    reverse_zones, written_out, zone_name,
+    FactsForm, address_count, decimal_text, facts_text, first_host, hexadecimal_text, host_count,
+    last_host, reverse_zones, written_out, zone_name,
 };
 use std::alloc::{AllocError, Global};
 
@@ -22,6 +22,8 @@ pub fn ask(alloc: Global, question: Question<'_>) -> Answer {
         "written_out" => show_written_out(alloc, &network.addr())?,
         "zone_name" => zone_name(alloc, &network)?,
         "reverse_zones" => show_zones(alloc, &network)?,
+        "facts_text" => show(alloc, facts_text(alloc, &network, FactsForm::Lines)?)?,
+        "facts_json" => show(alloc, facts_text(alloc, &network, FactsForm::Json)?)?,
         _ => return Ok(None),
     };
     Ok(Some(text))

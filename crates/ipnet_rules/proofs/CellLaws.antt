@@ -1,5 +1,5 @@
 -- The pieces of a rule's addresses, and the cuts at their ends.
-use Rattle.std.proofs.Common.{◌≡◌, ℕ, ◌+◌, ◌-◌, ◌^◌, ◌<◌, ◌≤◌, ◌⊎◌, ◌↔◌, List, [], ◌∷◌, ◌++◌, All, Any, Contains}
+use Rattle.std.proofs.Common.{◌≡◌, ℕ, ◌+◌, ◌^◌, ◌<◌, ◌≤◌, ◌⊎◌, ◌↔◌, List, [], ◌∷◌, ◌++◌, All, Any, Contains}
 use Rattle.std.proofs.Common.{length}
 use Rattle.std.proofs.Common.{slice_index, take, ltb, leb, true, false, ap, arith, sym, subst, ◌∙◌, inl, inr, get_or}
 use Rattle.std.proofs.Common.{zero, suc}
@@ -21,7 +21,7 @@ use Rattle.ipnet_rules.specs.declared.cells.Span.{Span}
 use Rattle.ipnet_rules.specs.declared.cells.Cells.{Cells}
 use Rattle.ipnet_rules.specs.Cells.{HasNumber, IsInPiece, ArePieces, HasEndsOf, HasPieceAdded, HasEndsAdded, IsInCell}
 use Rattle.ipnet_rules.specs.Cells.{AreCutsOf}
-use Rattle.ipnet_rules.specs.Cells.{AreCuts, IsSpanOf, HasOwnerBefore, HasSpanAdded, HasOwnersAdded}
+use Rattle.ipnet_rules.specs.Cells.{AreCuts, IsSpanOf, AreNexts, HasSpanAdded, HasOwnersAdded}
 use Rattle.ipnet_rules.proofs.VerdictLaws.{any_nil, any_cons, any_push}
 
 -- The pieces so far and the ranges that are left have the addresses.
@@ -283,67 +283,66 @@ span_from_points cuts p s start end within = record {
   within = within;
 }
 
--- the loop ends with the span, or the span has no cell
-pub span_all : (owners : List ℕ) (start end cell : ℕ) (old new : List ℕ) → (cell ≤ end) ⊎ (cell ≡ start)
-    → end ≤ cell → HasSpanAdded owners start cell old new → HasSpanAdded owners start end old new
-span_all owners start end cell old new within ended h owner = (
-  λ c. elim ((h owner).0 c) [
-    | inl first ↦ inl first
-    | inr some ↦ elim within [
-      | inl le ↦ inr (some.0, some.1, omega (arith, some.2, le), some.3)
-      | inr none ↦ absurd (let wrong : ⊥ = omega (arith, some.1, some.2, none) in wrong)
-    ]
+-- Each cell from this one on has a later one, up to which all cells have its owner.
+pub record AreNextsFrom (start : ℕ) (owners nexts : List ℕ) : Type 0 where
+  pub within : start ≤ length owners
+  pub count : length nexts ≡ length owners
+  pub later : (cell : ℕ) → start ≤ cell → cell < length owners → cell < slice_index nexts cell
+  pub same : (cell other : ℕ) → start ≤ cell → cell < length owners → cell ≤ other → other < slice_index nexts cell
+      → slice_index owners other ≡ slice_index owners cell
+
+-- The list has what the old one has, and the owners of the cells of the span that are below the cell.
+abbrev pub AreAddedTo : List ℕ → Span → ℕ → List ℕ → List ℕ → Type 0
+AreAddedTo owners span cell old now = (owner : ℕ) → Contains now owner ↔ (Contains old owner
+    ⊎ ((k : ℕ) × (span.start ≤ k) × (k < span.end) × (k < cell) × (slice_index owners k ≡ owner)))
+
+-- no cell of the span is below its start
+pub added_none : (owners : List ℕ) (span : Span) (old : List ℕ) → AreAddedTo owners span span.start old old
+added_none owners span old owner = (
+  λ c. inl c,
+  λ a. elim a [
+    | inl first ↦ first
+    | inr some ↦ absurd (let wrong : ⊥ = omega (arith, some.1, some.3) in wrong)
   ],
-  λ a. (h owner).1 (elim a [
-    | inl first ↦ inl first
-    | inr some ↦ inr (some.0, some.1, omega (arith, some.2, ended), some.3)
-  ]),
 )
 
--- the owners of a span, one cell more
-pub span_more : (owners : List ℕ) (start cell : ℕ) (old now new : List ℕ) → start ≤ cell
-    → HasSpanAdded owners start cell old now → new ≡ now ++ slice_index owners cell ∷ []
-    → HasSpanAdded owners start (cell + 1) old new
-span_more owners start cell old now new le h is owner = (
+-- the owner of a cell is added, and all cells up to the next one have it
+pub added_next : (owners nexts : List ℕ) (span : Span) (cell next : ℕ) (old now new : List ℕ)
+    → AreNexts owners nexts → cell < length owners → span.start ≤ cell → cell < span.end
+    → next ≡ slice_index nexts cell → AreAddedTo owners span cell old now
+    → new ≡ now ++ slice_index owners cell ∷ [] → AreAddedTo owners span next old new
+added_next owners nexts span cell next old now new nexts_are inside from less next_is h is owner = (
   λ c. elim (Contains-push_cases now (slice_index owners cell) owner (subst (λ l. Contains l owner) is c)) [
     | inl before ↦ elim ((h owner).0 before) [
       | inl first ↦ inl first
-      | inr some ↦ inr (some.0, some.1, omega (arith, some.2), some.3)
+      | inr some ↦ inr (some.0, some.1, some.2, omega (arith, some.3, next_is, nexts_are.later cell inside), some.4)
     ]
-    | inr same ↦ inr (cell, le, omega arith, same)
+    | inr same ↦ inr (cell, from, less, omega (arith, next_is, nexts_are.later cell inside), same)
   ],
   λ a. subst (λ l. Contains l owner) (sym is) (elim a [
     | inl first ↦ Contains-append_left now (slice_index owners cell ∷ []) owner ((h owner).1 (inl first))
     | inr some ↦ elim (cases_lt some.0 cell) [
-      | inl less ↦ Contains-append_left now (slice_index owners cell ∷ []) owner
-          ((h owner).1 (inr (some.0, some.1, less, some.3)))
-      | inr not ↦ let same : some.0 ≡ cell = omega (arith, some.2, not) in
-          subst (Contains (now ++ slice_index owners cell ∷ [])) (ap (slice_index owners) (sym same) ∙ some.3)
+      | inl below ↦ Contains-append_left now (slice_index owners cell ∷ []) owner
+          ((h owner).1 (inr (some.0, some.1, some.2, below, some.4)))
+      | inr not ↦
+          let one = nexts_are.same cell some.0 inside (omega (arith, not)) (omega (arith, some.3, next_is)) in
+          subst (Contains (now ++ slice_index owners cell ∷ [])) (sym one ∙ some.4)
           (Contains-push now (slice_index owners cell))
     ]
   ]),
 )
 
--- the owners of a span, one cell more, which has the same owner as the cell before it
-pub span_repeat : (owners : List ℕ) (start cell : ℕ) (old now : List ℕ) → HasSpanAdded owners start cell old now
-    → HasOwnerBefore owners start cell → HasSpanAdded owners start (cell + 1) old now
-span_repeat owners start cell old now h before owner = (
+-- all cells of the span are below the cell
+pub added_all : (owners : List ℕ) (span : Span) (cell : ℕ) (old now : List ℕ) → span.end ≤ cell
+    → AreAddedTo owners span cell old now → HasSpanAdded owners span.start span.end old now
+added_all owners span cell old now ended h owner = (
   λ c. elim ((h owner).0 c) [
     | inl first ↦ inl first
-    | inr some ↦ inr (some.0, some.1, omega (arith, some.2), some.3)
+    | inr some ↦ inr (some.0, some.1, some.2, some.4)
   ],
   λ a. (h owner).1 (elim a [
     | inl first ↦ inl first
-    | inr some ↦ elim (cases_lt some.0 cell) [
-      | inl less ↦ inr (some.0, some.1, less, some.3)
-      | inr not ↦ let here : cell ≡ some.0 = omega (arith, some.2, not) in
-          inr (
-            cell - 1,
-            omega (arith, before.after),
-            omega (arith, before.after),
-            before.same ∙ (ap (slice_index owners) here ∙ some.3),
-          )
-    ]
+    | inr some ↦ inr (some.0, some.1, some.2, omega (arith, some.2, ended), some.3)
   ]),
 )
 
@@ -385,13 +384,12 @@ owners_more cells pieces p s old now new count is h added owner = (
 )
 
 -- the owners of one more of the pieces
-pub owners_next_piece : (cells : Cells) (cuts owners : List ℕ) (pieces : List Piece) (i : ℕ) (d : Piece) (s : Span)
-    (old now new : List ℕ) → cuts ≡ cells.cuts.items → owners ≡ cells.owners.items → i < length pieces
+pub owners_next_piece : (cells : Cells) (cuts : List ℕ) (pieces : List Piece) (i : ℕ) (d : Piece) (s : Span)
+    (old now new : List ℕ) → cuts ≡ cells.cuts.items → i < length pieces
     → length cells.owners.items ≡ length cells.cuts.items → IsSpanOf cuts (get_or pieces i d) s
-    → HasOwnersAdded cells (take i pieces) old now → HasSpanAdded owners s.start s.end now new
+    → HasOwnersAdded cells (take i pieces) old now → HasSpanAdded cells.owners.items s.start s.end now new
     → HasOwnersAdded cells (take (i + 1) pieces) old new
-owners_next_piece cells cuts owners pieces i d s old now new cuts_are owners_are within count is h added =
+owners_next_piece cells cuts pieces i d s old now new cuts_are within count is h added =
     subst (λ z. HasOwnersAdded cells z old new) (sym (take_next pieces i d within))
     (owners_more cells (take i pieces) (get_or pieces i d) s old now new count
-    (subst (λ ks. IsSpanOf ks (get_or pieces i d) s) cuts_are is) h
-    (subst (λ os. HasSpanAdded os s.start s.end now new) owners_are added))
+    (subst (λ ks. IsSpanOf ks (get_or pieces i d) s) cuts_are is) h added)

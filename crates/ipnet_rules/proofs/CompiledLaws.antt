@@ -1,6 +1,6 @@
 -- The verdicts of a compiled prefix list: rules that paint the cells of their networks, one after another.
-use Rattle.std.proofs.Common.{◌≡◌, ◌≢◌, ℕ, ◌+◌, ◌-◌, ◌^◌, leb, ◌<◌, ◌≤◌, ◌⊎◌, ◌↔◌, Bool, true, false}
-use Rattle.std.proofs.Common.{List, [], ◌∷◌, ◌++◌, All, Any, Contains, map, length, slice_index, get_or, take}
+use Rattle.std.proofs.Common.{◌≡◌, ◌≢◌, ℕ, ◌+◌, ◌-◌, ◌^◌, leb, ◌<◌, ◌≤◌, ◌↔◌, Bool, true, false}
+use Rattle.std.proofs.Common.{List, [], ◌∷◌, ◌++◌, All, map, length, slice_index, get_or, take}
 use Rattle.std.proofs.Common.{refl, sym, subst, ap, ◌∙◌, inl, inr, arith}
 use Rattle.std.specs.Global.{Vec}
 use Rattle.std.specs.List.Sorted.{IsPartitionPoint}
@@ -12,7 +12,7 @@ use Rattle.std.proofs.lemmas.List.Elements.{Contains-push_cases, Contains-append
 use Rattle.ipnet_base.specs.Address.{Family, Address, IsAddress, address_at, width}
 use Rattle.ipnet_base.specs.Network.{Network, IsNetwork, InBlock, IsLeastOf, IsGreatestOf}
 use Rattle.ipnet_base.proofs.BlockLaws.{block_is_between}
-use Rattle.ipnet_base.proofs.ListLaws.{all_at, at_place, contains_at, contains_nil, any_from_contains}
+use Rattle.ipnet_base.proofs.ListLaws.{all_at, at_place, contains_at, contains_nil}
 use Rattle.ipnet.specs.NetworkOf.{ip_network}
 use Rattle.ipnet.specs.NetworkParts.{network_at}
 use Rattle.ipnet_rules.specs.declared.cells.Painting.{Painting}

@@ -2,12 +2,12 @@
 use Rattle.std.proofs.Common.{◌≡◌, ℕ, ◌-◌, ◌/◌, ◌^◌, ◌<◌, ◌≤◌, ◌⊎◌, ◌↔◌, List, get_or, arith, ap, refl, sym, subst}
 use Rattle.std.proofs.Common.{inl, inr}
 use Rattle.ipnet_base.specs.Address.{Address, IsAddress, width, family_index}
-use Rattle.ipnet_base.specs.Network.{Network, IsNetwork, InBlock, IsTruncated}
-use Rattle.ipnet_base.proofs.BlockLaws.{own, own_in, between_from_block, last_fits}
+use Rattle.ipnet_base.specs.Network.{Network, IsNetwork, InBlock}
+use Rattle.ipnet_base.proofs.BlockLaws.{own, between_from_block, last_fits}
 use Rattle.ipnet_base.proofs.NestingLaws.{subnet_from_own}
 use Rattle.ipnet.specs.NetworkOf.{ip_network}
-use Rattle.ipnet.specs.NetworkParts.{network_at, own_address}
-use Rattle.ipnet_sets.specs.Members.{IsMember, IsFirstOf, IsAtMost}
+use Rattle.ipnet.specs.NetworkParts.{network_at}
+use Rattle.ipnet_sets.specs.Members.{IsMember, IsFirstOf}
 use Rattle.ipnet_sets.specs.declared.set.IpSet.{IpSet}
 use Rattle.ipnet_rules.specs.declared.prefix_list.PrefixRule.{PrefixRule}
 use Rattle.ipnet_rules.specs.declared.rules.Action.TheVariants.{Permit, Deny}

@@ -23,7 +23,7 @@ use Rattle.ipnet_rules.specs.declared.kept.OwnedCell.{OwnedCell}
 use Rattle.ipnet_rules.specs.declared.rules.Rule.{Rule}
 use Rattle.ipnet_rules.specs.Cells.{family_of, owner_of, AreSkips, AreCells, AreCutsOf, ArePieces, ArePainted}
 use Rattle.ipnet_rules.specs.Cells.{IsCutIn}
-use Rattle.ipnet_rules.specs.KeptRules.{IsKept, IsStillThere, IsCoveredByOthers, AreKept}
+use Rattle.ipnet_rules.specs.KeptRules.{IsKept, IsStillThere, AreKept}
 use Rattle.ipnet_rules.specs.KeptSteps.{for_family, IsCellOf, HasCellsAdded, AreByOwner, first_of_cell, IsPaintedBy}
 use Rattle.ipnet_rules.specs.KeptSteps.{HasOwn, IsAt, AreKeptFrom}
 use Rattle.ipnet_rules.specs.UnreachedRules.{MatchesAt, Decides}

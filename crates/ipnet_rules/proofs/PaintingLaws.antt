@@ -1,11 +1,11 @@
 -- Painting the cells of a span: the free cells get an owner, and are skipped later.
 use Rattle.std.proofs.Common.{◌≡◌, ◌≢◌, ℕ, ◌+◌, ◌<◌, ◌≤◌, ◌⊎◌, List, [], ◌∷◌, ◌++◌, length}
-use Rattle.std.proofs.Common.{slice_index, get_or, take, arith, refl, sym, subst, ◌∙◌, inl, inr}
+use Rattle.std.proofs.Common.{slice_index, get_or, take, arith, sym, subst, ◌∙◌, inl, inr}
 use Rattle.ipnet_rules.specs.declared.cells.Painting.{Painting}
 use Rattle.ipnet_rules.specs.declared.cells.Span.{Span}
 use Rattle.ipnet_rules.specs.declared.cells.Piece.{Piece}
 use Rattle.ipnet_rules.specs.Cells.{IsInPiece, IsInSpan, IsSpanOf, IsCutIn, owner_of, ArePainted}
-use Rattle.ipnet_rules.proofs.VerdictLaws.{any_nil, any_push}
+use Rattle.ipnet_rules.proofs.VerdictLaws.{any_push}
 use Rattle.ipnet_rules.proofs.CellLaws.{take_next}
 
 -- the cells of the span before this one

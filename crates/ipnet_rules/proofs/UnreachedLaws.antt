@@ -3,7 +3,7 @@ use Rattle.std.proofs.Common.{◌≡◌, ℕ, ◌+◌, ◌<◌, ◌≤◌, ◌�
 use Rattle.std.proofs.Common.{AllPairs, Contains, Result, Ok, Err, true, arith, refl, sym, subst, ◌∙◌, inl, inr}
 use Rattle.std.specs.Result.{MatchResult, is_ok}
 use Rattle.std.proofs.lemmas.Bool.{cases_lt}
-use Rattle.std.proofs.lemmas.List.Elements.{All-push}
+use Rattle.std.proofs.lemmas.List.Elements.{All-nil, All-push}
 use Rattle.std.proofs.lemmas.List.Quantifiers.{all_pairs_push}
 use Rattle.ipnet_base.specs.Address.{Address}
 use Rattle.ipnet_base.proofs.ListLaws.{at_place}
@@ -42,6 +42,17 @@ pub record AreUnreachedTo (rules : List Rule) (place : ℕ) (found : List Unreac
   pub ascending : AllPairs (λ u v. u.rule < v.rule) found
   pub members : (i : ℕ) → Any (λ u. u.rule ≡ i) found ↔ ((i < place) × IsUnreached rules i)
   pub deciders : All (λ u. AreDeciders rules u.rule u.deciders.items) found
+
+-- no rule is below the first place
+pub unreached_none : (rules : List Rule) → AreUnreachedTo rules 0 []
+unreached_none rules = record {
+  ascending = λ i j d less within. absurd (let wrong : ⊥ = omega (arith, within) in wrong);
+  members = λ i. (
+    λ a. absurd (any_nil (λ u. u.rule ≡ i) a),
+    λ known. absurd (let wrong : ⊥ = omega (arith, known.0) in wrong),
+  );
+  deciders = All-nil (λ u. AreDeciders rules u.rule u.deciders.items);
+}
 
 -- the rule at the place is unreached
 pub unreached_push : (rules : List Rule) (place : ℕ) (found : List Unreached) (u : Unreached)

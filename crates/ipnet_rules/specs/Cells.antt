@@ -1,5 +1,5 @@
 -- The cells into which the ends of the rules' ranges cut the numbers of a family. Only private contracts use these.
-use Rattle.std.specs.Prelude.{◌≡◌, ◌≢◌, ℕ, ◌+◌, ◌-◌, ◌^◌, ◌<◌, ◌≤◌, ◌⊎◌, ◌↔◌, List, length, slice_index, Any, All}
+use Rattle.std.specs.Prelude.{◌≡◌, ◌≢◌, ℕ, ◌+◌, ◌^◌, ◌<◌, ◌≤◌, ◌⊎◌, ◌↔◌, List, length, slice_index, Any, All}
 use Rattle.std.specs.Prelude.{Contains}
 use Rattle.std.specs.List.Sorted.{IsStrictlyIncreasing}
 use Rattle.ipnet_base.specs.Address.{Family, IPv4, IPv6, address_at}
@@ -118,16 +118,19 @@ abbrev pub AreOwnersBefore : Family → List Rule → List ℕ → ℕ → ℕ �
 AreOwnersBefore f rules cuts place free owners = (cell : ℕ) → cell < length cuts
     → IsOwnerBefore f rules place free (slice_index cuts cell) (slice_index owners cell)
 
+-- for each cell a later one, up to which all cells have its owner
+pub record AreNexts (owners nexts : List ℕ) : Type 0 where
+  pub count : length nexts ≡ length owners
+  pub later : (cell : ℕ) → cell < length owners → cell < slice_index nexts cell
+  pub same : (cell other : ℕ) → cell < length owners → cell ≤ other → other < slice_index nexts cell
+      → slice_index owners other ≡ slice_index owners cell
+
 -- the cells of all rules
 pub record AreCells (f : Family) (rules : List Rule) (cells : Cells) : Type 0 where
   pub cuts : AreCuts f rules cells.cuts.items
   pub count : length cells.owners.items ≡ length cells.cuts.items
   pub owners : AreOwnersBefore f rules cells.cuts.items (length rules) (length rules) cells.owners.items
-
--- the cell comes after the start, and has the owner of the cell before it
-pub record HasOwnerBefore (owners : List ℕ) (start cell : ℕ) : Type 0 where
-  pub after : start < cell
-  pub same : slice_index owners (cell - 1) ≡ slice_index owners cell
+  pub nexts : AreNexts cells.owners.items cells.nexts.items
 
 -- the new list has what the old one has, and the owners of the cells from the start, up to the end
 abbrev pub HasSpanAdded : List ℕ → ℕ → ℕ → List ℕ → List ℕ → Type 0

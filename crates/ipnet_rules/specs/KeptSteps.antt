@@ -2,14 +2,14 @@
 -- Only private contracts use these.
 use Rattle.std.specs.Prelude.{◌≡◌, ◌≢◌, ◌⊎◌, ◌<◌, ◌≤◌, ℕ, Bool, List, length, slice_index, slice_index_or, Contains}
 use Rattle.std.specs.List.Sorted.{IsNonDecreasingBy}
-use Rattle.ipnet_base.specs.Address.{IPv4, IPv6, Address, address_at}
+use Rattle.ipnet_base.specs.Address.{Address, address_at}
 use Rattle.ipnet_rules.specs.declared.cells.Cells.{Cells}
 use Rattle.ipnet_rules.specs.declared.cells.Family.{Family}
 use Rattle.ipnet_rules.specs.declared.cells.Family.TheVariants.{Ipv4, Ipv6}
 use Rattle.ipnet_rules.specs.declared.cells.Painting.{Painting}
 use Rattle.ipnet_rules.specs.declared.kept.OwnedCell.{OwnedCell}
 use Rattle.ipnet_rules.specs.declared.rules.Rule.{Rule}
-use Rattle.ipnet_rules.specs.Cells.{family_of, owner_of, AreSkips, AreCells}
+use Rattle.ipnet_rules.specs.Cells.{family_of, owner_of, AreSkips}
 use Rattle.ipnet_rules.specs.KeptRules.{IsKept}
 use Rattle.ipnet_rules.specs.UnreachedRules.{MatchesAt, Decides}
 

@@ -3,6 +3,7 @@ pub mod Verdicts
 pub mod Rules
 pub mod UnreachedRules
 pub mod Cells
+pub mod Decisions
 pub mod KeptRules
 pub mod KeptSteps
 pub mod PrefixLists

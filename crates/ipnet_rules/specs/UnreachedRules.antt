@@ -26,6 +26,12 @@ pub record AreDeciders (rules : List Rule) (place : ℕ) (deciders : List ℕ) :
   pub members : (earlier : ℕ) → Contains deciders earlier
       ↔ ((earlier < place) × (x : Address) × MatchesAt rules place x × Decides rules earlier x)
 
+-- the rule at this place decides on no address, and has those that decide on its addresses
+pub record IsUnreachedAt (rules : List Rule) (place : ℕ) (u : Unreached) : Type 0 where
+  pub of_place : u.rule ≡ place
+  pub unreached : IsUnreached rules place
+  pub deciders : AreDeciders rules place u.deciders.items
+
 -- all rules of the list that decide on no address, in order, each with those that decide on its addresses
 pub record AreUnreached (rules : List Rule) (found : List Unreached) : Type 0 where
   pub ascending : AllPairs (λ u v. u.rule < v.rule) found

@@ -6,7 +6,7 @@ ghost use Rattle.ipnet_base.specs.RangeOf.{ip_range};
 ghost use Rattle.ipnet_sets.specs.SetRanges.{IsInRange};
 ghost use Rattle.ipnet_rules.specs.Cells.{family_of, IsInPiece, ArePieces, HasPieceAdded, HasEndsAdded, AreCuts};
 ghost use Rattle.ipnet_rules.specs.Cells.{IsSpanOf, IsFreePainting, AreSkips, IsInSpan, IsCutIn, ArePainted};
-ghost use Rattle.ipnet_rules.specs.Cells.{AreCells, HasOwnerBefore, HasSpanAdded, HasOwnersAdded};
+ghost use Rattle.ipnet_rules.specs.Cells.{AreCells, AreNexts, HasSpanAdded, HasOwnersAdded};
 
 use crate::rules::{Addresses, Rule};
 use ipnet::{IpAddr, IpAddrRange};
@@ -39,6 +39,8 @@ pub(crate) struct Span {
 pub(crate) struct Cells {
     pub(crate) cuts: Vec<u128>,
     pub(crate) owners: Vec<usize>,
+    /// For each cell a later one, up to which all cells have its owner.
+    nexts: Vec<usize>,
 }
 
 /// Returns the numbers of the range if it is of the family.
@@ -197,6 +199,24 @@ impl Painting {
     }
 }
 
+/// Returns for each cell the next cell with another owner, or the number of cells.
+fn nexts_of(alloc: Global, owners: &[usize]) -> Result<Vec<usize>, AllocError>
+    ensures { IfOk result (λ nexts. AreNexts owners.now nexts.items) }
+{
+    let mut nexts = vec![in alloc; 0; owners.len()]?;
+    let mut cell = owners.len();
+    while cell > 0 {
+        let next = cell;
+        cell -= 1;
+        if next < owners.len() && owners[next] == owners[cell] {
+            nexts[cell] = nexts[next];
+        } else {
+            nexts[cell] = next;
+        }
+    }
+    Ok(nexts)
+}
+
 /// Returns the cells of a family, each with the first rule that matches its addresses.
 pub(crate) fn cells_of(alloc: Global, rules: &[Rule], family: Family) -> Result<Cells, AllocError>
     ensures { IfOk result (AreCells (family_of family) rules.now) }
@@ -207,31 +227,26 @@ pub(crate) fn cells_of(alloc: Global, rules: &[Rule], family: Family) -> Result<
         let pieces = pieces_of(alloc, &rules[place].addresses, family)?;
         painting.paint_all(cuts.as_slice(), pieces.as_slice(), place);
     }
+    let owners = painting.owners;
+    let nexts = nexts_of(alloc, owners.as_slice())?;
     Ok(Cells {
         cuts,
-        owners: painting.owners,
+        owners,
+        nexts,
     })
 }
 
-/// Returns whether the cell comes after the start, and has the owner of the cell before it.
-fn is_repeat(owners: &[usize], start: usize, cell: usize) -> bool
-    requires { cell < length owners.now }
-    ensures { IsTrue result → HasOwnerBefore owners.now start cell }
-{
-    start < cell && owners[cell - 1] == owners[cell]
-}
-
 /// Adds the owners of the cells of the span, of neighbours with one owner only the first.
-fn push_span(found: &mut Vec<usize>, owners: &[usize], span: Span) -> Result<(), AllocError>
-    requires { span.end ≤ length owners.now }
-    ensures { OnOk result (HasSpanAdded owners.now span.start span.end found.old.items found.new.items) }
+fn push_span(found: &mut Vec<usize>, cells: &Cells, span: Span) -> Result<(), AllocError>
+    requires within { span.end ≤ length cells.now.owners.items }
+    requires nexts { AreNexts cells.now.owners.items cells.now.nexts.items }
+    ensures { OnOk result
+        (HasSpanAdded cells.now.owners.items span.start span.end found.old.items found.new.items) }
 {
     let mut cell = span.start;
     while cell < span.end {
-        if !is_repeat(owners, span.start, cell) {
-            found.push(owners[cell])?;
-        }
-        cell += 1;
+        found.push(cells.owners[cell])?;
+        cell = cells.nexts[cell];
     }
     Ok(())
 }
@@ -244,11 +259,12 @@ pub(crate) fn push_owners(
 ) -> Result<(), AllocError>
     requires cuts { IsStrictlyIncreasing cells.now.cuts.items }
     requires owners { length cells.now.owners.items ≡ length cells.now.cuts.items }
+    requires nexts { AreNexts cells.now.owners.items cells.now.nexts.items }
     ensures { OnOk result (HasOwnersAdded cells.now pieces.now found.old.items found.new.items) }
 {
     for piece in pieces {
         let span = span_of(cells.cuts.as_slice(), piece);
-        push_span(found, cells.owners.as_slice(), span)?;
+        push_span(found, cells, span)?;
     }
     Ok(())
 }

@@ -13,4 +13,4 @@ pub use compiled::CompiledPrefixList;
 pub use kept::kept_rules;
 pub use prefix_list::{PrefixList, PrefixRule, PrefixRuleError};
 pub use rules::{Action, Addresses, Rule, Rules};
-pub use unreached::Unreached;
+pub use unreached::{Decisions, Unreached};

@@ -1,9 +1,11 @@
 //! Rules that decide on no address, because earlier rules match all of theirs.
-ghost use Rattle.std.specs.Prelude.{◌⊎◌, ◌↔◌, ℕ, Contains, IsTrue, IfOk};
+ghost use Rattle.std.specs.Prelude.{◌⊎◌, ◌↔◌, ℕ, Contains, IsTrue, IfOk, IfSome, IfNone};
 ghost use Rattle.std.specs.List.Sorted.{IsNonDecreasing};
 ghost use Rattle.ipnet_base.specs.Address.{IPv4, IPv6};
 ghost use Rattle.ipnet_rules.specs.Cells.{AreCells};
-ghost use Rattle.ipnet_rules.specs.UnreachedRules.{IsUnreached, AreDeciders, AreUnreached};
+ghost use Rattle.ipnet_rules.specs.Decisions.{AreDecisions};
+ghost use Rattle.ipnet_rules.specs.UnreachedRules.{IsUnreached, IsUnreachedAt, AreDeciders};
+ghost use Rattle.ipnet_rules.specs.UnreachedRules.{AreUnreached};
 
 use crate::cells::{self, Cells, Family};
 use crate::rules::Rule;
@@ -21,6 +23,20 @@ pub struct Unreached {
     /// The indexes of the earlier rules that decide on the addresses of this one, in ascending order. Together they
     /// match all of its addresses. Empty if the rule matches no address at all.
     pub deciders: Vec<usize>,
+}
+
+/// Which rules of a list decide on which addresses. It keeps the addresses at which the deciding rule changes, so its
+/// memory grows with the rules.
+///
+/// ```text
+/// of deny 10.0.0.0/8, permit 10.0.0.1, deny ::1: 0 decides in the place of 1, and the rules 0 and 2 decide themselves
+/// ```
+#[derive(Drop)]
+pub struct Decisions {
+    ipv4: Cells,
+    ipv6: Cells,
+    /// The rules that own a cell, in ascending order.
+    reached: Vec<usize>,
 }
 
 /// Returns the rules that own a cell, in ascending order.
@@ -68,21 +84,66 @@ fn deciders(
     Ok(found)
 }
 
+impl Decisions {
+    /// Returns which of the rules decide on which addresses. Fails only if memory runs out. Takes time O(n log n) for n
+    /// networks and ranges in the rules.
+    ///
+    /// ```text
+    /// of deny 10.0.0.0/8 and permit 10.0.0.1: 0 decides on 10.0.0.0/8
+    /// ```
+    pub fn of(alloc: Global, rules: &[Rule]) -> Result<Decisions, AllocError>
+        ensures { IfOk result (AreDecisions rules.now) }
+    {
+        let ipv4 = cells::cells_of(alloc, rules, Family::Ipv4)?;
+        let ipv6 = cells::cells_of(alloc, rules, Family::Ipv6)?;
+        let reached = reached_rules(alloc, &ipv4, &ipv6)?;
+        Ok(Decisions {
+            ipv4,
+            ipv6,
+            reached,
+        })
+    }
+
+    /// Returns the rule at the place, with the earlier rules that decide in its place, if it decides on no address.
+    /// Returns `None` if it decides on an address, or if there is no such rule. `rules` are the rules that these
+    /// decisions were made from. Fails only if memory runs out.
+    ///
+    /// ```text
+    /// of deny 10.0.0.0/9, permit 10.128.0.0/9, permit 10.0.0.0/8: 2 is decided by 0 and 1, and None at 1 and 3
+    /// ```
+    pub fn unreached(
+        &self,
+        alloc: Global,
+        rules: &[Rule],
+        place: usize,
+    ) -> Result<Option<Unreached>, AllocError>
+        requires { AreDecisions rules.now self.now }
+        ensures some { IfOk result (λ found. IfSome found (IsUnreachedAt rules.now place)) }
+        ensures none { IfOk result (λ found. IfNone found (¬ (IsUnreached rules.now place))) }
+    {
+        if place >= rules.len() {
+            return Ok(None);
+        }
+        if has_place(self.reached.as_slice(), place) {
+            return Ok(None);
+        }
+        let deciders = deciders(alloc, rules, place, &self.ipv4, &self.ipv6)?;
+        Ok(Some(Unreached {
+            rule: place,
+            deciders,
+        }))
+    }
+}
+
 /// Returns the rules of the list that decide on no address.
 pub(crate) fn unreached_rules(alloc: Global, rules: &[Rule]) -> Result<Vec<Unreached>, AllocError>
     ensures { IfOk result (λ found. AreUnreached rules.now found.items) }
 {
-    let ipv4 = cells::cells_of(alloc, rules, Family::Ipv4)?;
-    let ipv6 = cells::cells_of(alloc, rules, Family::Ipv6)?;
-    let reached = reached_rules(alloc, &ipv4, &ipv6)?;
+    let decisions = Decisions::of(alloc, rules)?;
     let mut found = Vec::new(alloc);
     for place in 0..rules.len() {
-        if !has_place(reached.as_slice(), place) {
-            let deciders = deciders(alloc, rules, place, &ipv4, &ipv6)?;
-            found.push(Unreached {
-                rule: place,
-                deciders,
-            })?;
+        if let Some(unreached) = decisions.unreached(alloc, rules, place)? {
+            found.push(unreached)?;
         }
     }
     Ok(found)

@@ -41,6 +41,7 @@ pub record IsBestCover (limit : ℕ) (InSet IsForbidden : Address → Type 0) (n
       → IsCountOf (IsAdded InSet others) added → length networks ≤ length others
 
 -- Some list covers the set within the limit.
+-- Example: not with the limit 1 if 10.0.0.1 is forbidden; not with any limit if 10.0.0.3 is forbidden.
 abbrev pub HasCoverWithin : ℕ → (Address → Type 0) → (Address → Type 0) → Type 0
 HasCoverWithin limit InSet IsForbidden = (networks : List Network) × IsCoverWithin limit InSet IsForbidden networks
 
@@ -65,7 +66,9 @@ pub record IsFewestCover (spare : ℕ) (InSet IsForbidden : Address → Type 0) 
   pub fewest_added : (others : List Network) (more : ℕ) → IsCoverAdding spare InSet IsForbidden others more
       → length others ≤ length networks → added ≤ more
 
--- Some list covers the set and adds at most `spare` addresses.
+-- Some list covers the set and adds at most `spare` addresses. The networks of the set add none, so they are such a
+-- list unless an address of the set is forbidden.
+-- Example: with the spare 0, 10.0.0.0/32, 10.0.0.3/32, 10.0.0.8/32; with no spare if 10.0.0.3 is forbidden.
 abbrev pub HasCoverAdding : ℕ → (Address → Type 0) → (Address → Type 0) → Type 0
 HasCoverAdding spare InSet IsForbidden =
     (networks : List Network) × (added : ℕ) × IsCoverAdding spare InSet IsForbidden networks added

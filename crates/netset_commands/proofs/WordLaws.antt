@@ -1,32 +1,32 @@
--- Words that are prefix lengths, read one after another.
+-- Words that are read as values one after another.
 use Rattle.std.proofs.Common.{◌≡◌, ◌<◌, ◌≤◌, ◌+◌, ◌++◌, ◌∷◌, [], ℕ, List, drop, length, get_or, subst, sym}
 use Rattle.std.proofs.Common.{false, Result, Ok, Err, OnOk, is_err, is_ok, if◌then◌else◌}
 use Rattle.std.proofs.Common.{append_assoc, append-nil}
 use Rattle.std.proofs.lemmas.List.{drop_all, drop_more}
 use Rattle.std.specs.Borrow.{Bor}
-use Rattle.netset_commands.specs.Words.{AreLengths}
+use Rattle.netset_commands.specs.Words.{AreReadAs}
 use Rattle.ipnet_lists.specs.Names.{Names}
-use Rattle.netset_lib.specs.PlanAnswers.{IsLengthText}
 
--- whatever the lengths of the other words are, these come before them
-pub next_length : (words : Names) (i n : ℕ) (lengths : List ℕ) (word : Bor (List ℕ)) → i < length words
-    → IsLengthText (get_or words i word).now n
-    → ((rest : List ℕ) → AreLengths (drop i words) rest → AreLengths words (lengths ++ rest))
-    → (rest : List ℕ) → AreLengths (drop (i + 1) words) rest → AreLengths words ((lengths ++ n ∷ []) ++ rest)
-next_length words i n lengths word inside is before rest others =
-    let P : List ℕ → Type 0 = λ all. AreLengths words all in
-    let Q : Names → Type 0 = λ left. AreLengths left (n ∷ rest) in
-    subst P (sym (append_assoc lengths (n ∷ []) rest))
+-- whatever the values of the other words are, these come before them
+pub next_value : {T : Type 0} (Is : List ℕ → T → Type 0) (words : Names) (i : ℕ) (n : T) (values : List T)
+    (word : Bor (List ℕ)) → i < length words → Is (get_or words i word).now n
+    → ((rest : List T) → AreReadAs Is (drop i words) rest → AreReadAs Is words (values ++ rest))
+    → (rest : List T) → AreReadAs Is (drop (i + 1) words) rest → AreReadAs Is words ((values ++ n ∷ []) ++ rest)
+next_value {T} Is words i n values word inside is before rest others =
+    let P : List T → Type 0 = λ all. AreReadAs Is words all in
+    let Q : Names → Type 0 = λ left. AreReadAs Is left (n ∷ rest) in
+    subst P (sym (append_assoc values (n ∷ []) rest))
     (before (n ∷ rest) (subst Q (sym (drop_more words i word inside)) (is, others)))
 
--- after the last word there are no other lengths
-pub all_lengths : (words : Names) (i : ℕ) (lengths : List ℕ) → length words ≤ i
-    → ((rest : List ℕ) → AreLengths (drop i words) rest → AreLengths words (lengths ++ rest)) → AreLengths words lengths
-all_lengths words i lengths past before =
-    let P : List ℕ → Type 0 = λ all. AreLengths words all in
-    let Q : Names → Type 0 = λ left. AreLengths left [] in
+-- after the last word there are no other values
+pub all_values : {T : Type 0} (Is : List ℕ → T → Type 0) (words : Names) (i : ℕ) (values : List T) → length words ≤ i
+    → ((rest : List T) → AreReadAs Is (drop i words) rest → AreReadAs Is words (values ++ rest))
+    → AreReadAs Is words values
+all_values {T} Is words i values past before =
+    let P : List T → Type 0 = λ all. AreReadAs Is words all in
+    let Q : Names → Type 0 = λ left. AreReadAs Is left [] in
     let none : drop i words ≡ [] = drop_all i words past in
-    subst P (append-nil lengths) (before [] (subst Q (sym none) tt))
+    subst P (append-nil values) (before [] (subst Q (sym none) tt))
 
 -- a call that does not fail leaves the first of the two
 pub if_ok : {T E X : Type 0} (r : Result T E) (new changed old : X) → is_err r ≡ false

@@ -8,16 +8,13 @@ use Rattle.clap.specs.declared.parser.matches.ArgMatches.{ArgMatches}
 use Rattle.clap.specs.Matches.{found_of, first_value, matched_of, one_text, raw_values}
 use Rattle.ipnet_rules.specs.declared.rules.Action.{Action}
 use Rattle.ipnet_rules.specs.declared.rules.Action.TheVariants.{Permit}
-use Rattle.netset_commands.specs.declared.lists.Empties.{Empties}
-use Rattle.netset_commands.specs.declared.lists.Empties.TheVariants.{Report, Allow, Refuse}
+use Rattle.netset_files.specs.Files.{standard_input}
+use Rattle.netset_files.specs.declared.lists.Empties.{Empties}
+use Rattle.netset_files.specs.declared.lists.Empties.TheVariants.{Report, Allow, Refuse}
 use Rattle.ipnet_lists.specs.Names.{Names}
 use Rattle.netset_lib.specs.declared.command.Work.{Work}
 use Rattle.netset_lib.specs.declared.command.Work.TheVariants.{Combine, Ask}
 use Rattle.netset_lib.specs.declared.query.Query.TheVariants.{Count, Compare, Filter, Route}
-
--- The name of standard input.
-abbrev pub standard_input : List ℕ
-standard_input = codes "-"
 
 -- The values of the argument with this id, in order; none if it was not given.
 -- Example: `b`, `c` for the id `others` of `union a b c`.

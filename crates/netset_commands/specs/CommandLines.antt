@@ -48,13 +48,18 @@ query_names = codes "count" ∷ codes "compare" ∷ codes "changes" ∷ codes "a
 
 -- The commands about free space, pictures and limits, in the order in which help lists them.
 abbrev pub space_names : List (List ℕ)
-space_names = codes "plan" ∷ codes "bar" ∷ codes "map" ∷ codes "supernet" ∷ codes "fit" ∷ []
+space_names = codes "plan" ∷ codes "bar" ∷ codes "map" ∷ codes "supernet" ∷ codes "fit"
+    ∷ codes "shorten" ∷ []
 
--- The commands about entries, networks and rules, in the order in which help lists them.
+-- The commands about entries and networks, in the order in which help lists them.
 abbrev pub entry_names : List (List ℕ)
-entry_names = codes "redundant" ∷ codes "overlaps" ∷ codes "split" ∷ codes "hosts" ∷ codes "permitted"
-    ∷ codes "unreached" ∷ codes "prefix-list" ∷ []
+entry_names = codes "redundant" ∷ codes "overlaps" ∷ codes "find" ∷ codes "info" ∷ codes "split" ∷ codes "hosts"
+    ∷ []
+
+-- The commands about rules and the origins of routes, in the order in which help lists them.
+abbrev pub rule_names : List (List ℕ)
+rule_names = codes "permitted" ∷ codes "unreached" ∷ codes "prefix-list" ∷ codes "origins" ∷ []
 
 -- The commands of the program, in the order in which help lists them.
 abbrev pub all_commands : List (List ℕ)
-all_commands = ((operation_names ++ query_names) ++ space_names) ++ entry_names
+all_commands = (((operation_names ++ query_names) ++ space_names) ++ entry_names) ++ rule_names

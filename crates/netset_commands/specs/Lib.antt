@@ -2,9 +2,8 @@
 pub mod Arguments
 pub mod Calls
 pub mod CommandLines
-pub mod Files
 pub mod FitOptions
-pub mod Logs
 pub mod MapTitles
-pub mod Statuses
 pub mod Words
+pub mod InfoWords
+pub mod FindOptions

@@ -1,5 +1,5 @@
 -- Words of a command line that are networks, prefix lengths and choices.
-use Rattle.std.specs.Prelude.{◌≡◌, ◌<◌, ℕ, Bool, true, false, List, [], ◌∷◌, length, codes, Some, None}
+use Rattle.std.specs.Prelude.{◌≡◌, ◌≢◌, ◌<◌, ℕ, Bool, true, false, List, [], ◌∷◌, length, codes, Option, Some, None}
 use Rattle.std.specs.Prelude.{unwrap_or, option_map}
 use Rattle.clap.specs.declared.parser.matches.ArgMatches.{ArgMatches}
 use Rattle.clap.specs.Matches.{found_of, first_value}
@@ -18,6 +18,8 @@ use Rattle.netset_lib.specs.declared.command.Flags.{Flags}
 use Rattle.netset_lib.specs.declared.command.ListCommand.{ListCommand}
 use Rattle.netset_lib.specs.declared.command.ListCommand.TheVariants.{Union, Compare}
 use Rattle.netset_lib.specs.declared.command.Work.{Work}
+use Rattle.ipnet_origins.specs.declared.origins.Validity.{Validity}
+use Rattle.netset_origins.specs.OriginAnswers.{validity_word}
 use Rattle.netset_pictures.specs.declared.locale.MarkChoice.{MarkChoice}
 use Rattle.netset_pictures.specs.declared.locale.MarkChoice.TheVariants.{Ascii, Utf8, Terminal, File}
 
@@ -44,12 +46,16 @@ IsFrameOf matches Ipv6 =
 IsFrameOf matches FirstFamily =
     (first_value (found_of matches) (codes "in") ≡ None) × IsFlag matches (codes "ipv6") false
 
+-- Each word is read as a value, and these are the values, in order.
+abbrev pub AreReadAs : {T : Type 0} → (List ℕ → T → Type 0) → Names → List T → Type 0
+AreReadAs Is [] [] = Unit {0}
+AreReadAs Is [] (value ∷ values) = ⊥
+AreReadAs Is (word ∷ words) [] = ⊥
+AreReadAs Is (word ∷ words) (value ∷ values) = Is word.now value × AreReadAs Is words values
+
 -- Each word is a prefix length, and these are the lengths, in order. Example: `24`, `/8` are 24, 8.
 abbrev pub AreLengths : Names → List ℕ → Type 0
-AreLengths [] [] = Unit {0}
-AreLengths [] (n ∷ lengths) = ⊥
-AreLengths (word ∷ words) [] = ⊥
-AreLengths (word ∷ words) (n ∷ lengths) = IsLengthText word.now n × AreLengths words lengths
+AreLengths = AreReadAs IsLengthText
 
 -- The choice of the marks of a bar, by the flags `--ascii` and `--utf8`, and whether the output is a terminal.
 abbrev pub mark_choice : Bool → Bool → Bool → MarkChoice
@@ -83,3 +89,8 @@ pub record AreFormOptions (matches : ArgMatches) (options : FormOptions) : Type 
   pub ipv4_set : option_map (λ word. word.now) options.sets.ipv4 ≡ first_value (found_of matches) (codes "ipv4-set")
   pub ipv6_set : option_map (λ word. word.now) options.sets.ipv6 ≡ first_value (found_of matches) (codes "ipv6-set")
   pub maxelem : option_map (λ word. word.now) options.maxelem ≡ first_value (found_of matches) (codes "maxelem")
+
+-- The routes of this validity are asked for by the option `--only`; or it names no validity, and all routes are.
+abbrev pub IsOnly : ArgMatches → Option Validity → Type 0
+IsOnly matches (Some v) = first_value (found_of matches) (codes "only") ≡ Some (validity_word v)
+IsOnly matches None = (v : Validity) → first_value (found_of matches) (codes "only") ≢ Some (validity_word v)

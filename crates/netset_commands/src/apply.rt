@@ -2,11 +2,10 @@
 ghost use Rattle.std.specs.Prelude.{◌≡◌, ◌≤◌, IfErr};
 
 use crate::arguments::{FIRST_LIST, OTHERS, RANGES_FLAG, SHARED, two_or_report};
-use crate::lists::{Empties, Reports};
-use crate::output::Writers;
-use crate::reading::{bytes_of, reading_work, session_of, whole_of};
+use crate::reading::{reading_work, session_of};
 use crate::table::{ARGUMENT, Argument, Form, Subcommand};
 use clap::ArgMatches;
+use netset_files::{Empties, Reports, Writers, bytes_of, whole_of};
 use netset_lib::{ApplyCommand, run_text};
 
 /// The name of the command.

@@ -3,17 +3,17 @@ ghost use Rattle.std.specs.Prelude.{◌≡◌, ◌≤◌, ◌<◌, ◌↔◌, �
 ghost use Rattle.std.specs.Prelude.{OnOk, IsOk, length};
 ghost use Rattle.std.specs.Char.{is_ascii_control};
 ghost use Rattle.std.specs.List.{list_any};
-ghost use Rattle.netset_commands.specs.Arguments.{values_of, list_name, standard_input, IsFlag};
+ghost use Rattle.netset_commands.specs.Arguments.{values_of, list_name, IsFlag};
 ghost use Rattle.netset_commands.specs.Arguments.{AreListNames, empties_of, input_count, have_control};
 ghost use Rattle.netset_commands.specs.Arguments.{most_before_input};
 ghost use Rattle.netset_commands.specs.Calls.{IsCall, IsCallFailure, IsNameFailure, AreGoodNames, PrintsNames};
 ghost use Rattle.netset_commands.specs.Calls.{AreFlags, AreTwoNames};
 ghost use Rattle.netset_commands.specs.declared.arguments.ArgumentFailure.TheVariants.{InputTwice};
+ghost use Rattle.netset_files.specs.Files.{standard_input};
 
-use crate::input::STANDARD_INPUT;
-use crate::lists::{Empties, Reports};
 use crate::table::{ARGUMENT, Argument, Form};
 use clap::ArgMatches;
+use netset_files::{Empties, Reports, STANDARD_INPUT};
 use netset_lib::{Flags, ListCommand, Query, Work};
 use std::alloc::{AllocError, Global};
 use std::env;

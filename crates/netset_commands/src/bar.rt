@@ -11,14 +11,12 @@ use crate::arguments::{
     ANY_LISTS, ArgumentFailure, FIRST, SHARED, flags_of, is_set, reads_input_twice,
     report_argument_failure,
 };
-use crate::input::STANDARD_INPUT;
 use crate::listing::network_or_report;
-use crate::lists::Reports;
-use crate::output::Writers;
 use crate::reading::{comparing_work, reading_work, session_of};
 use crate::table::{ARGUMENT, Argument, Form, Subcommand};
 use clap::ArgMatches;
 use ipnet_bars::{BarForm, Frame, Marks, RowWidth};
+use netset_files::{Reports, STANDARD_INPUT, Writers};
 use netset_lib::{Session, Work, run_text};
 use netset_pictures::{
     BarCommand, BarRequest, ComparisonBarCommand, LocaleValues, MarkChoice, chosen_marks,

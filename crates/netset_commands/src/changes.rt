@@ -2,10 +2,10 @@
 ghost use Rattle.std.specs.Prelude.{◌≤◌};
 
 use crate::arguments::{FIRST_LIST, OTHER_LIST, SHARED, two_or_report};
-use crate::output::Writers;
 use crate::reading::{comparing_work, session_of};
 use crate::table::{Argument, Form, Subcommand};
 use clap::ArgMatches;
+use netset_files::Writers;
 use netset_lib::{ChangesCommand, run_text};
 
 /// The name of the command.

@@ -2,8 +2,8 @@
 ghost use Rattle.std.specs.Prelude.{◌≡◌, ◌++◌, IfOk};
 ghost use Rattle.clap.specs.Built.{IsParsedFrom};
 ghost use Rattle.clap.specs.declared.builder.command.Command.{Command};
-ghost use Rattle.netset_commands.specs.CommandLines.{all_commands, command_names, names_in};
-ghost use Rattle.netset_commands.specs.CommandLines.{entry_names, operation_names, query_names, space_names};
+ghost use Rattle.netset_commands.specs.CommandLines.{all_commands, command_names, names_in, space_names};
+ghost use Rattle.netset_commands.specs.CommandLines.{entry_names, operation_names, query_names, rule_names};
 
 use crate::apply::APPLY_COMMAND;
 use crate::arguments::{ANY_LISTS, FIRST_LIST, NO_EMPTY, ONE_LIST, OTHER_LIST, OTHERS, SHARED};
@@ -11,13 +11,17 @@ use crate::bar::BAR_COMMAND;
 use crate::changes::CHANGES_COMMAND;
 use crate::entries::{OVERLAPS_COMMAND, REDUNDANT_COMMAND, SUPERNET_COMMAND};
 use crate::extract::EXTRACT_COMMAND;
+use crate::find::FIND_COMMAND;
 use crate::fit::FIT_COMMAND;
 use crate::forms::ANSWER_FORM;
+use crate::info::INFO_COMMAND;
 use crate::listing::{HOSTS_COMMAND, SPLIT_COMMAND};
 use crate::map::MAP_COMMAND;
+use crate::origins::ORIGINS_COMMAND;
 use crate::plan::PLAN_COMMAND;
 use crate::prefixes::PREFIX_COMMAND;
 use crate::rules::{PERMITTED_COMMAND, UNREACHED_COMMAND};
+use crate::shorten::SHORTEN_COMMAND;
 use crate::table::{ARGUMENT, Argument, Form, Subcommand, command_of};
 use crate::texts::TEXT_FLAG;
 use crate::whole_lines::LINE_FLAGS;
@@ -185,17 +189,25 @@ const SPACE_COMMANDS: &[Subcommand] = &[
     MAP_COMMAND,
     SUPERNET_COMMAND,
     FIT_COMMAND,
+    SHORTEN_COMMAND,
 ];
 
-/// The commands about entries, networks and rules.
+/// The commands about entries and networks.
 const ENTRY_COMMANDS: &[Subcommand] = &[
     REDUNDANT_COMMAND,
     OVERLAPS_COMMAND,
+    FIND_COMMAND,
+    INFO_COMMAND,
     SPLIT_COMMAND,
     HOSTS_COMMAND,
+];
+
+/// The commands about rules and the origins of routes.
+const RULE_COMMANDS: &[Subcommand] = &[
     PERMITTED_COMMAND,
     UNREACHED_COMMAND,
     PREFIX_COMMAND,
+    ORIGINS_COMMAND,
 ];
 
 /// The operations.
@@ -222,12 +234,20 @@ fn space_commands() -> &'static [Subcommand]
     SPACE_COMMANDS
 }
 
-/// The commands about entries, networks and rules.
+/// The commands about entries and networks.
 #[inline(never)]
 fn entry_commands() -> &'static [Subcommand]
     ensures { names_in result.now ≡ entry_names }
 {
     ENTRY_COMMANDS
+}
+
+/// The commands about rules and the origins of routes.
+#[inline(never)]
+fn rule_commands() -> &'static [Subcommand]
+    ensures { names_in result.now ≡ rule_names }
+{
+    RULE_COMMANDS
 }
 
 /// The program with these commands too.
@@ -258,7 +278,8 @@ fn command<'a>(alloc: Global, version: &'a str) -> Result<Command<'a>, AllocErro
     let command = with_commands(alloc, command, operations())?;
     let command = with_commands(alloc, command, queries())?;
     let command = with_commands(alloc, command, space_commands())?;
-    with_commands(alloc, command, entry_commands())
+    let command = with_commands(alloc, command, entry_commands())?;
+    with_commands(alloc, command, rule_commands())
 }
 
 /// Parses the command line. The error is the text to print: help, the version, or what is wrong.

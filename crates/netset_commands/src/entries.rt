@@ -4,11 +4,11 @@ ghost use Rattle.std.specs.Prelude.{◌≤◌};
 use crate::arguments::{
     FIRST, ONE_LIST, OTHER_LIST, OTHERS, SHARED, flags_of, name_of_list, two_or_report,
 };
-use crate::output::Writers;
-use crate::reading::{bytes_of, reading_work, session_of};
+use crate::reading::{reading_work, session_of};
 use crate::table::{Argument, Subcommand};
 use clap::ArgMatches;
 use netset_entries::{OverlapsCommand, RedundantCommand, SupernetCommand};
+use netset_files::{Writers, bytes_of};
 use netset_lib::{run, run_text};
 
 /// The names of the commands.

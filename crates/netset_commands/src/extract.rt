@@ -9,11 +9,9 @@ use crate::arguments::{
     ANY_LISTS, ArgumentFailure, FIRST, SHARED, flags_of, is_set, reads_input_twice,
     report_argument_failure,
 };
-use crate::input::STANDARD_INPUT;
-use crate::output::Writers;
-use crate::reading::fill;
 use crate::table::{ARGUMENT, Argument, Form, Subcommand};
 use clap::ArgMatches;
+use netset_files::{STANDARD_INPUT, Writers, fill};
 use netset_lib::run_text;
 use netset_words::{ExtractRequest, Extraction};
 

@@ -5,12 +5,11 @@ ghost use Rattle.netset_commands.specs.FitOptions.{fit_names, limit_of, IsFitReq
 use crate::arguments::{
     ANY_LISTS, ArgumentFailure, FIRST, SHARED, reads_input_twice, report_argument_failure,
 };
-use crate::input::STANDARD_INPUT;
-use crate::output::Writers;
 use crate::reading::{reading_work, session_of};
 use crate::table::{ARGUMENT, Argument, Form, Subcommand};
 use clap::ArgMatches;
 use netset_entries::{FitCommand, FitLimit, FitRequest, run_fit};
+use netset_files::{STANDARD_INPUT, Writers};
 use netset_lib::read_number;
 use std::alloc::{AllocError, Global};
 use std::io::Write;
@@ -49,7 +48,7 @@ pub const FIT_COMMAND: Subcommand = Subcommand {
             Argument {
                 id: SPARE,
                 form: Form::Value(SPARE, "PERCENT"),
-                help: "As few networks as possible, which add at most this percentage of each family's addresses",
+                help: "The fewest networks; they add at most PERCENT percent of the lists' addresses in each family",
                 conflicts: &[IPV4_LIMIT, IPV6_LIMIT],
                 ..ARGUMENT
             },

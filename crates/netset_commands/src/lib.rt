@@ -1,4 +1,4 @@
-//! The commands of the program `netset`: what arguments mean, and which files are read and written.
+//! The commands of the program `netset`: what arguments mean, and the run of each command.
 #![tactic(auto)]
 
 mod apply;
@@ -8,22 +8,20 @@ mod changes;
 mod commands;
 mod entries;
 mod extract;
+mod find;
 mod fit;
 mod forms;
-mod input;
-mod leftovers;
+mod info;
 mod listing;
-mod lists;
 mod map;
 mod noted;
-mod output;
+mod origins;
 mod plan;
 mod prefixes;
 mod program;
 mod reading;
-mod replacement;
 mod rules;
-mod stream;
+mod shorten;
 mod table;
 mod texts;
 mod whole_lines;

@@ -5,10 +5,10 @@ ghost use Rattle.ipnet_lists.specs.Entries.{IsNetworkOrMasked};
 ghost use Rattle.netset_commands.specs.Words.{word_of, IsNetworkGiven};
 
 use crate::arguments::{FIRST, LEGACY_FLAG, OTHERS, OUTPUT_OPTION, flags_of};
-use crate::output::Writers;
 use crate::table::{ARGUMENT, Argument, Form, Subcommand};
 use clap::ArgMatches;
 use ipnet::{Grammar, IpNet};
+use netset_files::Writers;
 use netset_lib::{ArgumentCause, read_length, read_network_argument, run_hosts, run_split};
 use std::io::Write;
 

@@ -1,7 +1,8 @@
 //! The command `map`: its arguments, and its runs.
 ghost use Rattle.std.specs.Prelude.{◌≡◌, ◌≤◌, ◌<◌, ◌↔◌, Bool, false, Some, None, codes, length, IsTrue, IfErr};
 ghost use Rattle.clap.specs.Matches.{found_of, first_value};
-ghost use Rattle.netset_commands.specs.Arguments.{standard_input, input_count, IsFlag};
+ghost use Rattle.netset_commands.specs.Arguments.{input_count, IsFlag};
+ghost use Rattle.netset_files.specs.Files.{standard_input};
 ghost use Rattle.netset_pictures.specs.MapAnswers.{theme_text};
 ghost use Rattle.svg_maps.specs.declared.style.Theme.{Theme};
 ghost use Rattle.svg_maps.specs.declared.style.Theme.TheVariants.{Auto};
@@ -11,16 +12,13 @@ use crate::arguments::{
     report_argument_failure,
 };
 use crate::bar::{COMPARE, FRAME, frame_of, pictured_work};
-use crate::input::STANDARD_INPUT;
-use crate::lists::Reports;
-use crate::noted::{EntryList, NotedSession, entries_of};
-use crate::output::Writers;
-use crate::reading::{bytes_of, fill};
+use crate::noted::{NotedSession, TitledEntries, entries_of};
 use crate::table::{ARGUMENT, Argument, Form, Subcommand};
 use clap::ArgMatches;
 use ipnet_bars::Frame;
 use ipnet_routes::RouteTable;
 use netset_entries::EntryNotes;
+use netset_files::{Reports, STANDARD_INPUT, Writers, bytes_of, fill};
 use netset_lib::{Session, run_text, table_or_report};
 use netset_pictures::{ChangeMapCommand, MapCommand, MapRequest, SetsMapCommand, read_theme};
 use std::io::Write;
@@ -205,7 +203,7 @@ fn draw_lists(
     let Ok(list) = entries_of(rt.alloc(), notes, names) else {
         return report_argument_failure(rt, ArgumentFailure::Memory);
     };
-    let EntryList { entries, count } = list;
+    let TitledEntries { entries, count } = list;
     let titled = entries.as_slice();
     let MapRequest { frame, look } = request;
     let look = Look {

@@ -1,12 +1,12 @@
 //! The lists of a map: a session that notes the largest entries of each list while it reads them.
-ghost use Rattle.std.specs.Prelude.{◌≡◌, ◌≤◌, ◌↔◌, ◌<◌, ◌++◌, codes, length, string_bytes, IsTrue, IfOk, OnOk};
+ghost use Rattle.std.specs.Prelude.{◌≡◌, ◌≤◌, ◌↔◌, ◌<◌, ◌++◌, ℕ, List, codes, length, string_bytes, IsTrue, IfOk, OnOk};
 ghost use Rattle.netset_commands.specs.MapTitles.{listed_title, longer_title, longer_count, is_v4, AreFew, AreFirst};
 ghost use Rattle.netset_commands.specs.MapTitles.{each_once, ends_with, networks_of};
 
-use crate::lists::ListReader;
 use ipnet::{Grammar, IpNet};
 use ipnet_lists::ReadFailure;
 use netset_entries::{EntryNotes, NotedEntry};
+use netset_files::ListReader;
 use netset_lib::Session;
 use std::alloc::{AllocError, Global};
 use std::io;
@@ -87,7 +87,7 @@ impl ListReader for NotedSession {
 
 /// The entries of lists for a map, the largest first.
 #[derive(Drop)]
-pub struct EntryList {
+pub struct TitledEntries {
     pub entries: Vec<MapEntry>,
     /// How many networks the entries of the lists have. A network that several entries have is one if it has a title.
     pub count: usize,
@@ -121,6 +121,34 @@ fn listed_title(
     }
 }
 
+/// The text after the first colon that a blank follows; empty if there is none.
+fn after_colon(text: &str) -> &str
+    ensures { (front : List ℕ) × (text.now ≡ front ++ result.now) }
+{
+    match text.split_once(": ") {
+        Some((_, rest)) => rest,
+        None => "",
+    }
+}
+
+/// The comment in the title of an entry, which is its text, or its text and its comment with a colon between them.
+//
+// A range of IPv6 may have a colon before a blank too, as in `2001:db8:: - 2001:db8::9`. The front is then `2001:db8:`.
+fn comment_in(title: &str) -> &str
+    ensures { (front : List ℕ) × (title.now ≡ front ++ result.now) }
+{
+    match title.split_once(": ") {
+        Some((front, rest)) => {
+            if front.ends_with(':') && !front.ends_with("::") {
+                after_colon(rest)
+            } else {
+                rest
+            }
+        }
+        None => "",
+    }
+}
+
 /// The entries of all the lists, the largest first, and entries of one network one after the other. `names` are the
 /// names of the lists.
 fn all_entries(
@@ -133,8 +161,13 @@ fn all_entries(
     for notes in lists {
         for noted in notes.into_entries()? {
             let NotedEntry { network, title } = noted;
+            let comment = String::from_str(alloc, comment_in(title.as_str()))?;
             let title = listed_title(alloc, names, place, title)?;
-            entries.push(MapEntry { network, title })?;
+            entries.push(MapEntry {
+                network,
+                title,
+                comment,
+            })?;
         }
         place = place.saturating_add(1);
     }
@@ -232,7 +265,7 @@ pub fn entries_of(
     alloc: Global,
     lists: Vec<EntryNotes>,
     names: &[&str],
-) -> Result<EntryList, AllocError>
+) -> Result<TitledEntries, AllocError>
     ensures { IfOk result (λ list. AreFew list.entries.items) }
 {
     let mut count: usize = 0;
@@ -244,5 +277,5 @@ pub fn entries_of(
     let joined = join_titles(alloc, entries)?;
     let count = count.saturating_sub(all.saturating_sub(joined.len()));
     let entries = first_entries(alloc, joined)?;
-    Ok(EntryList { entries, count })
+    Ok(TitledEntries { entries, count })
 }

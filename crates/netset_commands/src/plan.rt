@@ -9,11 +9,11 @@ use crate::arguments::{
     ArgumentFailure, FIRST, FIRST_LIST, SHARED, flags_of, name_of_list, report_argument_failure,
 };
 use crate::bar::{BAR, PLAN_BAR, bar_form_of};
-use crate::output::Writers;
 use crate::reading::{reading_work, session_of};
 use crate::table::{ARGUMENT, Argument, Form, Subcommand};
 use clap::ArgMatches;
 use ipnet_bars::BarForm;
+use netset_files::Writers;
 use netset_lib::{Families, PlanCommand, PlanRequest, families, read_length, run_text};
 use netset_pictures::{PlanBarCommand, PlanBarRequest};
 use std::io::Write;

@@ -2,10 +2,9 @@
 ghost use Rattle.std.specs.Prelude.{◌≤◌};
 
 use crate::arguments::{FIRST_LIST, OTHER_LIST, SHARED, flags_of, two_or_report};
-use crate::output::Writers;
-use crate::reading::bytes_of;
 use crate::table::{Argument, Form, Subcommand};
 use clap::ArgMatches;
+use netset_files::{Writers, bytes_of};
 use netset_lib::{PrefixListCommand, run_text};
 
 /// The name of the command.

@@ -1,6 +1,6 @@
 //! A run of the program: its arguments, its output and its command.
 ghost use Rattle.std.specs.Prelude.{◌≤◌};
-ghost use Rattle.netset_commands.specs.Statuses.{IsExitStatus};
+ghost use Rattle.netset_files.specs.Statuses.{IsExitStatus};
 
 use crate::apply::{APPLY, apply_changes};
 use crate::arguments::{
@@ -16,19 +16,22 @@ use crate::entries::{
     OVERLAPS, REDUNDANT, SUPERNET, print_overlaps, print_redundant, print_supernet,
 };
 use crate::extract::{EXTRACT, extract_entries};
+use crate::find::{FIND, find_entries};
 use crate::fit::{FIT, fit_lists};
 use crate::forms::form_of;
+use crate::info::{INFO, print_facts};
 use crate::listing::{HOSTS, SPLIT, list_hosts, list_subnets};
 use crate::map::{MAP, draw_map};
-use crate::output::{CLOSED, Ends, Writers};
+use crate::origins::{ORIGINS, validate_origins};
 use crate::plan::{PLAN, plan_networks};
 use crate::prefixes::{PREFIX_LIST, judge_networks};
 use crate::reading::session_of;
 use crate::rules::{PERMITTED, UNREACHED, print_permitted, print_unreached};
-use crate::stream::stream_list;
+use crate::shorten::{SHORTEN, shorten_table};
 use crate::texts::{has_text_flag, route_with_text};
 use crate::whole_lines::{LINES, filter_lines};
 use clap::ArgMatches;
+use netset_files::{CLOSED, Ends, Writers, stream_list};
 use netset_forms::FormCommand;
 use netset_lib::{AnswerCommand, Work, run_text};
 use std::io::{ErrorKind, Write};
@@ -121,13 +124,17 @@ fn run_command(rt: &HostRuntime, name: &str, matches: &ArgMatches, writers: &mut
         MAP => draw_map(rt, matches, writers),
         SUPERNET => print_supernet(rt, matches, writers),
         FIT => fit_lists(rt, matches, writers),
+        SHORTEN => shorten_table(rt, matches, writers),
         REDUNDANT => print_redundant(rt, matches, writers),
         OVERLAPS => print_overlaps(rt, matches, writers),
+        FIND => find_entries(rt, matches, writers),
+        INFO => print_facts(rt, matches, writers),
         SPLIT => list_subnets(rt, matches, writers),
         HOSTS => list_hosts(rt, matches, writers),
         PERMITTED => print_permitted(rt, matches, writers),
         UNREACHED => print_unreached(rt, matches, writers),
         PREFIX_LIST => judge_networks(rt, matches, writers),
+        ORIGINS => validate_origins(rt, matches, writers),
         _ => report_argument_failure(rt, ArgumentFailure::NoCommand),
     }
 }

@@ -6,10 +6,8 @@ ghost use Rattle.netset_lib.specs.declared.command.Flags.{Flags};
 ghost use Rattle.netset_lib.specs.declared.command.ListCommand.TheVariants.{Union, Compare};
 
 use crate::arguments::{ArgumentFailure, flags_of, report_argument_failure};
-use crate::input::report_unread;
-use crate::lists::{ListReader, Reports, read_lists, read_whole};
 use clap::ArgMatches;
-use ipnet_lists::has_lines;
+use netset_files::{Reports, fill};
 use netset_lib::{Session, Work};
 
 /// The work of a command that only reads lists: all their addresses.
@@ -40,50 +38,4 @@ pub fn session_of(
     };
     fill(rt, &mut session, names, reports)?;
     Ok(session)
-}
-
-/// Reads the lists of these names. If that fails, it is reported, and the error is the exit status. So it is if a file
-/// has no entry, and that is to be refused.
-pub fn fill<L: ListReader>(
-    rt: &HostRuntime,
-    lists: &mut L,
-    names: &[&str],
-    reports: Reports,
-) -> Result<(), u8>
-    ensures { IfErr result (λ status. status ≡ 2) }
-{
-    match read_lists(rt, lists, names, reports) {
-        Ok(true) => Ok(()),
-        Ok(false) => Err(2),
-        Err((name, unread)) => {
-            report_unread(rt, name, &unread);
-            Err(2)
-        }
-    }
-}
-
-/// Reads the bytes of the list of this name, which may have no line. If that fails, it is reported, and the error is
-/// the exit status.
-pub fn whole_of(rt: &HostRuntime, name: &str, reports: Reports) -> Result<Vec<u8>, u8>
-    ensures { IfErr result (λ status. status ≡ 2) }
-{
-    match read_whole(rt, name, reports) {
-        Ok(bytes) => Ok(bytes),
-        Err(unread) => {
-            report_unread(rt, name, &unread);
-            Err(2)
-        }
-    }
-}
-
-/// Reads the bytes of the list of this name as `whole_of` does. It also fails if a file has no line, and that is to be
-/// refused; `what` says what its lines are.
-pub fn bytes_of(rt: &HostRuntime, name: &str, what: &str, reports: Reports) -> Result<Vec<u8>, u8>
-    ensures { IfErr result (λ status. status ≡ 2) }
-{
-    let bytes = whole_of(rt, name, reports)?;
-    if !has_lines(bytes.as_slice()) && !reports.report_empty(rt, name, what) {
-        return Err(2);
-    }
-    Ok(bytes)
 }

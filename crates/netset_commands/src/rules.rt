@@ -4,12 +4,10 @@ ghost use Rattle.netset_commands.specs.Arguments.{IsDefault};
 
 use crate::arguments::{FIRST, SHARED, flags_of, name_of_list};
 use crate::forms::{ANSWER_FORM, form_of};
-use crate::input::report_unread;
-use crate::lists::{Reports, read_rules};
-use crate::output::Writers;
 use crate::table::{ARGUMENT, Argument, Form, Subcommand};
 use clap::ArgMatches;
 use ipnet_rules::Action;
+use netset_files::{Reports, Writers, read_rules, report_unread};
 use netset_forms::PermittedCommand;
 use netset_lib::{RuleList, UnreachedCommand, run, run_text};
 
@@ -79,10 +77,7 @@ fn rules_of(rt: &HostRuntime, matches: &ArgMatches, reports: Reports) -> Result<
     match read_rules(rt, file, flags_of(matches).grammar(), reports) {
         Ok(Some(list)) => Ok(list),
         Ok(None) => Err(2),
-        Err(unread) => {
-            report_unread(rt, file, &unread);
-            Err(2)
-        }
+        Err(unread) => Err(report_unread(rt, file, &unread)),
     }
 }
 

@@ -3,10 +3,9 @@ ghost use Rattle.std.specs.Prelude.{◌≤◌, codes};
 ghost use Rattle.netset_commands.specs.Arguments.{IsFlag};
 
 use crate::arguments::{flags_of, two_or_report};
-use crate::output::Writers;
-use crate::reading::bytes_of;
 use crate::table::{ARGUMENT, Argument, Form};
 use clap::ArgMatches;
+use netset_files::{Writers, bytes_of};
 use netset_lib::{TextRoutesCommand, run_text};
 
 /// The flag by which the texts of the table are read and printed.

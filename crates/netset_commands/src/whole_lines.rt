@@ -6,11 +6,10 @@ ghost use Rattle.netset_lib.specs.Commands.{grammar_of, side_of};
 ghost use Rattle.netset_lib.specs.declared.command.Flags.{Flags};
 
 use crate::arguments::{flags_of, is_set, two_or_report};
-use crate::input::{open_log, report_unread};
-use crate::output::Writers;
 use crate::reading::{reading_work, session_of};
 use crate::table::{ARGUMENT, Argument, Form};
 use clap::ArgMatches;
+use netset_files::{Writers, open_log, report_unread};
 use netset_lib::report_failure;
 use netset_words::{LineFilter, LinesRequest, run_lines};
 use std::io::Write;
@@ -113,9 +112,6 @@ fn filter_named(
             );
             2
         }
-        Err(unread) => {
-            report_unread(rt, log, &unread);
-            2
-        }
+        Err(unread) => report_unread(rt, log, &unread),
     }
 }

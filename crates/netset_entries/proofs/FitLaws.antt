@@ -155,6 +155,8 @@ module _ (S T F G : Address → Type 0) (same : (x : Address) → S x ↔ T x) (
           h.fitted.ipv4 h.fitted.of_ipv4;
       of_ipv6 = fitted_same (IsOfFamily S IPv6) (IsOfFamily T IPv6) F G (of_family IPv6) avoided request.ipv6
           h.fitted.ipv6 h.fitted.of_ipv6;
+      ipv4_in_order = h.fitted.ipv4_in_order;
+      ipv6_in_order = h.fitted.ipv6_in_order;
       both = h.fitted.both;
     };
     spelled = h.spelled;

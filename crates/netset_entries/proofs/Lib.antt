@@ -18,3 +18,4 @@ pub mod PlainTexts
 pub mod TitledBlocks
 pub mod NotedLists
 pub mod TitleLaws
+pub mod FindLaws

@@ -8,6 +8,7 @@ use Rattle.ipnet_sets.specs.ManySets.{IsInSome}
 use Rattle.ipnet_sets.specs.Members.{IsCountOf}
 use Rattle.ipnet_lists.specs.Lists.{ListEntry, IsInEntries}
 use Rattle.ipnet_shortest.specs.Covers.{IsAdded, IsBestCover, HasCoverWithin, IsFewestCover, HasCoverAdding}
+use Rattle.ipnet_shortest.specs.Covers.{AreInOrder}
 use Rattle.ipnet_lists.specs.Names.{Names}
 use Rattle.ipnet_text.specs.LineTexts.{text_of_lines}
 use Rattle.ipnet_text.specs.Outputs.{IsWritten, IsFrontWritten}
@@ -31,8 +32,10 @@ use Rattle.netset_entries.specs.Supernets.{IsOfFamily}
 abbrev pub percent_of : ℕ → ℕ → ℕ
 percent_of percent count = min (count * percent / 100) (2 ^ 128 - 1)
 
--- The networks of one family. Either at most this number of networks, which add as few addresses as possible to the
--- set; or the fewest networks that add at most this percentage. No network has an address that is avoided.
+-- The networks of one family. They have every address of the set, and no address that is avoided.
+-- Either they are at most this number of networks. Then no such list adds fewer addresses to the set, and none that
+-- adds as few has fewer networks. Or they add at most this percentage of the number of addresses of the set. Then no
+-- such list has fewer networks, and none of as few networks adds fewer addresses.
 -- Example: for 10.0.0.0/32, 10.0.0.3/32 and 10.0.0.8/32 and two networks, 10.0.0.0/30 and 10.0.0.8/32; for 67 percent
 -- also, since 67 percent of three addresses are two.
 abbrev pub IsFitted : FitLimit → (Address → Type 0) → (Address → Type 0) → List Network → Type 0
@@ -52,13 +55,17 @@ abbrev pub HaveFits : FitRequest → (Address → Type 0) → (Address → Type 
 HaveFits request InSet IsAvoided =
     HasFit request.ipv4 (IsOfFamily InSet IPv4) IsAvoided × HasFit request.ipv6 (IsOfFamily InSet IPv6) IsAvoided
 
--- The networks for the IPv4 addresses, and then those for the IPv6 addresses.
+-- The networks for the IPv4 addresses, and then those for the IPv6 addresses. The networks of a family have no host
+-- bits, are in ascending order, and share no address.
+-- Example: for 10.0.0.0/32, 10.0.0.2/32, ::1/128 and one network of each family, 10.0.0.0/30 and ::1/128.
 pub record AreFitted (request : FitRequest) (InSet IsAvoided : Address → Type 0) (networks : List Network) : Type 0
   where
     pub ipv4 : List Network
     pub ipv6 : List Network
     pub of_ipv4 : IsFitted request.ipv4 (IsOfFamily InSet IPv4) IsAvoided ipv4
     pub of_ipv6 : IsFitted request.ipv6 (IsOfFamily InSet IPv6) IsAvoided ipv6
+    pub ipv4_in_order : AreInOrder ipv4
+    pub ipv6_in_order : AreInOrder ipv6
     pub both : networks ≡ ipv4 ++ ipv6
 
 -- The line says how many addresses of each family the networks add. Example: `netset: added: IPv4 2, IPv6 0`.
@@ -128,6 +135,7 @@ pub record IsFitAnswer (request : FitRequest) (reading : Request) (lists : List 
       (IsUnwanted IsInEntries request.has_never entries) text report
 
 -- No line of the lists is refused, and a family has no networks within its limit.
+-- Example: the lists have 10.0.0.1/32, and it is avoided. Then no limit helps.
 pub record HasNoFitAnswer (request : FitRequest) (reading : Request) (lists : List (List ℕ)) : Type 0 where
   pub entries : List (List ListEntry)
   pub read : AreListsRead reading.grammar 0 lists entries []

@@ -13,3 +13,5 @@ pub mod Sweeps
 pub mod NotedEntries
 pub mod NoteSteps
 pub mod WriteReports
+pub mod Finds
+pub mod FindSteps

@@ -6,6 +6,7 @@ ghost use Rattle.ipnet_base.specs.Address.{IPv4, IPv6};
 ghost use Rattle.ipnet.specs.NetworkOf.{ip_network};
 ghost use Rattle.ipnet_sets.specs.Members.{IsMember, IsMemberOf, IsCountOf};
 ghost use Rattle.ipnet_text.specs.Outputs.{IsWritten, IsFrontWritten};
+ghost use Rattle.ipnet_shortest.specs.Covers.{AreInOrder};
 ghost use Rattle.netset_entries.specs.FittedLists.{percent_of, IsFitted, HasFit, AreFitted, IsAddedReport};
 ghost use Rattle.netset_entries.specs.FittedLists.{IsFittedText, IsFitFailure, exit_of_fit, fit_words};
 ghost use Rattle.netset_entries.specs.declared.fit.FitFailure.TheVariants.{Memory};
@@ -95,7 +96,8 @@ impl Report for FitFailure {
 pub enum FitLimit {
     /// At most this number of networks, which add as few addresses as possible.
     Networks(usize),
-    /// As few networks as possible, which add at most this percentage of the family's addresses, rounded down.
+    /// As few networks as possible. They add at most this percentage of the number of addresses that the set has in
+    /// the family, rounded down.
     Spare(u32),
 }
 
@@ -175,6 +177,7 @@ fn ipv4_fit(
 ) -> Result<Option<Vec<IpNet>>, AllocError>
     ensures some { IfOk result (λ o. IfSome o (λ list. IsFitted limit (IsMemberOf IPv4 set.now) (IsMember never.now)
         (map ip_network list.items))) }
+    ensures order { IfOk result (λ o. IfSome o (λ list. AreInOrder (map ip_network list.items))) }
     ensures none { IfOk result (λ o. IfNone o
         (¬ (HasFit limit (IsMemberOf IPv4 set.now) (IsMember never.now)))) }
 {
@@ -196,6 +199,7 @@ fn ipv6_fit(
 ) -> Result<Option<Vec<IpNet>>, AllocError>
     ensures some { IfOk result (λ o. IfSome o (λ list. IsFitted limit (IsMemberOf IPv6 set.now) (IsMember never.now)
         (map ip_network list.items))) }
+    ensures order { IfOk result (λ o. IfSome o (λ list. AreInOrder (map ip_network list.items))) }
     ensures none { IfOk result (λ o. IfNone o
         (¬ (HasFit limit (IsMemberOf IPv6 set.now) (IsMember never.now)))) }
 {

@@ -5,6 +5,7 @@ ghost use Rattle.ipnet_text.specs.Pieces.{IsInPieces};
 ghost use Rattle.netset_entries.specs.EntryTexts.{entry_line, entry_line_at, IsFront};
 ghost use Rattle.netset_entries.specs.EntryLineOf.{numbered};
 ghost use Rattle.netset_entries.specs.WriteReports.{IsWriteReported};
+ghost use Rattle.netset_entries.specs.declared.lines.WriteFailure.TheVariants.{Memory, Unwritable};
 
 use crate::entry_list::EntryLine;
 use ipnet_lists::{RefusedLines, report_refused};
@@ -29,12 +30,16 @@ pub enum WriteFailure {
 }
 
 impl From<AllocError> for WriteFailure {
+    ghost from_gives = { λ _ result. result ≡ Memory };
+
     fn from(_: AllocError) -> WriteFailure {
         WriteFailure::Memory
     }
 }
 
 impl From<io::Error> for WriteFailure {
+    ghost from_gives = { λ _ result. result ≡ Unwritable };
+
     fn from(_: io::Error) -> WriteFailure {
         WriteFailure::Unwritable
     }

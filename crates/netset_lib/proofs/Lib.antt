@@ -20,6 +20,7 @@ pub mod StreamLaws
 pub mod StreamParts
 pub mod RuleLaws
 pub mod RuleAnswerLaws
+pub mod RuleWritingLaws
 pub mod NetworkEntryLaws
 pub mod CoveredLaws
 pub mod ApplyLaws

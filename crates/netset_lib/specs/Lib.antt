@@ -27,6 +27,7 @@ pub mod RuleLines
 pub mod RuleContentsOf
 pub mod RuleSteps
 pub mod RuleAnswers
+pub mod RuleWriting
 pub mod NetworkEntries
 pub mod NetworkSteps
 pub mod ChangeLists

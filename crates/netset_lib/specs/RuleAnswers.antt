@@ -15,6 +15,7 @@ use Rattle.ipnet_lists.specs.declared.content_line.ListFailure.TheVariants as Fa
 use Rattle.netset_lib.specs.declared.rule_line.RuleCause.{RuleCause}
 use Rattle.netset_lib.specs.declared.rule_list.RuleList.{RuleList}
 use Rattle.ipnet_lists.specs.ContentLines.{ContentLine}
+use Rattle.netset_lib.specs.RuleContentsOf.{WasRuleListRead}
 use Rattle.netset_lib.specs.RuleLines.{RuleContents, IsRuleList}
 
 -- The addresses that the rules permit: the first rule that matches the address permits it; or no rule matches it, and
@@ -88,3 +89,13 @@ pub record IsOneUnreached (grammar : Grammar) (bytes : List ℕ) : Type 0 where
 abbrev pub IsReachedOutcome : Grammar → List ℕ → Bool → Type 0
 IsReachedOutcome grammar bytes true = AreAllReached grammar bytes
 IsReachedOutcome grammar bytes false = IsOneUnreached grammar bytes
+
+-- The text is the answer of a list that was read, whatever its bytes are.
+abbrev pub IsUnreachedText : RuleList → List ℕ → Type 0
+IsUnreachedText list text = (grammar : Grammar) → (bytes : List ℕ) → WasRuleListRead grammar bytes list
+    → IsUnreachedAnswer grammar bytes text
+
+-- Whether each rule of a list that was read decides on some address.
+abbrev pub AreReached : RuleList → Bool → Type 0
+AreReached list reached = (grammar : Grammar) → (bytes : List ℕ) → WasRuleListRead grammar bytes list
+    → IsReachedOutcome grammar bytes reached

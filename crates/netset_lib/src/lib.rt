@@ -32,6 +32,7 @@ pub mod rule_answer;
 pub mod rule_line;
 pub mod rule_list;
 pub mod rule_program;
+mod rule_writing;
 pub mod runs;
 pub mod script_laws;
 pub mod session;

@@ -6,6 +6,7 @@ ghost use Rattle.ipnet_lists.specs.RefusedLines.{refusal_of, shown_refusals};
 ghost use Rattle.netset_lib.specs.RuleAnswers.{IsPermittedBy, line_text, line_at, covering_lines};
 ghost use Rattle.netset_lib.specs.RuleAnswers.{IsRuleFailure, unreached_lines, AreUnreachedLines, IsPermittedSet};
 ghost use Rattle.netset_lib.specs.RuleContentsOf.{contents_of, line_of_rule};
+ghost use Rattle.netset_lib.specs.RuleWriting.{rule_lines};
 
 use crate::rule_line::RuleCause;
 use crate::rule_list::{RuleLine, RuleList};
@@ -72,6 +73,19 @@ fn push_covering(
         push_line_at(text, lines, indexes[place])?;
     }
     Ok(())
+}
+
+/// Appends the line of the unreached rule, and the lines of the rules that decide on its addresses.
+pub(crate) fn push_rule(
+    text: &mut Vec<u8>,
+    lines: &[RuleLine],
+    unreached: &Unreached,
+) -> Result<(), AllocError>
+    ensures { OnOk result
+        (text.new.items ≡ text.old.items ++ rule_lines (map line_of_rule lines.now) unreached.now) }
+{
+    push_line_at(text, lines, unreached.rule)?;
+    push_covering(text, lines, unreached.deciders.as_slice())
 }
 
 /// Appends the lines of these unreached rules, each with the lines of the rules that decide on its addresses.

@@ -131,13 +131,17 @@ outlines_same true First Second frame depth outlines same h = record {
         λ f. record { in_block = f.in_block; out = λ s. f.out ((same x).1 s) },
         λ f. record { in_block = f.in_block; out = λ s. f.out ((same x).0 s) },
       )) h.are_blocks;
+  each_outline = h.each_outline;
   each = h.each;
+  largest_outline = h.largest_outline;
+  largest = h.largest;
+  all = h.all;
 }
 
 -- the first of a list of chosen networks
-pub front_taken : {X : Type 0} (network_of : X → Network) (items front slice : List X) (chosen : List Network) {k : ℕ}
-    → front ≡ take k slice → slice ≡ items → k ≡ min 1500 (length slice) → map network_of items ≡ chosen
-    → map network_of front ≡ take 1500 chosen
-front_taken network_of items front slice chosen {k} cut same few all =
-    ap (map network_of) (cut ∙ ap (λ z. take z slice) few ∙ take_min 1500 slice ∙ ap (take 1500) same)
-    ∙ sym (take-map network_of 1500 items) ∙ ap (take 1500) all
+pub front_taken : {X : Type 0} (most : ℕ) (network_of : X → Network) (items front slice : List X)
+    (chosen : List Network) {k : ℕ} → front ≡ take k slice → slice ≡ items → k ≡ min most (length slice)
+    → map network_of items ≡ chosen → map network_of front ≡ take most chosen
+front_taken most network_of items front slice chosen {k} cut same few all =
+    ap (map network_of) (cut ∙ ap (λ z. take z slice) few ∙ take_min most slice ∙ ap (take most) same)
+    ∙ sym (take-map network_of most items) ∙ ap (take most) all

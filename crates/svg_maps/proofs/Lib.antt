@@ -1,8 +1,10 @@
 -- Lemmas.
 pub mod NodeLaws
 pub mod FormLaws
+pub mod LegendLaws
 pub mod PageLaws
 pub mod CountLaws
+pub mod GroupLaws
 pub mod FreeLaws
 pub mod NamedLaws
 pub mod EntryLaws

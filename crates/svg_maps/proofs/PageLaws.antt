@@ -118,6 +118,23 @@ five_joined old a b c d e t1 t2 t3 t4 t5 e1 e2 e3 e4 e5 =
     e5 ∙ ap (λ z. z ++ e) (e4 ∙ ap (λ z. z ++ d) (e3 ∙ ap (λ z. z ++ c) (e2 ∙ ap (λ z. z ++ b) e1)))
     ∙ five_parts old a b c d e
 
+-- five texts in a row
+pub five_in_a_row : (a b c d e t1 t2 t3 t4 t5 : List ℕ) → t1 ≡ a → t2 ≡ t1 ++ b → t3 ≡ t2 ++ c → t4 ≡ t3 ++ d
+    → t5 ≡ t4 ++ e → t5 ≡ a ++ b ++ c ++ d ++ e
+five_in_a_row a b c d e t1 t2 t3 t4 t5 e1 e2 e3 e4 e5 =
+    e5 ∙ ap (λ z. z ++ e) (e4 ∙ ap (λ z. z ++ d) (e3 ∙ ap (λ z. z ++ c) (e2 ∙ ap (λ z. z ++ b) e1)))
+
+seven_parts : (old a b c d e f g : List ℕ) → ((((((old ++ a) ++ b) ++ c) ++ d) ++ e) ++ f) ++ g
+    ≡ old ++ (a ++ b ++ c ++ d ++ e ++ f ++ g)
+seven_parts old a b c d e f g = simp append_assoc refl
+
+-- seven texts, one after the other
+pub seven_texts : (old a b c d e f g t1 t2 t3 t4 t5 t6 t7 : List ℕ) → t1 ≡ old ++ a → t2 ≡ t1 ++ b → t3 ≡ t2 ++ c
+    → t4 ≡ t3 ++ d → t5 ≡ t4 ++ e → t6 ≡ t5 ++ f → t7 ≡ t6 ++ g → t7 ≡ old ++ (a ++ b ++ c ++ d ++ e ++ f ++ g)
+seven_texts old a b c d e f g t1 t2 t3 t4 t5 t6 t7 e1 e2 e3 e4 e5 e6 e7 =
+    e7 ∙ ap (λ z. z ++ g) (e6 ∙ ap (λ z. z ++ f) (e5 ∙ ap (λ z. z ++ e) (e4 ∙ ap (λ z. z ++ d)
+    (e3 ∙ ap (λ z. z ++ c) (e2 ∙ ap (λ z. z ++ b) e1))))) ∙ seven_parts old a b c d e f g
+
 four_parts : (old a b c d : List ℕ) → (((old ++ a) ++ b) ++ c) ++ d ≡ old ++ (a ++ b ++ c ++ d)
 four_parts old a b c d = simp append_assoc refl
 

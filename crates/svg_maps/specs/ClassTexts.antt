@@ -6,9 +6,9 @@ use Rattle.ipnet_maps.specs.declared.drawing.Class.TheVariants as Classes
 -- The name of the class. Example: `s4` for cells of which one set has all addresses, and `l0 pale` for cells of which
 -- the first of several sets has a part.
 abbrev pub class_text : Class → List ℕ
-class_text Classes.BelowThird = codes "s1"
-class_text Classes.FromThird = codes "s2"
-class_text Classes.FromTwoThirds = codes "s3"
+class_text Classes.Sparse = codes "s1"
+class_text Classes.BelowQuarter = codes "s2"
+class_text Classes.FromQuarter = codes "s3"
 class_text Classes.Whole = codes "s4"
 class_text Classes.Removed = codes "old"
 class_text Classes.Added = codes "new"

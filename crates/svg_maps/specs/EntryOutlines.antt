@@ -38,7 +38,8 @@ pub record IsShownEntry (frame : Network) (depth : ℕ) (e : MapEntry) : Type 0 
 
 -- The title of the area of an entry with this text: the text, and then in parentheses what the title of a square with
 -- its network says, which is how many of its addresses each set has.
--- Example: `10.20.168.9/22: dhcp-246 (10.20.168.0/22, 1024 addresses, 1024 used)`, for `10.20.168.9/22: dhcp-246`.
+-- Example: `10.20.168.9/22: dhcp-246 (10.20.168.0/22, 1,024 addresses, 1,024 addresses used (100.0 %))`, for
+-- `10.20.168.9/22: dhcp-246`.
 pub record IsEntryTitle (n : Network) (counted : List Counted) (text title : List ℕ) : Type 0 where
   pub place : List ℕ
   pub is_place : IsTitle n counted place
@@ -49,14 +50,15 @@ abbrev pub IsTitledBy : Network → List Counted → List ℕ → Option (String
 IsTitledBy n counted text None = ⊥
 IsTitledBy n counted text (Some title) = IsEntryTitle n counted text (string_bytes title)
 
--- The outline is of the entry: its area and its title.
--- Example: the title `10.20.168.0/22: dhcp-246 (10.20.168.0/22, 1024 addresses, 1024 used)` at the rectangle of
--- 10.20.168.0/22.
+-- The outline is of the entry: its area, its title, and the comment of the entry, which is written in it.
+-- Example: the title `10.20.168.0/22: dhcp-246 (10.20.168.0/22, 1,024 addresses, 1,024 addresses used (100.0 %))` at
+-- the rectangle of 10.20.168.0/22.
 pub record IsEntryOutline (counted : List Counted) (frame : Network) (depth : ℕ) (e : MapEntry) (o : Outline) : Type 0
   where
     pub class : o.class ≡ Entry
     pub area : IsRectangleIn frame depth (ip_network e.network) o.rectangle
     pub title : IsTitledBy (ip_network e.network) counted (string_bytes e.title) o.title
+    pub comment : string_bytes o.comment ≡ string_bytes e.comment
 
 -- The outlines are of the entries that are shown, in order: each of these has one, and no other entry has.
 -- Example: one outline, of the second of two entries, if the first is outside.

@@ -1,8 +1,10 @@
 -- The definitions that the contracts of this crate cite.
 pub mod ClassTexts
 pub mod Pages
+pub mod Counts
 pub mod Squares
 pub mod Maps
+pub mod Legends
 pub mod Styles
 pub mod FreeOutlines
 pub mod NamedOutlines

@@ -1,10 +1,11 @@
 -- Maps: the document that shows a drawing of sets.
-use Rattle.std.specs.Prelude.{◌≡◌, ℕ, ◌^◌, List, [], ◌∷◌, ◌++◌, length, map, codes}
+use Rattle.std.specs.Prelude.{◌≡◌, ◌↔◌, ℕ, ◌^◌, List, [], ◌∷◌, ◌++◌, length, map, codes}
+use Rattle.ipnet_base.specs.Address.{Address}
 use Rattle.ipnet_base.specs.Blocks.{IsInEither}
 use Rattle.ipnet_base.specs.Network.{Network}
 use Rattle.ipnet_sets.specs.declared.set.IpSet.{IpSet}
 use Rattle.ipnet_sets.specs.ManySets.{IsInSome}
-use Rattle.ipnet_sets.specs.Members.{IsMember, IsDifference, IsIntersection}
+use Rattle.ipnet_sets.specs.Members.{IsMember, IsDifference, IsIntersection, IsUnion}
 use Rattle.ipnet_maps.specs.declared.drawing.Drawing.{Drawing}
 use Rattle.ipnet_maps.specs.Classes.{HasLevelClass, level_classes, HasChangeClass, change_classes}
 use Rattle.ipnet_maps.specs.Classes.{HasSharedClass, shared_classes}
@@ -13,37 +14,48 @@ use Rattle.ipnet_maps.specs.Cuts.{columns_in, rows_in}
 use Rattle.ipnet_maps.specs.Squares.{square_cuts}
 use Rattle.svg_text.specs.Documents.{nodes_text}
 use Rattle.svg_maps.specs.declared.square.Counted.{Counted}
-use Rattle.svg_maps.specs.Pages.{PageView, page_nodes, cell_pixels}
+use Rattle.svg_maps.specs.Legends.{HasLine, IsOutsideNote, row_of, legend_rows}
+use Rattle.svg_maps.specs.Pages.{PageView, page_nodes, cell_pixels, FitsPage}
 use Rattle.svg_maps.specs.Squares.{AreSquaresOf, IsTitle}
 
 -- The text is the document of a page that shows the drawing in this frame. The page has a path for each layer, whose
 -- rectangles are the layer's, and all squares, whose titles say how many addresses each set has in them. A cell has as
--- many pixels as its share of the width of the map allows.
+-- many pixels as its share of the width of the map allows, and the whole map is on the page. The legend has a row for
+-- each class with cells, in its words, and the foot has the note.
 -- Example: for 10.20.0.0/16 with 16 bits, the map is 256 cells wide and high, and a cell has 4 pixels.
-pub record IsMapText (frame : Network) (counted : List Counted) (d : Drawing) (text : List ℕ) : Type 0 where
+pub record IsMapText (frame : Network) (counted : List Counted) (d : Drawing) (names : List (List ℕ)) (note : List ℕ)
+    (text : List ℕ) : Type 0 where
   pub view : PageView
   pub layers : view.layers ≡ d.layers.items
   pub width : view.sides.width ≡ 2 ^ columns_in (square_cuts frame.prefix_len d.depth)
   pub height : view.sides.height ≡ 2 ^ rows_in (square_cuts frame.prefix_len d.depth)
   pub scale : view.scale ≡ cell_pixels view.sides.width
+  pub fits : FitsPage view.chart_place view.scale view.sides.width view.sides.height view.area
+  pub legend : map row_of view.swatches ≡ legend_rows names d.layers.items
+  pub foot : HasLine note view.captions
   pub squares : AreSquaresOf frame d.depth counted view.squares
   pub summary : IsTitle frame counted view.summary
   pub spelled : text ≡ nodes_text (page_nodes view)
 
--- The text is a map of the set in the frame: the drawing of its levels, and squares that count its addresses.
--- Example: the title of a square is `10.20.5.0/24, 256 addresses, 57 used`.
+-- The text is a map of the set in the frame: the drawing of its levels, and squares that count its addresses. The foot
+-- has how many of its addresses are outside the frame.
+-- Example: the title of a square is `10.20.5.0/24, 256 addresses, 57 addresses used (22.2 %)`.
 pub record IsSetMap (set : IpSet) (frame : Network) (text : List ℕ) : Type 0 where
   pub drawing : Drawing
   pub drawn : IsDrawingOf (IsMember set) (HasLevelClass (IsMember set)) level_classes frame drawing
   pub counted : List Counted
   pub sets : map (λ c. c.set.now) counted ≡ set ∷ []
   pub words : map (λ c. c.words.now) counted ≡ codes "used" ∷ []
-  pub page : IsMapText frame counted drawing text
+  pub note : List ℕ
+  pub outside : IsOutsideNote (IsMember set) frame note
+  pub page : IsMapText frame counted drawing [] note text
 
 -- The text is a map of the change from one set to the other in the frame: the drawing of the changes, and squares that
--- count the addresses that only the first has, that only the second has, and that both have.
+-- count the addresses that only the first has, that only the second has, and that both have. The foot has how many
+-- changed addresses are outside the frame.
 -- Example: the title of a square is
--- `10.20.5.0/24, 256 addresses, 3 only in the first, 0 only in the second, 57 in both`.
+-- `10.20.5.0/24, 256 addresses, 3 addresses only in the first (1.1 %), 0 addresses only in the second (0.0 %), 57
+-- addresses in both (22.2 %)`.
 pub record IsChangeMap (before after : IpSet) (frame : Network) (text : List ℕ) : Type 0 where
   pub drawing : Drawing
   pub drawn : IsDrawingOf (IsInEither (IsMember before) (IsMember after))
@@ -58,19 +70,29 @@ pub record IsChangeMap (before after : IpSet) (frame : Network) (text : List ℕ
   pub sets : map (λ c. c.set.now) counted ≡ removed ∷ added ∷ kept ∷ []
   pub words : map (λ c. c.words.now) counted
       ≡ codes "only in the first" ∷ codes "only in the second" ∷ codes "in both" ∷ []
-  pub page : IsMapText frame counted drawing text
+  pub changed : IpSet
+  pub is_changed : IsUnion changed removed added
+  pub note : List ℕ
+  pub outside : IsOutsideNote (IsMember changed) frame note
+  pub page : IsMapText frame counted drawing [] note text
 
 -- The words after the number of addresses of the list with this name. Example: `in office.txt`.
 abbrev pub list_words : List ℕ → List ℕ
 list_words name = codes "in " ++ name
 
 -- The text is a map of the sets in the frame: the drawing of the cells that one set has, or several, and squares that
--- count the addresses of each set, by its name if each set has one.
--- Example: the title of a square is `10.20.5.0/24, 256 addresses, 57 in office.txt, 0 in vpn.txt`.
+-- count the addresses of each set, by its name if each set has one. The foot has how many addresses of the sets are
+-- outside the frame.
+-- Example: the title of a square is
+-- `10.20.5.0/24, 256 addresses, 57 addresses in office.txt (22.2 %), 0 addresses in vpn.txt (0.0 %)`.
 pub record IsSetsMap (sets : List IpSet) (names : List (List ℕ)) (frame : Network) (text : List ℕ) : Type 0 where
   pub drawing : Drawing
   pub drawn : IsDrawingOf (IsInSome IsMember sets) (HasSharedClass sets) (shared_classes sets) frame drawing
   pub counted : List Counted
   pub each : map (λ c. c.set.now) counted ≡ sets
   pub words : length names ≡ length sets → map (λ c. c.words.now) counted ≡ map list_words names
-  pub page : IsMapText frame counted drawing text
+  pub all : IpSet
+  pub is_all : (x : Address) → IsMember all x ↔ IsInSome IsMember sets x
+  pub note : List ℕ
+  pub outside : IsOutsideNote (IsMember all) frame note
+  pub page : IsMapText frame counted drawing names note text

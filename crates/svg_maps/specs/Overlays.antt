@@ -39,10 +39,12 @@ pub record HasLook (look : Look) (counted : List Counted) (InSet : Address → T
   pub style : view.style ≡ style_text look.theme
   pub outlines : AreOutlinesOver look counted InSet frame depth view.outlines
 
--- The text is a map of the drawing, its style sheet is this text, and the outlines on it are these.
-abbrev pub IsOutlinedMap : Network → List Counted → Drawing → (style : List ℕ) → List Outline → List ℕ → Type 0
-IsOutlinedMap frame counted d style outlines text =
-    (page : IsMapText frame counted d text) × (page.view.style ≡ style) × (page.view.outlines ≡ outlines)
+-- The text is a map of the drawing, for lists with these names, with this note in its foot, this style sheet, and these
+-- outlines.
+abbrev pub IsOutlinedMap : Network → List Counted → Drawing → (names : List (List ℕ)) → (note style : List ℕ)
+    → List Outline → List ℕ → Type 0
+IsOutlinedMap frame counted d names note style outlines text =
+    (page : IsMapText frame counted d names note text) × (page.view.style ≡ style) × (page.view.outlines ≡ outlines)
 
 -- The text is a map of the set with this look. It outlines the networks with names, and the free blocks if they are to
 -- be shown.

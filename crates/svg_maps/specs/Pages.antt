@@ -1,6 +1,6 @@
 -- Pages: the document of a map.
-use Rattle.std.specs.Prelude.{ℕ, ◌*◌, ◌/◌, min, max, List, [], ◌∷◌, ◌++◌, map, filter, codes, decimal, string_bytes}
-use Rattle.std.specs.Prelude.{Option, Some, None, String}
+use Rattle.std.specs.Prelude.{◌≤◌, ℕ, ◌+◌, ◌*◌, ◌/◌, min, max, List, [], ◌∷◌, ◌++◌, map, filter, codes, decimal}
+use Rattle.std.specs.Prelude.{Option, Some, None, String, string_bytes}
 use Rattle.std.specs.Global.{Global}
 use Rattle.ipnet_maps.specs.declared.drawing.Layer.{Layer}
 use Rattle.ipnet_maps.specs.declared.layout.Place.{Place}
@@ -24,6 +24,7 @@ use Rattle.svg_maps.specs.declared.outline.OutlineClass.TheVariants as OutlineCl
 use Rattle.svg_maps.specs.declared.outline.Outline.{Outline}
 use Rattle.svg_maps.specs.declared.chart.Chart.{Chart}
 use Rattle.svg_maps.specs.declared.page.Page.{Page}
+use Rattle.svg_maps.specs.declared.ring.Ring.{Ring}
 use Rattle.svg_maps.specs.ClassTexts.{class_text}
 
 -- The attribute with this name and text.
@@ -48,6 +49,7 @@ ink_text Inks.Halo = codes "ink halo"
 ink_text Inks.Inverse = codes "inverse"
 ink_text Inks.Black = codes "black"
 ink_text Inks.Free = codes "faint note"
+ink_text Inks.Largest = codes "ink note strong"
 ink_text Inks.Name = codes "ink halo note"
 
 -- The side of a label that is at its place.
@@ -122,9 +124,16 @@ pixel_rectangle scale r = record {
   sides = record { width = pixels scale r.sides.width; height = pixels scale r.sides.height };
 }
 
+-- A map at this place is on a page of this size. It is this many cells wide and high, of `scale` pixels each.
+-- Example: 256 cells of 4 pixels, from column 56 on, are on a page that is 1,096 pixels wide.
+pub record FitsPage (place : Place) (scale width height : ℕ) (area : Sides) : Type 0 where
+  pub columns : place.column + pixels scale width ≤ area.width
+  pub rows : place.row + pixels scale height ≤ area.height
+
 -- The class of an outline in the style sheet.
 abbrev pub outline_text : OutlineClass → List ℕ
 outline_text OutlineClasses.Free = codes "free"
+outline_text OutlineClasses.LargestFree = codes "best"
 outline_text OutlineClasses.Named = codes "name"
 outline_text OutlineClasses.Entry = codes "hit"
 
@@ -138,12 +147,12 @@ area_nodes marks (Some title) = titled_nodes marks (string_bytes title)
 abbrev pub outline_nodes : ℕ → Outline → Nodes
 outline_nodes scale o = area_nodes (area_marks (outline_text o.class) (pixel_rectangle scale o.rectangle)) o.title
 
--- A ring with this middle, in pixels. Example: `<circle class="ring" cx="24" cy="8" r="11"/>`.
-abbrev pub ring_nodes : Place → Nodes
-ring_nodes middle =
+-- A ring in the colour of its class. Example: `<circle class="ring old" cx="24" cy="8" r="9"/>`.
+abbrev pub ring_nodes : Ring → Nodes
+ring_nodes r =
     empty Elements.Circle
-    (text_mark Attributes.Class (codes "ring") ∷ number_mark Attributes.Cx middle.column
-    ∷ number_mark Attributes.Cy middle.row ∷ number_mark Attributes.R 11 ∷ []) end
+    (text_mark Attributes.Class (codes "ring " ++ class_text r.class) ∷ number_mark Attributes.Cx r.middle.column
+    ∷ number_mark Attributes.Cy r.middle.row ∷ number_mark Attributes.R 9 ∷ []) end
 
 -- The lines around the squares, in pixels.
 abbrev pub grid_rectangles : ℕ → List Square → List Rectangle
@@ -173,8 +182,7 @@ small_marks = text_mark Attributes.Class (codes "small") ∷ text_mark Attribute
 
 -- The map: its ground, the paths of each class, the lines of its squares, their titles, its outlines and rings,
 -- and its labels.
-abbrev pub chart_nodes : List Layer → List Square → List Outline → (rings : List Place) → List Label → Sides → ℕ
-    → Nodes
+abbrev pub chart_nodes : List Layer → List Square → List Outline → List Ring → List Label → Sides → ℕ → Nodes
 chart_nodes layers squares outlines rings labels sides scale =
     empty Elements.Rect (ground_marks sides scale)
     (element Elements.Group (cells_marks scale) (nodes_of layer_nodes layers)
@@ -197,7 +205,7 @@ pub record PageView : Type 0 where
   pub layers : List Layer
   pub squares : List Square
   pub outlines : List Outline
-  pub rings : List Place
+  pub rings : List Ring
   pub labels : List Label
   pub sides : Sides
   pub scale : ℕ

@@ -1,5 +1,5 @@
 -- Squares: the networks of one length in a map, with what their titles say.
-use Rattle.std.specs.Prelude.{◌≡◌, ℕ, ◌+◌, ◌-◌, ◌/◌, ◌%◌, min, List, [], ◌∷◌, ◌++◌, codes, decimal, nat_le}
+use Rattle.std.specs.Prelude.{◌≡◌, ℕ, ◌+◌, ◌-◌, ◌/◌, ◌%◌, min, List, [], ◌∷◌, ◌++◌, codes, nat_le}
 use Rattle.std.specs.Prelude.{string_bytes, if◌then◌else◌}
 use Rattle.std.specs.List.{AllZip}
 use Rattle.ipnet_base.specs.Network.{Network}
@@ -7,18 +7,24 @@ use Rattle.ipnet.specs.CanonicalTexts.{canonical_text}
 use Rattle.ipnet.specs.NetworkParts.{AreSubnetsOfLength}
 use Rattle.ipnet_sets.specs.Members.{IsMember, IsCountOf}
 use Rattle.ipnet_sets.specs.Parts.{IsInPart}
+use Rattle.ipnet_bars.specs.MarkTexts.{percent_text}
 use Rattle.ipnet_bars.specs.Parts.{block_size}
+use Rattle.ipnet_bars.specs.Shares.{tenths}
 use Rattle.ipnet_maps.specs.Places.{IsRectangleIn}
+use Rattle.svg_maps.specs.Counts.{quantity_text}
 use Rattle.svg_maps.specs.declared.square.Counted.{Counted}
 use Rattle.svg_maps.specs.declared.chart.Square.{Square}
 
--- A set has this many addresses in the network, and this is the text that says so. Example: `, 57 used`.
+-- A set has this many addresses in the network, and this is the text that says so, with their share of the network.
+-- Example: `, 57 addresses used (22.2 %)`.
 pub record IsCountText (n : Network) (c : Counted) (text : List ℕ) : Type 0 where
   pub count : ℕ
   pub is_count : IsCountOf (IsInPart (IsMember c.set.now) n) count
-  pub spelled : text ≡ codes ", " ++ decimal count ++ codes " " ++ c.words.now
+  pub spelled : text ≡ codes ", " ++ quantity_text count ++ codes " " ++ c.words.now ++ codes " ("
+      ++ percent_text (tenths count (block_size n)) ++ codes ")"
 
--- The text says how many addresses each of the sets has in the network. Example: `, 3 removed, 0 added`.
+-- The text says how many addresses each of the sets has in the network.
+-- Example: `, 3 addresses removed (1.1 %), 0 addresses added (0.0 %)`.
 abbrev pub AreCountTexts : Network → List Counted → List ℕ → Type 0
 AreCountTexts n [] text = text ≡ []
 AreCountTexts n (c ∷ counted) text = (first : List ℕ) × (rest : List ℕ) × IsCountText n c first
@@ -26,10 +32,10 @@ AreCountTexts n (c ∷ counted) text = (first : List ℕ) × (rest : List ℕ) �
 
 -- The start of a title. Example: `10.20.5.0/24, 256 addresses`.
 abbrev pub title_start : Network → List ℕ
-title_start n = canonical_text n ++ codes ", " ++ decimal (block_size n) ++ codes " addresses"
+title_start n = canonical_text n ++ codes ", " ++ quantity_text (block_size n)
 
 -- The title of a network: its text, and how many of its addresses each set has.
--- Example: `10.20.5.0/24, 256 addresses, 57 used`.
+-- Example: `10.20.5.0/24, 256 addresses, 57 addresses used (22.2 %)`.
 pub record IsTitle (n : Network) (counted : List Counted) (text : List ℕ) : Type 0 where
   pub counts : List ℕ
   pub each : AreCountTexts n counted counts

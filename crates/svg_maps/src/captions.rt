@@ -1,10 +1,11 @@
 //! The texts beside a map: its title, its foot and its legend.
-ghost use Rattle.std.specs.Prelude.{◌≡◌, ◌+◌, ◌^◌, ◌≤◌, IfOk};
+ghost use Rattle.std.specs.Prelude.{◌≡◌, ◌+◌, ◌^◌, ◌≤◌, IfOk, OnOk, map};
 ghost use Rattle.ipnet_base.specs.Address.{width};
 ghost use Rattle.ipnet.specs.NetworkOf.{ip_network};
-ghost use Rattle.ipnet_maps.specs.Cuts.{columns_in};
+ghost use Rattle.ipnet_maps.specs.Cuts.{columns_in, rows_in};
 ghost use Rattle.ipnet_maps.specs.Squares.{square_cuts};
-ghost use Rattle.svg_maps.specs.Pages.{cell_pixels};
+ghost use Rattle.svg_maps.specs.Legends.{HasLine, row_of, legend_rows};
+ghost use Rattle.svg_maps.specs.Pages.{cell_pixels, FitsPage};
 
 use crate::form::MapForm;
 use crate::label::{Ink, Label, Swatch, label_at};
@@ -21,6 +22,15 @@ const SUMMARY: u32 = 50;
 
 /// The row of the legend, in pixels, without the lines of the summary.
 const LEGEND: u32 = 44;
+
+/// The facts about a map that the texts of its page have, beside its form.
+#[derive(Clone, Copy)]
+pub(crate) struct MapFacts<'a> {
+    /// The sentence about the network.
+    pub(crate) summary: &'a str,
+    /// How many small parts have no ring.
+    pub(crate) without_ring: usize,
+}
 
 /// The texts of a page, and its sizes.
 #[derive(Drop)]
@@ -39,25 +49,28 @@ fn page_title(alloc: Global, frame: &IpNet, form: MapForm<'_>) -> Result<String,
     format!(in alloc; "{heading} {network}")
 }
 
-/// The foot of the page, in lines, each of which ends after a sentence.
+/// The foot of the page without its last line, in lines, each of which ends after a sentence.
 fn foot_of(
     alloc: Global,
     frame: &IpNet,
     depth: u8,
     form: MapForm<'_>,
+    without_ring: usize,
 ) -> Result<Vec<String>, AllocError>
     requires few { depth ≤ 20 }
     requires fits { (ip_network frame.now).prefix_len + depth ≤ width (ip_network frame.now).family }
 {
     let square_len = frame.prefix_len() + first_bits_of(frame.prefix_len(), depth);
     let cell_len = frame.prefix_len() + depth;
-    let note = form.note;
     let more = form.overlay.note.as_str();
     let mut text = String::from_str(alloc, "Reads like text: left to right, then down.")?;
     write!(
         text,
-        " A square is a /{square_len}. The smallest dot is a /{cell_len}.{note}{more}"
+        " A square is a /{square_len}. The smallest dot is a /{cell_len}.{more}"
     )?;
+    if without_ring > 0 {
+        write!(text, " Small parts without a ring: {without_ring}.")?;
+    }
     lines_of(alloc, text.as_str(), ". ")
 }
 
@@ -81,38 +94,64 @@ fn push_lines(
     Ok(())
 }
 
+/// Appends the last line of the foot, if it is not empty.
+#[tactic(auto, using(crate::proofs::LegendLaws::line_pushed))]
+fn push_note(
+    alloc: Global,
+    captions: &mut Vec<Label>,
+    note: &str,
+    row: u32,
+) -> Result<(), AllocError>
+    ensures { OnOk result (HasLine note.now captions.new.items) }
+{
+    if note.is_empty() {
+        return Ok(());
+    }
+    let words = String::from_str(alloc, note)?;
+    captions.push(label_at(Ink::Faint, EDGE, row, words))?;
+    Ok(())
+}
+
 /// Returns the texts of the page, and its sizes. Fails only if memory runs out.
 pub(crate) fn captions_of(
     alloc: Global,
     frame: &IpNet,
     drawing: &Drawing,
     form: MapForm<'_>,
-    summary: &str,
+    facts: MapFacts<'_>,
 ) -> Result<PageTexts, AllocError>
     requires few { drawing.now.depth ≤ 20 }
     requires fits { (ip_network frame.now).prefix_len + drawing.now.depth ≤ width (ip_network frame.now).family }
-    ensures { IfOk result (λ texts. texts.sheet.scale
+    ensures scale { IfOk result (λ texts. texts.sheet.scale
         ≡ cell_pixels (2 ^ columns_in (square_cuts (ip_network frame.now).prefix_len drawing.now.depth))) }
+    ensures fits { let cuts = square_cuts (ip_network frame.now).prefix_len drawing.now.depth in IfOk result (λ texts.
+        FitsPage texts.sheet.chart_place texts.sheet.scale (2 ^ columns_in cuts) (2 ^ rows_in cuts) texts.sheet.area) }
+    ensures legend { IfOk result (λ texts. map row_of texts.swatches.items
+        ≡ legend_rows (map (λ n. n.now) form.entry.names.now) drawing.now.layers.items) }
+    ensures foot { IfOk result (λ texts. HasLine form.entry.note.now texts.captions.items) }
 {
     let depth = drawing.depth;
-    let cell_len = frame.prefix_len() + depth;
     let title = page_title(alloc, frame, form)?;
     let mut captions = Vec::new(alloc);
     captions.push(label_at(Ink::Head, EDGE, 26, title.clone()?))?;
-    let summary = lines_of(alloc, summary, ", ")?;
+    let summary = lines_of(alloc, facts.summary, ", ")?;
     push_lines(&mut captions, Ink::Plain, summary.as_slice(), SUMMARY)?;
     let legend_row = row_after(LEGEND, summary.len());
     let layers = drawing.layers.as_slice();
-    let swatches = legend_of(alloc, layers, form.names, cell_len, legend_row)?;
+    let swatches = legend_of(alloc, layers, form.names, legend_row)?;
     let lines = form.overlay.lines.as_slice();
     let row = row_after(legend_row, swatches.len());
     let baseline = row.saturating_add(10);
     push_lines(&mut captions, Ink::Plain, lines, baseline)?;
     let top = row_after(row, lines.len()).saturating_add(8);
     let heads = has_heads(frame.prefix_len(), depth);
-    let foot = foot_of(alloc, frame, depth, form)?;
-    let sheet = sheet_of(sides_of(frame, depth), heads, top, foot.len());
+    let foot = foot_of(alloc, frame, depth, form, facts.without_ring)?;
+    let note_lines = usize::from(!form.note.is_empty());
+    let count = foot.len().saturating_add(note_lines);
+    let sheet = sheet_of(sides_of(frame, depth), heads, top, count);
     push_lines(&mut captions, Ink::Faint, foot.as_slice(), sheet.foot_row)?;
+    let last_row = row_after(sheet.foot_row, foot.len());
+    push_note(alloc, &mut captions, form.note, last_row)?;
     Ok(PageTexts {
         title,
         captions,

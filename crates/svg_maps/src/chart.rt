@@ -10,9 +10,9 @@ use crate::area::push_titled_area;
 use crate::class::class_name;
 use crate::label::{Label, number_attribute, push_labels, text_attribute};
 use crate::outline::{Outline, push_outlines};
-use crate::ring::push_rings;
+use crate::ring::{Ring, push_rings};
 use crate::sheet::{pixels_of, rectangle_in_pixels};
-use ipnet_maps::{Layer, Place, Rectangle, Sides, path_text, rows_path_text, tall_path_text};
+use ipnet_maps::{Layer, Rectangle, Sides, path_text, rows_path_text, tall_path_text};
 use std::alloc::{AllocError, Global};
 use svg_text::{Attribute, AttributeName, ElementName, Value, push_empty, push_end, push_start};
 
@@ -36,8 +36,8 @@ pub struct Chart<'a> {
     pub squares: &'a [Square],
     /// The outlines.
     pub outlines: &'a [Outline],
-    /// The middles of the rings, in pixels.
-    pub rings: &'a [Place],
+    /// The rings.
+    pub rings: &'a [Ring],
     /// The labels on the map.
     pub labels: &'a [Label],
     /// How many cells the map is wide and high.
@@ -231,6 +231,6 @@ pub(crate) fn push_chart(
     push_grid(alloc, text, chart.scale, chart.squares)?;
     push_areas(text, chart.squares, chart.scale)?;
     push_outlines(text, chart.scale, chart.outlines)?;
-    push_rings(text, chart.rings)?;
+    push_rings(alloc, text, chart.rings)?;
     push_small(text, chart.labels)
 }

@@ -10,9 +10,9 @@ pub(crate) fn class_name(alloc: Global, class: Class) -> Result<String, AllocErr
     ensures { IfOk result (λ name. string_bytes name ≡ class_text class) }
 {
     match class {
-        Class::BelowThird => String::from_str(alloc, "s1"),
-        Class::FromThird => String::from_str(alloc, "s2"),
-        Class::FromTwoThirds => String::from_str(alloc, "s3"),
+        Class::Sparse => String::from_str(alloc, "s1"),
+        Class::BelowQuarter => String::from_str(alloc, "s2"),
+        Class::FromQuarter => String::from_str(alloc, "s3"),
         Class::Whole => String::from_str(alloc, "s4"),
         Class::Removed => String::from_str(alloc, "old"),
         Class::Added => String::from_str(alloc, "new"),

@@ -24,6 +24,8 @@ pub struct MapEntry {
     pub network: IpNet,
     /// Its text and its comment, with which the title of its area begins.
     pub title: String,
+    /// Its comment, which is written in its area if there is room.
+    pub comment: String,
 }
 
 /// The entries of lists that a map may show.
@@ -84,11 +86,13 @@ fn entry_outline(
     }
     let title = entry_title(alloc, entry, counted)?;
     let label = short_text(alloc, &entry.network, frame.prefix_len())?;
+    let comment = String::from_str(alloc, entry.comment.as_str())?;
     Ok(Some(Outline {
         class: OutlineClass::Entry,
         rectangle,
         title: Some(title),
         label,
+        comment,
     }))
 }
 
@@ -110,7 +114,7 @@ fn push_found(outlines: &mut Vec<Outline>, found: Option<Outline>) -> Result<(),
 ///
 /// ```text
 /// of 10.20.168.0/22 with "10.20.168.9/22: dhcp-246", in 10.20.0.0/16: the title is
-/// "10.20.168.9/22: dhcp-246 (10.20.168.0/22, 1024 addresses, 1024 used)"
+/// "10.20.168.9/22: dhcp-246 (10.20.168.0/22, 1,024 addresses, 1,024 addresses used (100.0 %))"
 /// ```
 pub(crate) fn entry_outlines(
     alloc: Global,

@@ -11,7 +11,7 @@ pub struct MapForm<'a> {
     pub heading: &'a str,
     /// The names of the sets, for the legend of a map of several sets.
     pub names: &'a [&'a str],
-    /// A text for the end of the foot.
+    /// The last line of the foot; there is none if this is empty.
     pub note: &'a str,
     /// The outlines over the cells.
     pub overlay: &'a Overlay,

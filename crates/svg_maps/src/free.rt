@@ -1,5 +1,5 @@
 //! The free blocks of a map: their outlines, and the lines of the legend about them.
-ghost use Rattle.std.specs.Prelude.{◌≡◌, ◌+◌, ◌≤◌, ◌++◌, All, IfOk, OnOk, map, take};
+ghost use Rattle.std.specs.Prelude.{◌≡◌, ◌+◌, ◌≤◌, ◌++◌, All, IfOk, OnOk, map, take, string_bytes};
 ghost use Rattle.std.specs.List.{AllZip};
 ghost use Rattle.ipnet_base.specs.Address.{width};
 ghost use Rattle.ipnet_base.specs.Blocks.{AreMaximalBlocks};
@@ -7,7 +7,8 @@ ghost use Rattle.ipnet_base.specs.Network.{IsSubnetOf};
 ghost use Rattle.ipnet.specs.NetworkOf.{ip_network};
 ghost use Rattle.ipnet_sets.specs.Members.{IsMember};
 ghost use Rattle.ipnet_bars.specs.Summaries.{IsFree};
-ghost use Rattle.svg_maps.specs.FreeOutlines.{with_len, largest_first, IsFreeOutline, AreFreeOutlines};
+ghost use Rattle.svg_maps.specs.FreeOutlines.{with_len, largest_first, free_class, free_label, free_comment};
+ghost use Rattle.svg_maps.specs.FreeOutlines.{IsFreeOutline, AreFreeOutlines};
 
 use crate::outline::{Outline, OutlineClass};
 use ipnet::IpNet;
@@ -52,52 +53,84 @@ pub(crate) fn largest_blocks(
     Ok(list)
 }
 
-/// The outline of the free block.
+/// The class of the outline of a free block.
+fn free_class(is_largest: bool) -> OutlineClass
+    ensures { result ≡ free_class is_largest }
+{
+    if is_largest {
+        OutlineClass::LargestFree
+    } else {
+        OutlineClass::Free
+    }
+}
+
+/// The text in a free block.
+fn free_label(alloc: Global, block: &IpNet, is_largest: bool) -> Result<String, AllocError>
+    ensures { IfOk result (λ label. string_bytes label ≡ free_label is_largest (ip_network block.now)) }
+{
+    if is_largest {
+        return String::from_str(alloc, block.to_text().as_str());
+    }
+    let len = block.prefix_len();
+    format!(in alloc; "/{len}")
+}
+
+/// The text above the label of a free block.
+fn free_comment(is_largest: bool) -> &'static str
+    ensures { result.now ≡ free_comment is_largest }
+{
+    if is_largest { "largest free block" } else { "" }
+}
+
+/// The outline of the free block, which may be the largest.
 fn free_outline(
     alloc: Global,
     frame: &IpNet,
     depth: u8,
     block: &IpNet,
+    is_largest: bool,
 ) -> Result<Outline, AllocError>
     requires few { depth ≤ 20 }
     requires fits { (ip_network frame.now).prefix_len + depth ≤ width (ip_network frame.now).family }
     requires inside { IsSubnetOf (ip_network block.now) (ip_network frame.now) }
     requires large { (ip_network block.now).prefix_len ≤ (ip_network frame.now).prefix_len + depth }
-    ensures { IfOk result (IsFreeOutline (ip_network frame.now) depth (ip_network block.now)) }
+    ensures { IfOk result (IsFreeOutline is_largest (ip_network frame.now) depth (ip_network block.now)) }
 {
-    let len = block.prefix_len();
-    let label = format!(in alloc; "/{len}")?;
+    let label = free_label(alloc, block, is_largest)?;
+    let comment = String::from_str(alloc, free_comment(is_largest))?;
     Ok(Outline {
-        class: OutlineClass::Free,
+        class: free_class(is_largest),
         rectangle: rectangle_in(frame, depth, block),
         title: None,
         label,
+        comment,
     })
 }
 
-/// The outlines of the free blocks.
+/// The outlines of the free blocks, or of the largest.
 fn free_outlines(
     alloc: Global,
     frame: &IpNet,
     depth: u8,
     blocks: &[IpNet],
+    is_largest: bool,
 ) -> Result<Vec<Outline>, AllocError>
     requires few { depth ≤ 20 }
     requires fits { (ip_network frame.now).prefix_len + depth ≤ width (ip_network frame.now).family }
     requires inside { All (λ n. IsSubnetOf (ip_network n) (ip_network frame.now)) blocks.now }
     requires large { All (λ n. (ip_network n).prefix_len ≤ (ip_network frame.now).prefix_len + depth) blocks.now }
     ensures { IfOk result (λ list.
-        AllZip (IsFreeOutline (ip_network frame.now) depth) (map ip_network blocks.now) list.items) }
+        AllZip (IsFreeOutline is_largest (ip_network frame.now) depth) (map ip_network blocks.now) list.items) }
 {
     let mut outlines = Vec::new(alloc);
     for block in blocks {
-        let outline = free_outline(alloc, frame, depth, block)?;
+        let outline = free_outline(alloc, frame, depth, block, is_largest)?;
         outlines.push(outline)?;
     }
     Ok(outlines)
 }
 
-/// Returns the outlines of the largest of the free blocks.
+/// Returns the outlines of the largest of the free blocks, and then once more the outline of the first of them.
 pub(crate) fn outlines_of(
     alloc: Global,
     frame: &IpNet,
@@ -113,5 +146,9 @@ pub(crate) fn outlines_of(
     let list = largest_blocks(alloc, free, frame, depth)?;
     let all = list.as_slice();
     let (front, _) = all.split_at(MOST.min(all.len()));
-    free_outlines(alloc, frame, depth, front)
+    let (first, _) = all.split_at(usize::min(1, all.len()));
+    let mut outlines = free_outlines(alloc, frame, depth, front, false)?;
+    let mut largest = free_outlines(alloc, frame, depth, first, true)?;
+    outlines.append(&mut largest)?;
+    Ok(outlines)
 }

@@ -25,6 +25,8 @@ pub enum Ink {
     Black,
     /// The length of a free block.
     Free,
+    /// A text in the largest free block.
+    Largest,
     /// The name of a network on the map.
     Name,
 }
@@ -65,7 +67,9 @@ pub struct Swatch {
 }
 
 /// The label with this text, whose left side is at this place.
-pub(crate) fn label_at(ink: Ink, column: u32, row: u32, words: String) -> Label {
+pub(crate) fn label_at(ink: Ink, column: u32, row: u32, words: String) -> Label
+    ensures { result.words ≡ words }
+{
     Label {
         ink,
         anchor: Anchor::Start,
@@ -86,6 +90,7 @@ fn ink_class(ink: Ink) -> &'static str
         Ink::Inverse => "inverse",
         Ink::Black => "black",
         Ink::Free => "faint note",
+        Ink::Largest => "ink note strong",
         Ink::Name => "ink halo note",
     }
 }

@@ -1,5 +1,6 @@
-//! The legend: what the colour of each class says of a cell.
-ghost use Rattle.std.specs.Prelude.{◌≡◌};
+//! The legend: what the colour of each class says of a dot.
+ghost use Rattle.std.specs.Prelude.{◌≡◌, ◌++◌, IfOk, map, slice_get, string_bytes};
+ghost use Rattle.svg_maps.specs.Legends.{list_name, class_words, row_of, legend_rows};
 
 use crate::label::{Anchor, Ink, Label, Swatch};
 use ipnet_maps::{Class, Layer, Place};
@@ -11,49 +12,58 @@ pub(crate) const EDGE: u32 = 16;
 /// The height of a line, in pixels.
 pub(crate) const LINE: u32 = 18;
 
-/// The meaning of the colour of a cell that only the list at this place has.
-fn list_words(
-    alloc: Global,
-    names: &[&str],
-    place: usize,
-    part: &str,
-    cell_len: u8,
-) -> Result<String, AllocError> {
+/// The name of the list at this place in the legend.
+#[tactic(auto, using(crate::proofs::LegendLaws::named_at))]
+fn name_at(alloc: Global, names: &[&str], place: usize) -> Result<String, AllocError>
+    ensures { IfOk result (λ name. string_bytes name ≡ list_name place (slice_get (map (λ n. n.now) names.now) place)) }
+{
     match names.get(place) {
-        Some(name) => format!(in alloc; "{name}: {part} of a /{cell_len}"),
-        None => format!(in alloc; "list {place}: {part} of a /{cell_len}"),
+        Some(name) => String::from_str(alloc, name),
+        None => format!(in alloc; "list {place}"),
     }
 }
 
-/// The meaning of the colour of the class, for cells of this prefix length.
-fn class_words(
+/// The words, and after them what the list at this place is called.
+fn words_of_list(
     alloc: Global,
-    class: Class,
+    words: &str,
     names: &[&str],
-    cell_len: u8,
-) -> Result<String, AllocError> {
-    match class {
-        Class::BelowThird => format!(in alloc; "less than a third of a /{cell_len}"),
-        Class::FromThird => format!(in alloc; "from a third of a /{cell_len}"),
-        Class::FromTwoThirds => format!(in alloc; "from two thirds of a /{cell_len}"),
-        Class::Whole => format!(in alloc; "all of a /{cell_len}"),
-        Class::Removed => format!(in alloc; "addresses of a /{cell_len} that only the first has"),
-        Class::Added => format!(in alloc; "addresses of a /{cell_len} that only the second has"),
-        Class::Mixed => format!(in alloc; "both kinds of change in a /{cell_len}"),
-        Class::KeptPart => format!(in alloc; "part of a /{cell_len} in both"),
-        Class::KeptWhole => format!(in alloc; "all of a /{cell_len} in both"),
-        Class::Overlap => format!(in alloc; "an address of a /{cell_len} in two lists"),
-        Class::Several => format!(in alloc;
-            "two lists in a /{cell_len}, with no address in common"
-        ),
-        Class::PartOf(place) => list_words(alloc, names, place, "part", cell_len),
-        Class::WholeOf(place) => list_words(alloc, names, place, "all", cell_len),
-    }
+    place: usize,
+) -> Result<String, AllocError>
+    ensures { IfOk result (λ text. string_bytes text
+        ≡ words.now ++ list_name place (slice_get (map (λ n. n.now) names.now) place)) }
+{
+    let name = name_at(alloc, names, place)?;
+    let mut text = String::from_str(alloc, words)?;
+    text.push_str(name.as_str())?;
+    Ok(text)
+}
+
+/// The words of the legend for the colour of the class, for lists with these names.
+fn class_words(alloc: Global, class: Class, names: &[&str]) -> Result<String, AllocError>
+    ensures { IfOk result (λ text. string_bytes text ≡ class_words (map (λ n. n.now) names.now) class) }
+{
+    let words = match class {
+        Class::Sparse => "less than one of 256 addresses of a dot is in the list",
+        Class::BelowQuarter => "less than a quarter of a dot is in the list",
+        Class::FromQuarter => "a quarter of a dot or more is in the list, but not all",
+        Class::Whole => "all of a dot is in the list",
+        Class::Removed => "removed: addresses that only the first list has",
+        Class::Added => "added: addresses that only the second list has",
+        Class::Mixed => "both: some addresses of a dot are removed, and others are added",
+        Class::KeptPart => "no change: a part of a dot is in both lists",
+        Class::KeptWhole => "no change: all of a dot is in both lists",
+        Class::Overlap => "two lists or more have the same address",
+        Class::Several => "two lists or more have addresses of a dot, and none in common",
+        Class::PartOf(place) => return words_of_list(alloc, "a part of a dot is in ", names, place),
+        Class::WholeOf(place) => return words_of_list(alloc, "all of a dot is in ", names, place),
+    };
+    String::from_str(alloc, words)
 }
 
 /// The row of the legend for the class, at this height.
 fn swatch_of(class: Class, words: String, row: u32) -> Swatch
-    ensures { result.class ≡ class }
+    ensures { row_of result ≡ (class, string_bytes words) }
 {
     let label = Label {
         ink: Ink::Plain,
@@ -78,14 +88,16 @@ pub(crate) fn legend_of(
     alloc: Global,
     layers: &[Layer],
     names: &[&str],
-    cell_len: u8,
     first_row: u32,
-) -> Result<Vec<Swatch>, AllocError> {
+) -> Result<Vec<Swatch>, AllocError>
+    ensures { IfOk result (λ swatches.
+        map row_of swatches.items ≡ legend_rows (map (λ n. n.now) names.now) layers.now) }
+{
     let mut swatches = Vec::new(alloc);
     let mut row = first_row;
     for layer in layers {
         if !layer.rectangles.is_empty() {
-            let words = class_words(alloc, layer.class, names, cell_len)?;
+            let words = class_words(alloc, layer.class, names)?;
             swatches.push(swatch_of(layer.class, words, row))?;
             row = row.saturating_add(LINE);
         }

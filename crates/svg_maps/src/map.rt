@@ -1,13 +1,13 @@
 //! Maps of sets: a set, a change of a set, or several sets in a network, as a document of SVG.
-ghost use Rattle.std.specs.Prelude.{◌≡◌, ◌+◌, ◌≤◌, IfOk, [], ◌∷◌, string_bytes};
+ghost use Rattle.std.specs.Prelude.{◌+◌, ◌≤◌, IfOk, map, string_bytes};
 ghost use Rattle.ipnet_base.specs.Address.{width};
 ghost use Rattle.ipnet.specs.NetworkOf.{ip_network};
 ghost use Rattle.svg_maps.specs.Overlays.{IsOutlinedMap};
 
-use crate::captions::captions_of;
+use crate::captions::{MapFacts, captions_of};
 use crate::chart::Chart;
 use crate::form::MapForm;
-use crate::outline_labels::map_labels;
+use crate::map_labels::{Scene, map_labels};
 use crate::page::{Page, page_text};
 use crate::ring::rings_of;
 use crate::sheet::{scale_of, sides_of};
@@ -18,31 +18,9 @@ use ipnet::IpNet;
 use ipnet_maps::Drawing;
 use std::alloc::{AllocError, Global};
 
-/// The note at the foot, and how many small parts have no ring, if there are any.
-fn foot_note(alloc: Global, note: &str, left_out: usize) -> Result<String, AllocError> {
-    let mut text = String::from_str(alloc, note)?;
-    if left_out > 0 {
-        write!(text, " Small parts without a ring: {left_out}.")?;
-    }
-    Ok(text)
-}
-
-/// The form with this note.
-fn with_note<'a>(form: MapForm<'a>, note: &'a str) -> MapForm<'a>
-    ensures style { result.style ≡ form.entry.style }
-    ensures overlay { result.overlay ≡ form.entry.overlay }
-{
-    MapForm {
-        style: form.style,
-        heading: form.heading,
-        names: form.names,
-        note,
-        overlay: form.overlay,
-    }
-}
-
 /// Returns the document that shows the drawing of the frame. The title of each square says how many addresses each of
-/// the counted sets has in it, and the overlay has the outlines. Fails only if memory runs out.
+/// the counted sets has in it, and the overlay has the outlines. The legend has a row for each class of cells, and the
+/// foot has the note of the form. Fails only if memory runs out.
 ///
 /// ```text
 /// of the drawing of 10.20.0.0/20 in 10.20.0.0/16: <svg ..> .. <path class="s4" d="m0 0h256v16h-256z"/> .. </svg>
@@ -56,7 +34,8 @@ pub fn map_text(
 ) -> Result<String, AllocError>
     requires few { drawing.now.depth ≤ 20 }
     requires fits { (ip_network frame.now).prefix_len + drawing.now.depth ≤ width (ip_network frame.now).family }
-    ensures { IfOk result (λ text. IsOutlinedMap (ip_network frame.now) counted.now drawing.now form.entry.style.now
+    ensures { IfOk result (λ text. IsOutlinedMap (ip_network frame.now) counted.now drawing.now
+        (map (λ n. n.now) form.entry.names.now) form.entry.note.now form.entry.style.now
         form.entry.overlay.now.outlines.items (string_bytes text)) }
 {
     let depth = drawing.depth;
@@ -66,14 +45,22 @@ pub fn map_text(
     let summary = title_of(alloc, counted, frame)?;
     let sides = sides_of(frame, depth);
     let rings = rings_of(alloc, layers, sides, scale_of(sides))?;
-    let note = foot_note(alloc, form.note, rings.left_out)?;
-    let form = with_note(form, note.as_str());
-    let texts = captions_of(alloc, frame, drawing, form, summary.as_str())?;
+    let facts = MapFacts {
+        summary: summary.as_str(),
+        without_ring: rings.left_out,
+    };
+    let texts = captions_of(alloc, frame, drawing, form, facts)?;
     let outlines = form.overlay.outlines.as_slice();
     let under = under_of(alloc, layers, sides, texts.sheet.scale)?;
     let octets = octet_squares(alloc, frame, depth)?;
     let labelled = choose_labelled(squares.as_slice(), octets.as_slice(), texts.sheet.scale);
-    let labels = map_labels(alloc, labelled, outlines, texts.sheet, &under)?;
+    let scene = Scene {
+        squares: labelled,
+        outlines,
+        rings: rings.list.as_slice(),
+        under: &under,
+    };
+    let labels = map_labels(alloc, scene, texts.sheet)?;
     let page = Page {
         title: texts.title.as_str(),
         summary: summary.as_str(),
@@ -88,7 +75,7 @@ pub fn map_text(
         layers,
         squares: squares.as_slice(),
         outlines,
-        rings: rings.middles.as_slice(),
+        rings: rings.list.as_slice(),
         labels: labels.inside.as_slice(),
         sides,
         scale: texts.sheet.scale,

@@ -91,6 +91,7 @@ fn named_outline(
         rectangle,
         title: Some(title),
         label,
+        comment: String::new(alloc),
     })
 }
 

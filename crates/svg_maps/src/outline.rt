@@ -13,6 +13,8 @@ use std::alloc::AllocError;
 pub enum OutlineClass {
     /// A free block.
     Free,
+    /// The first of the largest free blocks.
+    LargestFree,
     /// A network with a name.
     Named,
     /// An entry of a list.
@@ -30,6 +32,8 @@ pub struct Outline {
     pub title: Option<String>,
     /// The text that is written in it if there is room.
     pub label: String,
+    /// The text that is written above the label if there is room. If only one of them has room, this one is written.
+    pub comment: String,
 }
 
 /// The class of the outline in the style sheet.
@@ -38,6 +42,7 @@ fn outline_class(class: OutlineClass) -> &'static str
 {
     match class {
         OutlineClass::Free => "free",
+        OutlineClass::LargestFree => "best",
         OutlineClass::Named => "name",
         OutlineClass::Entry => "hit",
     }

@@ -105,7 +105,8 @@ fn free_overlay(alloc: Global, frame: &IpNet, depth: u8, set: &IpSet) -> Result<
     let free = free_in(alloc, set, frame)?;
     let outlines = outlines_of(alloc, frame, depth, set, free.as_slice())?;
     let lines = free_lines(alloc, free.as_slice(), frame)?;
-    let left_out = free.len().saturating_sub(outlines.len());
+    // the largest block has two outlines
+    let left_out = free.len().saturating_sub(outlines.len().saturating_sub(1));
     let note = left_out_note(alloc, "Free blocks without an outline", left_out)?;
     Ok(Overlay {
         outlines,

@@ -3,7 +3,9 @@ ghost use Rattle.std.specs.Prelude.{◌≡◌, ◌++◌, ◌≤◌, IfOk, OnOk, 
 ghost use Rattle.svg_text.specs.Documents.{nodes_text};
 ghost use Rattle.svg_maps.specs.Pages.{ring_nodes};
 
+use crate::class::class_name;
 use crate::label::{number_attribute, text_attribute};
+use crate::sheet::pixels_of;
 use crate::tiles::{Tiles, index_of, range_of, tiles_of};
 use ipnet_maps::{Class, Layer, Place, Rectangle, Sides};
 use std::alloc::{AllocError, Global};
@@ -18,21 +20,110 @@ const FEW: u32 = 9;
 /// The most rings of a map.
 const MOST: usize = 120;
 
-/// The radius of a ring, in pixels: it is around the whole tile.
-const RADIUS: u32 = 11;
+/// The radius of a ring, in pixels.
+pub(crate) const RADIUS: u32 = 9;
 
-/// Adds the pixels of the rectangle to the tiles that it meets. Its sides and the sides of a tile are powers of two,
-/// and its place is a multiple of its sides, so each of these tiles has equally many of its pixels.
-fn add_painted(counts: &mut Vec<u32>, tiles: Tiles, scale: u32, rectangle: Rectangle) {
-    let width = rectangle.sides.width.min(tiles.side).saturating_mul(scale);
-    let height = rectangle.sides.height.min(tiles.side).saturating_mul(scale);
-    let painted = width.saturating_mul(height);
-    let range = range_of(tiles, rectangle);
+/// How far the middle of a ring is from the edge of the map at least, in pixels: so it does not reach the heads.
+const INSIDE: u32 = 6;
+
+/// A ring around a small part of a map.
+#[derive(Clone, Copy, Debug, PartialEq, Eq)]
+pub struct Ring {
+    /// The class in whose colour it is drawn.
+    pub class: Class,
+    /// Its middle, in pixels.
+    pub middle: Place,
+}
+
+/// The painted part of a tile.
+#[derive(Clone, Copy)]
+struct Part {
+    /// How many pixels it has.
+    painted: u32,
+    /// The smallest rectangle around it, in cells: its first place, and the place after its last one.
+    first: Place,
+    end: Place,
+    /// The class of a ring around it.
+    class: Option<Class>,
+}
+
+/// The class in whose colour a ring around cells of the class is drawn. In a map of one set, this is the darkest one.
+fn ring_class(class: Class) -> Class {
+    match class {
+        Class::Sparse | Class::BelowQuarter | Class::FromQuarter => Class::Whole,
+        Class::PartOf(place) => Class::WholeOf(place),
+        _ => class,
+    }
+}
+
+/// The class in whose colour a ring around cells of both classes is drawn.
+fn common_class(one: Class, other: Class) -> Class {
+    if one == other {
+        return one;
+    }
+    match one {
+        Class::Removed | Class::Added | Class::Mixed => Class::Mixed,
+        _ => Class::Several,
+    }
+}
+
+/// The place in both columns and rows that is nearer to the start.
+fn least(one: Place, other: Place) -> Place {
+    Place {
+        column: one.column.min(other.column),
+        row: one.row.min(other.row),
+    }
+}
+
+/// The place in both columns and rows that is nearer to the end.
+fn greatest(one: Place, other: Place) -> Place {
+    Place {
+        column: one.column.max(other.column),
+        row: one.row.max(other.row),
+    }
+}
+
+/// Adds an area with this first place and this place after its last one, in cells of `scale` pixels.
+fn add_area(part: &mut Part, first: Place, end: Place, scale: u32, class: Class) {
+    let width = pixels_of(scale, end.column.saturating_sub(first.column));
+    let height = pixels_of(scale, end.row.saturating_sub(first.row));
+    part.painted = part.painted.saturating_add(width.saturating_mul(height));
+    let class = ring_class(class);
+    match part.class {
+        Some(other) => {
+            part.first = least(part.first, first);
+            part.end = greatest(part.end, end);
+            part.class = Some(common_class(other, class));
+        }
+        None => {
+            part.first = first;
+            part.end = end;
+            part.class = Some(class);
+        }
+    }
+}
+
+/// Adds the rectangle to the painted parts of the tiles that it meets.
+fn add_painted(parts: &mut Vec<Part>, tiles: Tiles, scale: u32, area: Rectangle, class: Class) {
+    let end = Place {
+        column: area.place.column.saturating_add(area.sides.width),
+        row: area.place.row.saturating_add(area.sides.height),
+    };
+    let range = range_of(tiles, area);
     for row in range.first_row..range.end_row {
         for column in range.first_column..range.end_column {
+            let start = Place {
+                column: column.saturating_mul(tiles.side),
+                row: row.saturating_mul(tiles.side),
+            };
+            let stop = Place {
+                column: start.column.saturating_add(tiles.side),
+                row: start.row.saturating_add(tiles.side),
+            };
+            let first = greatest(area.place, start);
             let index = index_of(tiles, column, row);
-            if index < counts.len() {
-                counts[index] = counts[index].saturating_add(painted);
+            if index < parts.len() {
+                add_area(&mut parts[index], first, least(end, stop), scale, class);
             }
         }
     }
@@ -46,110 +137,122 @@ fn is_counted(class: Class) -> bool {
     }
 }
 
-/// The number of painted pixels of each tile, row by row.
-fn painted_counts(
+/// The painted part of each tile, row by row.
+fn painted_parts(
     alloc: Global,
     layers: &[Layer],
     tiles: Tiles,
     scale: u32,
-) -> Result<Vec<u32>, AllocError> {
-    let mut counts = Vec::new(alloc);
+) -> Result<Vec<Part>, AllocError> {
+    let nowhere = Place { column: 0, row: 0 };
+    let mut parts = Vec::new(alloc);
     for _ in 0..index_of(tiles, 0, tiles.sides.height) {
-        counts.push(0)?;
+        parts.push(Part {
+            painted: 0,
+            first: nowhere,
+            end: nowhere,
+            class: None,
+        })?;
     }
     for layer in layers {
         if is_counted(layer.class) {
             for rectangle in layer.rectangles.as_slice() {
-                add_painted(&mut counts, tiles, scale, *rectangle);
+                add_painted(&mut parts, tiles, scale, *rectangle, layer.class);
             }
         }
     }
-    Ok(counts)
+    Ok(parts)
 }
 
-/// The middle of the tile, in pixels.
-fn middle_of(column: u32, row: u32) -> Place {
-    Place {
-        column: column.saturating_mul(TILE).saturating_add(TILE / 2),
-        row: row.saturating_mul(TILE).saturating_add(TILE / 2),
-    }
+/// The middle of the cells from the first one to before the end, in pixels; at least `INSIDE` from the edges of a map
+/// that is `cells` wide.
+fn middle_of(first: u32, end: u32, scale: u32, cells: u32) -> u32 {
+    let middle = pixels_of(scale, first.saturating_add(end)) / 2;
+    let last = pixels_of(scale, cells).saturating_sub(INSIDE);
+    middle.min(last).max(INSIDE)
 }
 
-/// The middles of the tiles that have at least one painted pixel, and few of them.
-fn faint_tiles(alloc: Global, counts: &[u32], tiles: Tiles) -> Result<Vec<Place>, AllocError> {
-    let mut middles = Vec::new(alloc);
-    for row in 0..tiles.sides.height {
-        for column in 0..tiles.sides.width {
-            let index = index_of(tiles, column, row);
-            if index < counts.len() && 1 <= counts[index] && counts[index] <= FEW {
-                middles.push(middle_of(column, row))?;
+/// The rings around the parts that have at least one painted pixel, and few of them.
+fn faint_rings(
+    alloc: Global,
+    parts: &[Part],
+    sides: Sides,
+    scale: u32,
+) -> Result<Vec<Ring>, AllocError> {
+    let mut rings = Vec::new(alloc);
+    for part in parts {
+        if let Some(class) = part.class {
+            if part.painted <= FEW {
+                let column = middle_of(part.first.column, part.end.column, scale, sides.width);
+                let row = middle_of(part.first.row, part.end.row, scale, sides.height);
+                let middle = Place { column, row };
+                rings.push(Ring { class, middle })?;
             }
         }
     }
-    Ok(middles)
+    Ok(rings)
 }
 
 /// The rings of a map.
 #[derive(Drop)]
 pub(crate) struct Rings {
-    /// The middles of the rings, in pixels.
-    pub(crate) middles: Vec<Place>,
+    pub(crate) list: Vec<Ring>,
     /// How many parts of the map are too small to be seen and have no ring.
     pub(crate) left_out: usize,
 }
 
-/// Returns the rings on a map of these layers: one around each tile of 16 x 16 pixels with at least one and at most 9
-/// painted pixels. If there are more than 120 such tiles, the map has no ring.
+/// Returns the rings on a map of these layers: one for each tile of 16 x 16 pixels with at least one and at most 9
+/// painted pixels, around the middle of these. If there are more than 120 such tiles, the map has no ring.
 pub(crate) fn rings_of(
     alloc: Global,
     layers: &[Layer],
     sides: Sides,
     scale: u32,
 ) -> Result<Rings, AllocError>
-    ensures few { IfOk result (λ rings. length rings.middles.items ≤ 120) }
+    ensures few { IfOk result (λ rings. length rings.list.items ≤ 120) }
 {
     // a single painted cell has more pixels than a tile with a ring
     if scale.saturating_mul(scale) > FEW {
         return Ok(Rings {
-            middles: Vec::new(alloc),
+            list: Vec::new(alloc),
             left_out: 0,
         });
     }
     let tiles = tiles_of(sides, TILE / scale.max(1));
-    let counts = painted_counts(alloc, layers, tiles, scale)?;
-    let middles = faint_tiles(alloc, counts.as_slice(), tiles)?;
-    if middles.len() > MOST {
+    let parts = painted_parts(alloc, layers, tiles, scale)?;
+    let list = faint_rings(alloc, parts.as_slice(), sides, scale)?;
+    if list.len() > MOST {
         return Ok(Rings {
-            middles: Vec::new(alloc),
-            left_out: middles.len(),
+            list: Vec::new(alloc),
+            left_out: list.len(),
         });
     }
-    Ok(Rings {
-        middles,
-        left_out: 0,
-    })
+    Ok(Rings { list, left_out: 0 })
 }
 
-/// Appends the ring with this middle.
-fn push_ring(text: &mut String, middle: &Place) -> Result<(), AllocError>
-    ensures { OnOk result (string_bytes text.new ≡ string_bytes text.old ++ nodes_text (ring_nodes middle.now)) }
+/// Appends the ring.
+fn push_ring(alloc: Global, text: &mut String, ring: &Ring) -> Result<(), AllocError>
+    ensures { OnOk result (string_bytes text.new ≡ string_bytes text.old ++ nodes_text (ring_nodes ring.now)) }
 {
+    let mut name = String::from_str(alloc, "ring ")?;
+    let class = class_name(alloc, ring.class)?;
+    name.push_str(class.as_str())?;
     let attributes = [
-        text_attribute(AttributeName::Class, "ring"),
-        number_attribute(AttributeName::Cx, middle.column),
-        number_attribute(AttributeName::Cy, middle.row),
+        text_attribute(AttributeName::Class, name.as_str()),
+        number_attribute(AttributeName::Cx, ring.middle.column),
+        number_attribute(AttributeName::Cy, ring.middle.row),
         number_attribute(AttributeName::R, RADIUS),
     ];
     push_empty(text, ElementName::Circle, &attributes)
 }
 
-/// Appends the rings with these middles.
-pub(crate) fn push_rings(text: &mut String, rings: &[Place]) -> Result<(), AllocError>
+/// Appends the rings.
+pub(crate) fn push_rings(alloc: Global, text: &mut String, rings: &[Ring]) -> Result<(), AllocError>
     ensures { OnOk result (string_bytes text.new
-        ≡ string_bytes text.old ++ flat_map (λ p. nodes_text (ring_nodes p)) rings.now) }
+        ≡ string_bytes text.old ++ flat_map (λ r. nodes_text (ring_nodes r)) rings.now) }
 {
-    for middle in rings {
-        push_ring(text, middle)?;
+    for ring in rings {
+        push_ring(alloc, text, ring)?;
     }
     Ok(())
 }

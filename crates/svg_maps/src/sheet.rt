@@ -4,7 +4,7 @@ ghost use Rattle.ipnet_base.specs.Address.{width};
 ghost use Rattle.ipnet.specs.NetworkOf.{ip_network};
 ghost use Rattle.ipnet_maps.specs.Cuts.{columns_in, rows_in};
 ghost use Rattle.ipnet_maps.specs.Squares.{square_cuts};
-ghost use Rattle.svg_maps.specs.Pages.{cell_pixels, pixels, pixel_rectangle};
+ghost use Rattle.svg_maps.specs.Pages.{cell_pixels, pixels, pixel_rectangle, FitsPage};
 
 use crate::legend::LINE;
 use ipnet::IpNet;
@@ -82,25 +82,29 @@ pub(crate) struct Sheet {
 }
 
 /// Returns the row below this many lines.
-pub(crate) fn row_after(row: u32, lines: usize) -> u32 {
+pub(crate) fn row_after(row: u32, lines: usize) -> u32
+    ensures { row ≤ result }
+{
     let lines = u32::try_from(lines).unwrap_or(u32::MAX);
     lines.saturating_mul(LINE).saturating_add(row)
 }
 
 /// Returns the sizes of a page whose map has these sides and begins below this row, and whose foot has this many lines.
+/// No sum is above the greatest word.
 pub(crate) fn sheet_of(sides: Sides, has_heads: bool, row: u32, foot_lines: usize) -> Sheet
-    ensures { result.scale ≡ cell_pixels sides.width }
+    ensures scale { result.scale ≡ cell_pixels sides.width }
+    ensures fits { FitsPage result.chart_place result.scale sides.width sides.height result.area }
 {
     let scale = scale_of(sides);
-    let column = if has_heads { 56 } else { 16 };
-    let row = row.saturating_add(if has_heads { 14 } else { 0 });
-    let width = sides
-        .width
-        .saturating_mul(scale)
-        .saturating_add(column + 16);
-    let end = sides.height.saturating_mul(scale).saturating_add(row);
+    let wide = pixels_of(scale, sides.width);
+    let high = pixels_of(scale, sides.height);
+    let edge: u32 = if has_heads { 56 } else { 16 };
+    let column = edge.min(u32::MAX - wide);
+    let below = row.saturating_add(if has_heads { 14 } else { 0 });
+    let row = below.min(u32::MAX - high);
+    let end = row + high;
     let area = Sides {
-        width: width.max(LEAST_WIDTH),
+        width: (column + wide).saturating_add(16).max(LEAST_WIDTH),
         height: row_after(end.saturating_add(MARGIN), foot_lines),
     };
     Sheet {

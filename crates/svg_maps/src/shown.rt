@@ -1,9 +1,13 @@
 //! Maps of a set, of a change and of several sets, as documents of SVG.
-ghost use Rattle.std.specs.Prelude.{◌≡◌, IfOk, length, map, string_bytes};
+ghost use Rattle.std.specs.Prelude.{◌≡◌, ◌↔◌, ◌+◌, IfOk, IsTrue, length, map, string_bytes};
+ghost use Rattle.ipnet_bars.specs.Parts.{counted};
+ghost use Rattle.ipnet_sets.specs.Members.{IsMember};
 ghost use Rattle.ipnet.specs.NetworkOf.{ip_network};
+ghost use Rattle.svg_maps.specs.Legends.{outside_line, outside_note, IsOutsideNote};
 ghost use Rattle.svg_maps.specs.Maps.{list_words};
 ghost use Rattle.svg_maps.specs.Overlays.{IsOutlinedSetMap, IsOutlinedChangeMap, IsOutlinedSetsMap};
 
+use crate::count::push_quantity;
 use crate::form::MapForm;
 use crate::map::map_text;
 use crate::overlay::{Extent, Look, overlay_of};
@@ -18,17 +22,49 @@ use std::alloc::{AllocError, Global};
 /// The words after the number of addresses of a list without a name.
 const NO_NAME: &str = "in a list without a name";
 
-/// The note at the foot of a map about addresses that are not on it; empty if there are none.
-fn note_of(alloc: Global, set: &IpSet, frame: &IpNet) -> Result<String, AllocError> {
-    let outside = outside_of(alloc, set, frame)?;
-    if outside.is_empty() {
+/// The line of the foot with these numbers of addresses.
+fn outside_line(alloc: Global, ipv4: u64, ipv6: Option<u128>) -> Result<String, AllocError>
+    ensures { IfOk result (λ line. string_bytes line ≡ outside_line ipv4 (counted ipv6)) }
+{
+    let mut line = String::from_str(alloc, "Not shown: ")?;
+    push_quantity(&mut line, Some(u128::from(ipv4)))?;
+    line.push_str(" of IPv4, ")?;
+    push_quantity(&mut line, ipv6)?;
+    line.push_str(" of IPv6.")?;
+    Ok(line)
+}
+
+/// Whether both numbers of addresses are 0.
+fn are_none(ipv4: u64, ipv6: Option<u128>) -> bool
+    ensures { IsTrue result ↔ (ipv4 + counted ipv6 ≡ 0) }
+{
+    let Some(ipv6) = ipv6 else {
+        return false;
+    };
+    if ipv4 > 0 {
+        return false;
+    }
+    ipv6 == 0
+}
+
+/// The line of the foot with these numbers of addresses; empty if both are 0.
+fn outside_note(alloc: Global, ipv4: u64, ipv6: Option<u128>) -> Result<String, AllocError>
+    ensures { IfOk result (λ note. string_bytes note ≡ outside_note ipv4 (counted ipv6)) }
+{
+    if are_none(ipv4, ipv6) {
         return Ok(String::new(alloc));
     }
+    outside_line(alloc, ipv4, ipv6)
+}
+
+/// The line of the foot about addresses of the set that are not on the map; empty if there are none.
+fn note_of(alloc: Global, set: &IpSet, frame: &IpNet) -> Result<String, AllocError>
+    ensures { IfOk result (λ note. IsOutsideNote (IsMember set.now) (ip_network frame.now) (string_bytes note)) }
+{
+    let outside = outside_of(alloc, set, frame)?;
     let ipv4 = outside.ipv4_count();
-    match outside.ipv6_count() {
-        Some(ipv6) => format!(in alloc; " Not shown: IPv4 {ipv4}, IPv6 {ipv6}."),
-        None => format!(in alloc; " Not shown: IPv4 {ipv4}, all of IPv6."),
-    }
+    let ipv6 = outside.ipv6_count();
+    outside_note(alloc, ipv4, ipv6)
 }
 
 /// Returns the map of the set in the frame, as a document of SVG. Fails only if memory runs out.
@@ -173,7 +209,7 @@ fn counted_of<'a>(
 ///
 /// ```text
 /// of 10.20.0.0/24 and 10.20.1.0/24, named a and b, in 10.20.0.0/16: the title of the first square is
-/// "10.20.0.0/24, 256 addresses, 256 in a, 0 in b"
+/// "10.20.0.0/24, 256 addresses, 256 addresses in a (100.0 %), 0 addresses in b (0.0 %)"
 /// ```
 pub fn sets_map_text(
     alloc: Global,

@@ -1,5 +1,5 @@
 //! The squares of a map, with their titles.
-ghost use Rattle.std.specs.Prelude.{◌≡◌, ◌++◌, ◌+◌, ◌≤◌, List, ℕ, map, IfOk, OnOk, decimal, string_bytes};
+ghost use Rattle.std.specs.Prelude.{◌≡◌, ◌++◌, ◌+◌, ◌≤◌, List, ℕ, map, IfOk, OnOk, string_bytes};
 ghost use Rattle.ipnet_base.specs.Address.{width};
 ghost use Rattle.ipnet_base.specs.Network.{IsSubnetOf};
 ghost use Rattle.ipnet.specs.NetworkOf.{ip_network};
@@ -10,10 +10,11 @@ ghost use Rattle.svg_maps.specs.Squares.{IsCountText, AreCountTexts, title_start
 ghost use Rattle.svg_maps.specs.Squares.{AreSquaresOf, first_bits, square_bits};
 
 use crate::chart::Square;
+use crate::count::{push_quantity, push_share};
 use crate::extent::extent_of;
 use crate::name::short_name;
 use ipnet::IpNet;
-use ipnet_bars::{count_in, push_count, size_of, subnets_of};
+use ipnet_bars::{count_in, size_of, subnets_of};
 use ipnet_maps::rectangle_in;
 use ipnet_sets::IpSet;
 use std::alloc::{AllocError, Global};
@@ -27,7 +28,7 @@ pub struct Counted<'a> {
     pub set: &'a IpSet,
 }
 
-/// Appends how many addresses of the network the set has.
+/// Appends how many addresses of the network the set has, and which share of the network these are.
 fn push_counted(
     alloc: Global,
     text: &mut String,
@@ -39,9 +40,12 @@ fn push_counted(
 {
     let count = count_in(alloc, counted.set, network)?;
     text.push_str(", ")?;
-    push_count(text, count)?;
+    push_quantity(text, count)?;
     text.push_str(" ")?;
     text.push_str(counted.words)?;
+    text.push_str(" (")?;
+    push_share(text, count, network)?;
+    text.push_str(")")?;
     Ok(())
 }
 
@@ -68,8 +72,8 @@ fn push_title_start(text: &mut String, network: &IpNet) -> Result<(), AllocError
 {
     text.push_str(network.to_text().as_str())?;
     text.push_str(", ")?;
-    push_count(text, size_of(network))?;
-    text.push_str(" addresses")
+    push_quantity(text, size_of(network))?;
+    Ok(())
 }
 
 /// Returns the title of the network.

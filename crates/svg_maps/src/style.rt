@@ -27,6 +27,7 @@ const COMMON: &str = "\
 .netmap .head{font-size:15px;font-weight:bold}\
 .netmap .small text{font-size:9px;opacity:.8}\
 .netmap .small .note{font-size:11px}\
+.netmap .small .strong{font-weight:bold;opacity:1}\
 .netmap .hit{fill:#fff;fill-opacity:0}\
 .netmap .hit:hover{fill-opacity:.25}\
 .netmap rect,.netmap path{stroke-width:0}\
@@ -34,7 +35,8 @@ const COMMON: &str = "\
 .netmap .grid{fill:none;stroke-width:1;opacity:.35}\
 .netmap .free{fill:none;stroke-width:1;stroke-opacity:.55;shape-rendering:crispEdges;pointer-events:none}\
 .netmap .name{fill:none;stroke-width:1.5}\
-.netmap .ring{fill:none;stroke-width:1.5;pointer-events:none}\
+.netmap .best{fill-opacity:.3;stroke-width:3;pointer-events:none}\
+.netmap circle.ring{fill:none;stroke-width:2;pointer-events:none}\
 .netmap .halo{stroke-width:3;stroke-opacity:.6;stroke-linejoin:round;paint-order:stroke}\
 .netmap .pale{fill-opacity:.55;stroke-opacity:.55}";
 
@@ -65,8 +67,8 @@ const LIGHT: &str = "\
 .netmap .l5{fill:#d55e00;stroke:#d55e00}\
 .netmap .grid{stroke:#8a8a85}\
 .netmap .free{stroke:#8a8a85}\
+.netmap .best{fill:#009e73;stroke:#009e73}\
 .netmap .name{stroke:#1a1a1a}\
-.netmap .ring{stroke:#1a1a1a}\
 .netmap .halo{stroke:#f1f1ee}";
 
 /// The colours of a dark page.
@@ -96,8 +98,8 @@ const DARK: &str = "\
 .netmap .l5{fill:#d55e00;stroke:#d55e00}\
 .netmap .grid{stroke:#8b919b}\
 .netmap .free{stroke:#8b919b}\
+.netmap .best{fill:#1fb98d;stroke:#1fb98d}\
 .netmap .name{stroke:#f0f0ee}\
-.netmap .ring{stroke:#f0f0ee}\
 .netmap .halo{stroke:#24272d}";
 
 /// Appends the colours of a light page, and the colours of a dark page for a reader who prefers dark pages.

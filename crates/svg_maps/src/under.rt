@@ -8,21 +8,30 @@ use std::alloc::{AllocError, Global};
 /// The width and height of a tile, in pixels, if a cell is not larger.
 const TILE: u32 = 4;
 
-/// The look of a text that can be read on each tile of a map.
+/// The ground below the labels of a map.
 #[derive(Drop)]
 pub(crate) struct Under {
     /// The tiles.
     tiles: Tiles,
     /// How many pixels a cell is wide and high.
     scale: u32,
-    /// The look of a text on each tile, row by row.
-    inks: Vec<Ink>,
+    /// The ground of each tile, row by row.
+    grounds: Vec<Ground>,
+}
+
+/// The ground of a tile.
+#[derive(Clone, Copy, PartialEq, Eq)]
+struct Ground {
+    /// The look of a text that can be read there.
+    ink: Ink,
+    /// Whether cells are there.
+    is_painted: bool,
 }
 
 /// The look of a text that can be read on cells of the class, in light and in dark themes.
 fn ink_on(class: Class) -> Ink {
     match class {
-        Class::FromTwoThirds
+        Class::FromQuarter
         | Class::Whole
         | Class::Added
         | Class::Mixed
@@ -42,8 +51,11 @@ fn note(under: &mut Under, rectangle: Rectangle, ink: Ink) {
     for row in range.first_row..range.end_row {
         for column in range.first_column..range.end_column {
             let index = index_of(under.tiles, column, row);
-            if index < under.inks.len() {
-                under.inks[index] = ink;
+            if index < under.grounds.len() {
+                under.grounds[index] = Ground {
+                    ink,
+                    is_painted: true,
+                };
             }
         }
     }
@@ -60,20 +72,39 @@ pub(crate) fn under_of(
     let mut under = Under {
         tiles,
         scale,
-        inks: Vec::new(alloc),
+        grounds: Vec::new(alloc),
     };
     for _ in 0..index_of(tiles, 0, tiles.sides.height) {
-        under.inks.push(Ink::Plain)?;
+        under.grounds.push(Ground {
+            ink: Ink::Plain,
+            is_painted: false,
+        })?;
     }
     for layer in layers {
         let ink = ink_on(layer.class);
-        if ink != Ink::Plain {
-            for rectangle in layer.rectangles.as_slice() {
-                note(&mut under, *rectangle, ink);
-            }
+        for rectangle in layer.rectangles.as_slice() {
+            note(&mut under, *rectangle, ink);
         }
     }
     Ok(under)
+}
+
+/// Whether no cells are in this rectangle, in pixels.
+pub(crate) fn is_clear(under: &Under, area: Rectangle) -> bool {
+    let pixels = Tiles {
+        side: under.tiles.side.saturating_mul(under.scale),
+        sides: under.tiles.sides,
+    };
+    let range = range_of(pixels, area);
+    for row in range.first_row..range.end_row {
+        for column in range.first_column..range.end_column {
+            let index = index_of(pixels, column, row);
+            if index < under.grounds.len() && under.grounds[index].is_painted {
+                return false;
+            }
+        }
+    }
+    true
 }
 
 /// The look of a text in this rectangle, in pixels: the look on its tiles if it is the same on all of them, and
@@ -88,14 +119,17 @@ pub(crate) fn ink_in(under: &Under, area: Rectangle) -> Ink {
     for row in range.first_row..range.end_row {
         for column in range.first_column..range.end_column {
             let index = index_of(pixels, column, row);
-            if index < under.inks.len() {
-                let ink = under.inks[index];
-                if found.unwrap_or(ink) != ink {
+            if index < under.grounds.len() {
+                let ground = under.grounds[index];
+                if found.unwrap_or(ground) != ground {
                     return Ink::Halo;
                 }
-                found = Some(ink);
+                found = Some(ground);
             }
         }
     }
-    found.unwrap_or(Ink::Halo)
+    match found {
+        Some(ground) => ground.ink,
+        None => Ink::Halo,
+    }
 }

@@ -1,5 +1,5 @@
 use Rattle.ipnet_sets.specs.Members.{IsMember}
-use Rattle.ipnet_bars.proofs.PartLaws.{nothing_shown, whole_shown}
+use Rattle.ipnet_maps.proofs.ShareLaws.{nothing_shown, whole_shown}
 use Rattle.ipnet_maps.proofs.LevelOrderLaws.{level_order}
 use Rattle.ipnet_maps.proofs.laws.levels_follow_sets.Goals as goal
 

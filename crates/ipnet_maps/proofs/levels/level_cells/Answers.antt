@@ -8,8 +8,8 @@ use Rattle.ipnet_sets.specs.Members.{IsMember}
 use Rattle.ipnet_sets.specs.NetworksLeft.{networks_left}
 use Rattle.ipnet_sets.proofs.ManyLaws.{both_ways}
 use Rattle.ipnet_sets.proofs.SetEqualLaws.{member_or_not}
-use Rattle.ipnet_bars.specs.declared.share.Level.TheVariants.{BelowThird, FromThird, FromTwoThirds, Whole}
-use Rattle.ipnet_bars.specs.Parts.{IsLevelOf}
+use Rattle.ipnet_maps.specs.declared.level.Level.TheVariants.{Sparse, BelowQuarter, FromQuarter, Whole}
+use Rattle.ipnet_maps.specs.Levels.{IsLevelOf}
 use Rattle.ipnet_maps.specs.Cells.{IsInCell}
 use Rattle.ipnet_maps.specs.LevelSteps.{IsPushedAs}
 use Rattle.ipnet_maps.proofs.LevelWalkLaws.{IsWalk, walk_begin, walk_large, joined_fits, walk_joined, none_in_open}
@@ -95,46 +95,46 @@ returns-clause-some c =
     let walk = subst (λ z. IsWalk InSet len z c.loop-network.current (IsPushedAs c.loop-network.known))
     c.in-None.ensures.steps.0 c.loop-network.invariant in
     IfOk-weaker c.into_cells.result
-    (λ cells. (x : Address) → IsMember cells.some x ↔ IsPushedAs c.close-2.new.self BelowThird x)
-    (λ cells. (x : Address) → IsMember cells.some x ↔ IsInCell len (λ n. IsLevelOf InSet n BelowThird) x)
+    (λ cells. (x : Address) → IsMember cells.some x ↔ IsPushedAs c.close-2.new.self Sparse x)
+    (λ cells. (x : Address) → IsMember cells.some x ↔ IsInCell len (λ n. IsLevelOf InSet n Sparse) x)
     (λ cells h x. both_ways (h x)
     (walk_end InSet len (λ y m. m.fits) c.loop-network.current (IsPushedAs c.loop-network.known)
     (IsPushedAs c.close-2.new.self) walk
     (closed_to InSet len (λ y m. m.fits) [] c.loop-network.known c.close-2.new.self c.loop-network.current
-    walk.opened (λ y left inside. cover_nil y left) walk.sound c.in_ok-close-2.ensures) BelowThird (λ e. cc) x))
+    walk.opened (λ y left inside. cover_nil y left) walk.sound c.in_ok-close-2.ensures) Sparse (λ e. cc) x))
     c.into_cells.ensures.some
 
-pub returns-clause-third : goal.returns-clause-third
-returns-clause-third c =
+pub returns-clause-below_quarter : goal.returns-clause-below_quarter
+returns-clause-below_quarter c =
     let InSet = IsMember c.args.set.now in
     let len = c.args.cell_len in
     let walk = subst (λ z. IsWalk InSet len z c.loop-network.current (IsPushedAs c.loop-network.known))
     c.in-None.ensures.steps.0 c.loop-network.invariant in
     IfOk-weaker c.into_cells.result
-    (λ cells. (x : Address) → IsMember cells.third x ↔ IsPushedAs c.close-2.new.self FromThird x)
-    (λ cells. (x : Address) → IsMember cells.third x ↔ IsInCell len (λ n. IsLevelOf InSet n FromThird) x)
+    (λ cells. (x : Address) → IsMember cells.below_quarter x ↔ IsPushedAs c.close-2.new.self BelowQuarter x)
+    (λ cells. (x : Address) → IsMember cells.below_quarter x ↔ IsInCell len (λ n. IsLevelOf InSet n BelowQuarter) x)
     (λ cells h x. both_ways (h x)
     (walk_end InSet len (λ y m. m.fits) c.loop-network.current (IsPushedAs c.loop-network.known)
     (IsPushedAs c.close-2.new.self) walk
     (closed_to InSet len (λ y m. m.fits) [] c.loop-network.known c.close-2.new.self c.loop-network.current
-    walk.opened (λ y left inside. cover_nil y left) walk.sound c.in_ok-close-2.ensures) FromThird (λ e. cc) x))
-    c.into_cells.ensures.third
+    walk.opened (λ y left inside. cover_nil y left) walk.sound c.in_ok-close-2.ensures) BelowQuarter (λ e. cc) x))
+    c.into_cells.ensures.below_quarter
 
-pub returns-clause-two_thirds : goal.returns-clause-two_thirds
-returns-clause-two_thirds c =
+pub returns-clause-from_quarter : goal.returns-clause-from_quarter
+returns-clause-from_quarter c =
     let InSet = IsMember c.args.set.now in
     let len = c.args.cell_len in
     let walk = subst (λ z. IsWalk InSet len z c.loop-network.current (IsPushedAs c.loop-network.known))
     c.in-None.ensures.steps.0 c.loop-network.invariant in
     IfOk-weaker c.into_cells.result
-    (λ cells. (x : Address) → IsMember cells.two_thirds x ↔ IsPushedAs c.close-2.new.self FromTwoThirds x)
-    (λ cells. (x : Address) → IsMember cells.two_thirds x ↔ IsInCell len (λ n. IsLevelOf InSet n FromTwoThirds) x)
+    (λ cells. (x : Address) → IsMember cells.from_quarter x ↔ IsPushedAs c.close-2.new.self FromQuarter x)
+    (λ cells. (x : Address) → IsMember cells.from_quarter x ↔ IsInCell len (λ n. IsLevelOf InSet n FromQuarter) x)
     (λ cells h x. both_ways (h x)
     (walk_end InSet len (λ y m. m.fits) c.loop-network.current (IsPushedAs c.loop-network.known)
     (IsPushedAs c.close-2.new.self) walk
     (closed_to InSet len (λ y m. m.fits) [] c.loop-network.known c.close-2.new.self c.loop-network.current
-    walk.opened (λ y left inside. cover_nil y left) walk.sound c.in_ok-close-2.ensures) FromTwoThirds (λ e. cc) x))
-    c.into_cells.ensures.two_thirds
+    walk.opened (λ y left inside. cover_nil y left) walk.sound c.in_ok-close-2.ensures) FromQuarter (λ e. cc) x))
+    c.into_cells.ensures.from_quarter
 
 pub returns-clause-whole : goal.returns-clause-whole
 returns-clause-whole c =

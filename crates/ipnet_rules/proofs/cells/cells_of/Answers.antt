@@ -1,6 +1,6 @@
 -- The cells of one rule more.
 use Rattle.std.proofs.Common.{◌≡◌, length, arith, subst, ◌∙◌}
-use Rattle.ipnet_rules.specs.Cells.{family_of, ArePainted, IsCutIn, AreOwnersBefore}
+use Rattle.ipnet_rules.specs.Cells.{family_of, ArePainted, IsCutIn, AreOwnersBefore, AreNexts}
 use Rattle.ipnet_rules.proofs.OwnerLaws.{owners_next}
 use Rattle.ipnet_rules.proofs.cells.cells_of.Goals as goal
 
@@ -32,4 +32,5 @@ returns c =
       count = h.1;
       owners = subst (λ i. AreOwnersBefore (family_of c.args.family) rules c.in_ok-cuts.cuts.items i (length rules)
           c.loop-place.painting.owners.items) all h.3;
+      nexts = subst (λ os. AreNexts os c.in_ok-nexts.nexts.items) c.as_slice-2.ensures.value c.in_ok-nexts.ensures;
     }

@@ -7,10 +7,10 @@ use Rattle.ipnet_rules.proofs.cells.push_owners.Goals as goal
 
 pub loop-piece-preserved : goal.loop-piece-preserved
 loop-piece-preserved c =
-    owners_next_piece c.args.cells.now c.as_slice.result.now c.as_slice-in-loop-piece.result.now c.args.pieces.now
-    c.loop-piece.piece-index _ c.span_of-span.result c.args.found.now.items c.loop-piece.found.items
-    c.push_span.new.found.items c.as_slice.ensures.value c.as_slice-in-loop-piece.ensures.value c.loop-piece-test.true
-    c.requires.owners c.span_of-span.ensures c.loop-piece.invariant c.in_ok-push_span.ensures
+    owners_next_piece c.args.cells.now c.as_slice.result.now c.args.pieces.now c.loop-piece.piece-index _
+    c.span_of-span.result c.args.found.now.items c.loop-piece.found.items c.push_span.new.found.items
+    c.as_slice.ensures.value c.loop-piece-test.true c.requires.owners c.span_of-span.ensures
+    c.loop-piece.invariant c.in_ok-push_span.ensures
 
 pub returns : goal.returns
 returns c =

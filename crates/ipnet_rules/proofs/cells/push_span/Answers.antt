@@ -1,31 +1,35 @@
--- One cell more, until the span ends.
-use Rattle.std.proofs.Common.{◌+◌, arith, ap, sym, subst, inl, ◌∙◌}
-use Rattle.ipnet_rules.specs.Cells.{HasSpanAdded}
-use Rattle.ipnet_rules.proofs.CellLaws.{span_more, span_repeat, span_all}
+-- The cells up to the next owner more, until the span ends.
+use Rattle.std.proofs.Common.{◌≡◌, ◌<◌, [], ◌∷◌, ◌++◌, length, slice_index, arith, ap, sym, ◌∙◌}
+use Rattle.ipnet_base.proofs.ListLaws.{at_place}
+use Rattle.ipnet_rules.proofs.CellLaws.{added_none, added_next, added_all}
 use Rattle.ipnet_rules.proofs.cells.push_span.Goals as goal
-use Rattle.ipnet_rules.proofs.cells.push_span.Goals.{then-not-is_repeat+in_ok-push, else-not-is_repeat}
+
+pub loop-cell-init : goal.loop-cell-init
+loop-cell-init c = (
+  omega arith,
+  added_none c.args.cells.now.owners.items c.args.span c.args.found.now.items,
+)
 
 pub loop-cell-preserved : goal.loop-cell-preserved
 loop-cell-preserved c =
-    let owners = c.args.owners.now in
-    let start = c.args.span.start in
+    let cells = c.args.cells.now in
+    let owners = cells.owners.items in
     let cell = c.loop-cell.cell in
-    let old = c.args.found.now.items in
-    let now = c.loop-cell.found.items in (
-      omega (arith, c.loop-cell.invariant.0),
-      inl (omega (arith, c.loop-cell-test.true)),
-      elim c.if-not-is_repeat.branch [
-        | then-not-is_repeat+in_ok-push w ↦
-            span_more owners start cell old now c.if-not-is_repeat.found.items c.loop-cell.invariant.0
-            c.loop-cell.invariant.2 (ap (λ v. v.items) w.found-is ∙ w.in_ok-push.ensures.items)
-        | else-not-is_repeat w ↦
-            subst (λ v. HasSpanAdded owners start (cell + 1) old v.items) (sym w.found-is)
-            (span_repeat owners start cell old now c.loop-cell.invariant.2
-            (c.is_repeat.ensures w.if-not-is_repeat.false))
-      ],
+    let h = c.loop-cell.invariant in
+    let inside : cell < length owners = omega (arith, c.loop-cell-test.true, c.requires.within) in
+    let next : c.index-cell.result.now ≡ slice_index cells.nexts.items cell =
+    sym (at_place cells.nexts.items cell 0 c.index-cell.result.now (omega (arith, inside, c.requires.nexts.count))
+    ∙ sym c.index-cell.ensures) in
+    let owner : c.index.result.now ≡ slice_index owners cell =
+    sym (at_place owners cell 0 c.index.result.now inside ∙ sym c.index.ensures) in
+    let pushed : c.push.new.self.items ≡ c.loop-cell.found.items ++ slice_index owners cell ∷ [] =
+    c.in_ok-push.ensures.items ∙ ap (λ z. c.loop-cell.found.items ++ z ∷ []) owner in (
+      omega (arith, h.0, next, c.requires.nexts.later cell inside),
+      added_next owners cells.nexts.items c.args.span cell _ c.args.found.now.items c.loop-cell.found.items _
+          c.requires.nexts inside h.0 (omega (arith, c.loop-cell-test.true)) next h.1 pushed,
     )
 
 pub returns : goal.returns
 returns c =
-    span_all c.args.owners.now c.args.span.start c.args.span.end c.loop-cell.cell c.args.found.now.items
-    c.loop-cell.found.items c.loop-cell.invariant.1 (omega (arith, c.loop-cell-test.false)) c.loop-cell.invariant.2
+    added_all c.args.cells.now.owners.items c.args.span c.loop-cell.cell c.args.found.now.items c.loop-cell.found.items
+    (omega (arith, c.loop-cell-test.false)) c.loop-cell.invariant.1

@@ -1,11 +1,11 @@
 -- The list has the owners of the cells so far.
-use Rattle.std.proofs.Common.{◌≡◌, ◌-◌, ◌≤◌, ◌⊎◌}
-use Rattle.ipnet_rules.specs.Cells.{HasSpanAdded}
+use Rattle.std.proofs.Common.{◌-◌, ◌≤◌}
+use Rattle.ipnet_rules.proofs.CellLaws.{AreAddedTo}
 use Rattle.ipnet_rules.proofs.cells.push_span.Given as goal
 
 abbrev pub invariant-loop-cell : goal.invariant-loop-cell
-invariant-loop-cell l = (l.span.start ≤ l.cell) × ((l.cell ≤ l.span.end) ⊎ (l.cell ≡ l.span.start))
-    × HasSpanAdded l.owners l.span.start l.cell l.fn.found.items l.found.items
+invariant-loop-cell l = (l.span.start ≤ l.cell)
+    × AreAddedTo l.cells.owners.items l.span l.cell l.fn.found.items l.found.items
 
 abbrev pub decreases-loop-cell : goal.decreases-loop-cell
 decreases-loop-cell l = l.span.end - l.cell

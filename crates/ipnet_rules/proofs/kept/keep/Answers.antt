@@ -1,6 +1,6 @@
 -- The cell is looked at: its owner is kept, or it has none, or a kept rule matches it.
-use Rattle.std.proofs.Common.{◌≡◌, ◌≢◌, ◌+◌, ◌-◌, ◌<◌, ◌≤◌, true, false, length, set, slice_index_or, get_or, refl}
-use Rattle.std.proofs.Common.{sym, subst, arith, ◌∙◌}
+use Rattle.std.proofs.Common.{◌≡◌, ◌+◌, ◌-◌, ◌<◌, length, refl}
+use Rattle.std.proofs.Common.{subst, arith}
 use Rattle.ipnet_rules.specs.declared.cells.Family.TheVariants.{Ipv4, Ipv6}
 use Rattle.ipnet_rules.specs.KeptSteps.{AreKeptFrom}
 use Rattle.ipnet_rules.proofs.KeptLaws.{painted_start, painted_next, painted_for, is_at, cell_painted, kept_start}

@@ -1,5 +1,4 @@
 -- The cells so far are added.
-use Rattle.std.proofs.Common.{take}
 use Rattle.ipnet_rules.proofs.KeptLaws.{AreAddedTo}
 use Rattle.ipnet_rules.proofs.kept.push_cells.Given as goal
 

@@ -1,6 +1,7 @@
 use Rattle.std.proofs.Common.{◌≡◌, ◌++◌, ◌∷◌, [], List, ℕ, ◌+◌, drop, sym, subst, ◌∙◌}
+use Rattle.netset_lib.specs.PlanAnswers.{IsLengthText}
 use Rattle.netset_commands.specs.Words.{AreLengths}
-use Rattle.netset_commands.proofs.WordLaws.{next_length, all_lengths, if_ok}
+use Rattle.netset_commands.proofs.WordLaws.{next_value, all_values, if_ok}
 use Rattle.netset_commands.proofs.plan.lengths_of.Goals as goal
 
 pub loop-word-preserved : goal.loop-word-preserved
@@ -12,10 +13,10 @@ loop-word-preserved c =
     let P : List ℕ → Type 0 = λ all. (rest : List ℕ) → AreLengths (drop (c.loop-word.word-index + 1) words) rest
     → AreLengths words (all ++ rest) in
     subst P (sym pushed)
-    (next_length words c.loop-word.word-index c.in-Some.length c.loop-word.lengths.items _ c.loop-word-test.true
-    ((c.read_length.ensures c.in-Some.length).0 c.in-Some.is) c.loop-word.invariant)
+    (next_value IsLengthText words c.loop-word.word-index c.in-Some.length c.loop-word.lengths.items _
+    c.loop-word-test.true ((c.read_length.ensures c.in-Some.length).0 c.in-Some.is) c.loop-word.invariant)
 
 pub returns-clause-lengths : goal.returns-clause-lengths
 returns-clause-lengths c =
-    all_lengths c.args.words.now c.loop-word.word-index c.loop-word.lengths.items c.loop-word-test.false
+    all_values IsLengthText c.args.words.now c.loop-word.word-index c.loop-word.lengths.items c.loop-word-test.false
     c.loop-word.invariant

@@ -4,6 +4,7 @@ use Rattle.std.proofs.lemmas.List.{map-append}
 use Rattle.ipnet_base.specs.Address.{IPv4, IPv6}
 use Rattle.ipnet.specs.NetworkOf.{ip_network}
 use Rattle.ipnet_sets.specs.Members.{IsMember, IsMemberOf}
+use Rattle.ipnet_shortest.specs.Covers.{AreInOrder}
 use Rattle.netset_entries.specs.FittedLists.{IsFitted}
 use Rattle.netset_entries.proofs.fit.fitted_networks.Goals as goal
 
@@ -20,6 +21,10 @@ returns-clause-fitted c =
           (map ip_network list.items))) c.in-Some.is c.in_ok-ipv4.ensures.some;
       of_ipv6 = subst (λ z. IfSome z (λ list. IsFitted request.ipv6 (IsMemberOf IPv6 set) (IsMember never)
           (map ip_network list.items))) c.in-Some-2.is c.in_ok-ipv6.ensures.some;
+      ipv4_in_order = subst (λ z. IfSome z (λ list. AreInOrder (map ip_network list.items))) c.in-Some.is
+          c.in_ok-ipv4.ensures.order;
+      ipv6_in_order = subst (λ z. IfSome z (λ list. AreInOrder (map ip_network list.items))) c.in-Some-2.is
+          c.in_ok-ipv6.ensures.order;
       both = ap (map ip_network) (c.in_ok-extend_from_slice.ensures.items
           ∙ ap (λ z. first ++ z) c.as_slice.ensures.value)
           ∙ map-append ip_network first second;

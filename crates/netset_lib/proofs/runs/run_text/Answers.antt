@@ -1,5 +1,5 @@
 -- `run_text_to_end` says more: also when the whole report was written.
-use Rattle.std.proofs.Common.{◌⊎◌, inl, inr}
+use Rattle.std.proofs.Common.{inl, inr}
 use Rattle.netset_lib.proofs.runs.run_text.Goals as goal
 
 pub returns-clause-other : goal.returns-clause-other

@@ -34,5 +34,6 @@ returns c =
         class = refl;
         area = c.in-Some.ensures.some;
         title = c.in_ok-title.ensures;
+        comment = c.in_ok-comment.ensures.ok ∙ c.as_str.ensures.value;
       },
     )

@@ -7,5 +7,5 @@ use Rattle.svg_maps.proofs.free.free_outlines.Given as goal
 
 abbrev pub invariant-loop-block : goal.invariant-loop-block
 invariant-loop-block l =
-    AllZip (IsFreeOutline (ip_network l.frame) l.depth) (map ip_network (take l.block-index l.blocks))
+    AllZip (IsFreeOutline l.is_largest (ip_network l.frame) l.depth) (map ip_network (take l.block-index l.blocks))
     l.outlines.items

@@ -1,9 +1,12 @@
-use Rattle.std.proofs.Common.{◌≡◌, ◌+◌, ◌∙◌, All, ap, refl, subst, sym, string_bytes}
+use Rattle.std.proofs.Common.{◌≡◌, ◌^◌, ◌∙◌, ap, map, refl, subst, sym, string_bytes}
 use Rattle.std.proofs.lemmas.Result.{IfOk-weaker}
 use Rattle.ipnet.specs.NetworkOf.{ip_network}
 use Rattle.svg_text.specs.Documents.{nodes_text}
 use Rattle.svg_maps.specs.Overlays.{IsOutlinedMap}
-use Rattle.svg_maps.specs.Pages.{PageView, cell_pixels, page_nodes}
+use Rattle.ipnet_maps.specs.Cuts.{columns_in}
+use Rattle.ipnet_maps.specs.Squares.{square_cuts}
+use Rattle.svg_maps.specs.Legends.{HasLine, row_of}
+use Rattle.svg_maps.specs.Pages.{PageView, FitsPage, cell_pixels, page_nodes}
 use Rattle.svg_maps.specs.Squares.{AreSquaresOf, IsTitle}
 use Rattle.svg_maps.proofs.map.map_text.Goals as goal
 
@@ -13,36 +16,43 @@ returns c =
     let d = c.args.drawing.now in
     let counted = c.args.counted.now in
     let sheet = c.in_ok-texts.texts.sheet in
+    let cuts = square_cuts n.prefix_len d.depth in
     let view : PageView = record {
-      title = c.as_str-3.result.now;
-      summary = c.as_str-4.result.now;
-      style = c.with_note-form.result.style.now;
-      captions = c.as_slice-4.result.now;
-      heads = c.as_slice-5.result.now;
-      swatches = c.as_slice-6.result.now;
+      title = c.as_str-2.result.now;
+      summary = c.as_str-3.result.now;
+      style = c.args.form.style.now;
+      captions = c.as_slice-5.result.now;
+      heads = c.as_slice-6.result.now;
+      swatches = c.as_slice-7.result.now;
       area = sheet.area;
       chart_place = sheet.chart_place;
       layers = c.as_slice-layers.result.now;
-      squares = c.as_slice-7.result.now;
+      squares = c.as_slice-8.result.now;
       outlines = c.as_slice-outlines.result.now;
-      rings = c.as_slice-8.result.now;
-      labels = c.as_slice-9.result.now;
+      rings = c.as_slice-9.result.now;
+      labels = c.as_slice-10.result.now;
       sides = c.sides_of-sides.result;
       scale = sheet.scale;
     } in
     IfOk-weaker c.page_text.result (λ text. string_bytes text ≡ nodes_text (page_nodes view))
-    (λ text. IsOutlinedMap n counted d c.args.form.style.now c.args.form.overlay.now.outlines.items
-    (string_bytes text)) (λ text e. (
+    (λ text. IsOutlinedMap n counted d (map (λ k. k.now) c.args.form.names.now) c.args.form.note.now
+    c.args.form.style.now c.args.form.overlay.now.outlines.items (string_bytes text)) (λ text e. (
       record {
         view = view;
         layers = c.as_slice-layers.ensures.value;
         width = c.sides_of-sides.ensures.width;
         height = c.sides_of-sides.ensures.height;
-        scale = c.in_ok-texts.ensures ∙ ap cell_pixels (sym c.sides_of-sides.ensures.width);
-        squares = subst (AreSquaresOf n d.depth counted) (sym c.as_slice-7.ensures.value) c.in_ok-squares.ensures;
-        summary = subst (IsTitle n counted) (sym c.as_str-4.ensures.value) c.in_ok-summary.ensures;
+        scale = c.in_ok-texts.ensures.scale ∙ ap cell_pixels (sym c.sides_of-sides.ensures.width);
+        fits = subst (λ z. FitsPage sheet.chart_place sheet.scale z c.sides_of-sides.result.height sheet.area)
+            (sym c.sides_of-sides.ensures.width)
+            (subst (λ z. FitsPage sheet.chart_place sheet.scale (2 ^ columns_in cuts) z sheet.area)
+            (sym c.sides_of-sides.ensures.height) c.in_ok-texts.ensures.fits);
+        legend = ap (map row_of) c.as_slice-7.ensures.value ∙ c.in_ok-texts.ensures.legend;
+        foot = subst (HasLine c.args.form.note.now) (sym c.as_slice-5.ensures.value) c.in_ok-texts.ensures.foot;
+        squares = subst (AreSquaresOf n d.depth counted) (sym c.as_slice-8.ensures.value) c.in_ok-squares.ensures;
+        summary = subst (IsTitle n counted) (sym c.as_str-3.ensures.value) c.in_ok-summary.ensures;
         spelled = e;
       },
-      ap (λ z. z.now) c.with_note-form.ensures.style,
-      c.as_slice-outlines.ensures.value ∙ ap (λ z. z.now.outlines.items) c.with_note-form.ensures.overlay,
+      refl,
+      c.as_slice-outlines.ensures.value,
     )) c.page_text.ensures

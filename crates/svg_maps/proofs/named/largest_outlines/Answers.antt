@@ -16,7 +16,7 @@ outlines_in_order-requires-clause-inside c =
     let frame = ip_network c.args.frame.now in
     let networks = map ip_network c.args.networks.now in
     let front = c.split_at.result.0.now in
-    let chosen = front_taken ip_network c.in_ok-list.list.items front _ _ c.split_at.ensures.front
+    let chosen = front_taken 1500 ip_network c.in_ok-list.list.items front _ _ c.split_at.ensures.front
     c.as_slice-all.ensures.value c.min.ensures c.in_ok-list.ensures in
     all_back (λ n. IsSubnetOf n frame) ip_network front (subst (All (λ n. IsSubnetOf n frame)) (sym chosen)
     (All-take (λ n. IsSubnetOf n frame) 1500 (largest_first networks frame.prefix_len (c.args.depth + 1))
@@ -28,7 +28,7 @@ outlines_in_order-requires-clause-large c =
     let networks = map ip_network c.args.networks.now in
     let len = frame.prefix_len + c.args.depth in
     let front = c.split_at.result.0.now in
-    let chosen = front_taken ip_network c.in_ok-list.list.items front _ _ c.split_at.ensures.front
+    let chosen = front_taken 1500 ip_network c.in_ok-list.list.items front _ _ c.split_at.ensures.front
     c.as_slice-all.ensures.value c.min.ensures c.in_ok-list.ensures in
     all_back (λ n. n.prefix_len ≤ len) ip_network front (subst (All (λ n. n.prefix_len ≤ len)) (sym chosen)
     (All-take (λ n. n.prefix_len ≤ len) 1500 (largest_first networks frame.prefix_len (c.args.depth + 1))
@@ -40,7 +40,7 @@ outlines_in_order-requires-clause-named c =
     let names = routes_of c.args.names.now in
     let networks = map ip_network c.args.networks.now in
     let front = c.split_at.result.0.now in
-    let chosen = front_taken ip_network c.in_ok-list.list.items front _ _ c.split_at.ensures.front
+    let chosen = front_taken 1500 ip_network c.in_ok-list.list.items front _ _ c.split_at.ensures.front
     c.as_slice-all.ensures.value c.min.ensures c.in_ok-list.ensures in
     all_back (HasName names) ip_network front (subst (All (HasName names)) (sym chosen)
     (All-take (HasName names) 1500 (largest_first networks frame.prefix_len (c.args.depth + 1))
@@ -53,7 +53,7 @@ returns c =
     let depth = c.args.depth in
     let networks = map ip_network c.args.networks.now in
     let front = c.split_at.result.0.now in
-    let chosen = front_taken ip_network c.in_ok-list.list.items front _ _ c.split_at.ensures.front
+    let chosen = front_taken 1500 ip_network c.in_ok-list.list.items front _ _ c.split_at.ensures.front
     c.as_slice-all.ensures.value c.min.ensures c.in_ok-list.ensures in
     IfOk-weaker c.outlines_in_order.result
     (λ list. AllZip (IsNamedOutline names frame depth) (map ip_network front) list.items)

@@ -1,8 +1,9 @@
-use Rattle.std.proofs.Common.{◌∙◌, refl, subst, sym, string_bytes}
+use Rattle.std.proofs.Common.{◌∙◌, [], refl, subst, sym, string_bytes}
 use Rattle.std.proofs.lemmas.Result.{IfOk-weaker}
 use Rattle.ipnet.specs.NetworkOf.{ip_network}
 use Rattle.ipnet_base.specs.Blocks.{IsInEither}
 use Rattle.ipnet_sets.specs.Members.{IsMember}
+use Rattle.svg_maps.specs.Legends.{IsOutsideNote}
 use Rattle.svg_maps.specs.Overlays.{AreOutlinesOver, IsOutlinedMap, IsOutlinedChangeMap}
 use Rattle.svg_maps.proofs.NamedLaws.{over_same}
 use Rattle.svg_maps.proofs.shown.change_map_text.Goals as goal
@@ -15,7 +16,8 @@ returns c =
     let before = c.args.before.now in
     let after = c.args.after.now in
     let outlines = c.in_ok-overlay.overlay.outlines.items in
-    IfOk-weaker c.map_text.result (λ text. IsOutlinedMap n _ d c.as_str.result.now outlines (string_bytes text))
+    let note = c.as_str-2.result.now in
+    IfOk-weaker c.map_text.result (λ text. IsOutlinedMap n _ d [] note c.as_str.result.now outlines (string_bytes text))
     (λ text. IsOutlinedChangeMap look before after n (string_bytes text)) (λ text m. (
       record {
         drawing = d;
@@ -29,6 +31,11 @@ returns c =
         counted = _;
         sets = refl;
         words = refl;
+        changed = c.in_ok-changed.changed;
+        is_changed = c.in_ok-changed.ensures.members;
+        note = note;
+        outside = subst (IsOutsideNote (IsMember c.in_ok-changed.changed) n) (sym c.as_str-2.ensures.value)
+            c.in_ok-note.ensures;
         page = m.0;
       },
       record {

@@ -1,7 +1,8 @@
-use Rattle.std.proofs.Common.{◌∙◌, refl, subst, sym, string_bytes}
+use Rattle.std.proofs.Common.{◌∙◌, [], refl, subst, sym, string_bytes}
 use Rattle.std.proofs.lemmas.Result.{IfOk-weaker}
 use Rattle.ipnet.specs.NetworkOf.{ip_network}
 use Rattle.ipnet_sets.specs.Members.{IsMember}
+use Rattle.svg_maps.specs.Legends.{IsOutsideNote}
 use Rattle.svg_maps.specs.Overlays.{AreOutlinesOver, IsOutlinedMap, IsOutlinedSetMap}
 use Rattle.svg_maps.proofs.shown.set_map_text.Goals as goal
 
@@ -12,7 +13,8 @@ returns c =
     let look = c.args.look in
     let set = c.args.set.now in
     let outlines = c.in_ok-overlay.overlay.outlines.items in
-    IfOk-weaker c.map_text.result (λ text. IsOutlinedMap n _ d c.as_str.result.now outlines (string_bytes text))
+    let note = c.as_str-2.result.now in
+    IfOk-weaker c.map_text.result (λ text. IsOutlinedMap n _ d [] note c.as_str.result.now outlines (string_bytes text))
     (λ text. IsOutlinedSetMap look set n (string_bytes text)) (λ text m. (
       record {
         drawing = d;
@@ -20,6 +22,8 @@ returns c =
         counted = _;
         sets = refl;
         words = refl;
+        note = note;
+        outside = subst (IsOutsideNote (IsMember set) n) (sym c.as_str-2.ensures.value) c.in_ok-note.ensures;
         page = m.0;
       },
       record {

@@ -5,6 +5,7 @@ use Rattle.std.specs.Borrow.{Bor}
 use Rattle.ipnet.specs.NetworkOf.{ip_network}
 use Rattle.ipnet_sets.specs.ManySets.{IsInSome}
 use Rattle.ipnet_sets.specs.Members.{IsMember}
+use Rattle.svg_maps.specs.Legends.{IsOutsideNote}
 use Rattle.svg_maps.specs.Maps.{list_words}
 use Rattle.svg_maps.specs.Overlays.{AreOutlinesOver, IsOutlinedMap, IsOutlinedSetsMap}
 use Rattle.svg_maps.proofs.NamedLaws.{over_same}
@@ -29,7 +30,9 @@ returns c =
     ∙ ap (λ z. length z) c.in_ok-words.ensures ∙ length-map given (λ name. list_words name.now) in
     let look = c.args.look in
     let outlines = c.in_ok-overlay.overlay.outlines.items in
-    IfOk-weaker c.map_text.result (λ text. IsOutlinedMap n counted d c.as_str.result.now outlines (string_bytes text))
+    let note = c.as_str-2.result.now in
+    IfOk-weaker c.map_text.result (λ text. IsOutlinedMap n counted d names note c.as_str.result.now outlines
+    (string_bytes text))
     (λ text. IsOutlinedSetsMap look sets names n (string_bytes text)) (λ text m. (
       record {
         drawing = d;
@@ -40,6 +43,11 @@ returns c =
             ∙ c.in_ok-counted.ensures.words (as_many ∙ sym (length-map given (λ name. name.now)) ∙ same)
             ∙ ap (λ z. map string_bytes z) c.as_slice.ensures.value ∙ c.in_ok-words.ensures
             ∙ words_of_names given;
+        all = c.in_ok-all.all;
+        is_all = c.in_ok-all.ensures.members;
+        note = note;
+        outside = subst (IsOutsideNote (IsMember c.in_ok-all.all) n) (sym c.as_str-2.ensures.value)
+            c.in_ok-note.ensures;
         page = m.0;
       },
       record {

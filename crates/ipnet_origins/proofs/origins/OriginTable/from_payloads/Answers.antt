@@ -10,6 +10,7 @@ invariant_of-result c =
     let places = c.in_ok-routes.routes.items in
     record {
       order = c.in_ok-sort.ensures.order;
+      ranked = c.in_ok-sort.ensures.ranked;
       reach = lasts_of c.sort.new.payloads.items places
           (subst (λ z. ArePlaces z places) c.as_slice.ensures.value c.in_ok-routes.ensures)
           (routes_of c.in_ok-lasts.lasts) c.in_ok-lasts.ensures.table;

@@ -1,5 +1,5 @@
 -- The verdicts of the network's family.
-use Rattle.std.proofs.Common.{◌≡◌, ◌↔◌, ◌∙◌, IsTrue, subst, sym, ap, arith}
+use Rattle.std.proofs.Common.{◌≡◌, ◌↔◌, ◌∙◌, IsTrue, subst, sym, ap}
 use Rattle.ipnet.specs.NetLaws.{ipv4_valid, ipv6_valid}
 use Rattle.ipnet.specs.NetworkOf.{ipv4_network, ipv6_network, ip_network}
 use Rattle.ipnet_rules.specs.CompiledListOf.{rules_of}

@@ -1,0 +1,107 @@
+//! The command `origins`: its arguments, and its run.
+ghost use Rattle.std.specs.Prelude.{◌≤◌};
+ghost use Rattle.netset_commands.specs.Words.{IsOnly};
+
+use crate::arguments::{FIRST_LIST, OTHER_LIST, SHARED, flags_of, is_set, two_or_report};
+use crate::table::{ARGUMENT, Argument, Form, Subcommand};
+use clap::ArgMatches;
+use ipnet_origins::Validity;
+use netset_files::{Writers, bytes_of};
+use netset_lib::run_text;
+use netset_origins::{OriginsCommand, OriginsRequest};
+
+/// The name of the command.
+pub const ORIGINS: &str = "origins";
+
+/// The names of the options, and the values of the second.
+const WHY: &str = "why";
+
+const ONLY: &str = "only";
+
+const VALID: &str = "valid";
+
+const INVALID: &str = "invalid";
+
+const NOT_FOUND: &str = "not-found";
+
+/// The command `origins`.
+pub const ORIGINS_COMMAND: Subcommand = Subcommand {
+    name: ORIGINS,
+    about: "For each route of ROUTES, valid, invalid or not-found by the ROA payloads VRPS; status 1 if any is invalid",
+    arguments: &[
+        SHARED,
+        &[
+            Argument {
+                id: WHY,
+                form: Form::Flag(WHY),
+                help: "Print after each route the VRPs that cover it",
+                ..ARGUMENT
+            },
+            Argument {
+                id: ONLY,
+                form: Form::Choice(ONLY, "STATE", &[VALID, INVALID, NOT_FOUND]),
+                help: "Print only the routes of this validity",
+                ..ARGUMENT
+            },
+            Argument {
+                form: Form::Word("VRPS"),
+                help: "The VRPs as CSV or JSON, - for standard input",
+                ..FIRST_LIST
+            },
+            Argument {
+                form: Form::Word("ROUTES"),
+                help: "The routes, each a network and an AS number; standard input if it is omitted",
+                is_required: false,
+                ..OTHER_LIST
+            },
+        ],
+    ],
+};
+
+/// Returns the validity of the routes that are asked for, or `None` if all routes are.
+fn only_of(matches: &ArgMatches) -> Option<Validity>
+    ensures { IsOnly matches.now result }
+{
+    let word = matches.get_str(ONLY);
+    if word == Some(VALID) {
+        Some(Validity::Valid)
+    } else if word == Some(INVALID) {
+        Some(Validity::Invalid)
+    } else if word == Some(NOT_FOUND) {
+        Some(Validity::NotFound)
+    } else {
+        None
+    }
+}
+
+/// Reads the arguments and both lists, prints the validity of the routes, and returns the exit status.
+#[inline(never)]
+pub fn validate_origins(rt: &HostRuntime, matches: &ArgMatches, writers: &mut Writers<'_>) -> u8
+    ensures { result ≤ 2 }
+{
+    let names = match two_or_report(rt, matches) {
+        Ok(names) => names.in_order(),
+        Err(status) => return status,
+    };
+    let vrps = match bytes_of(rt, names[0], "VRPs", writers.reports) {
+        Ok(bytes) => bytes,
+        Err(status) => return status,
+    };
+    let routes = match bytes_of(rt, names[1], "routes", writers.reports) {
+        Ok(bytes) => bytes,
+        Err(status) => return status,
+    };
+    let request = OriginsRequest {
+        grammar: flags_of(matches).grammar(),
+        why: is_set(matches, WHY),
+        only: only_of(matches),
+    };
+    let command = OriginsCommand {
+        alloc: rt.alloc(),
+        vrps: vrps.as_slice(),
+        routes: routes.as_slice(),
+        request,
+    };
+    let (out, faults) = (&mut writers.answer, &mut writers.faults);
+    run_text(command, &names, out, faults)
+}

@@ -1,0 +1,214 @@
+//! The output of a command: standard output, or a file that only a whole answer replaces.
+ghost use Rattle.std.specs.Prelude.{◌≤◌, IsTrue};
+ghost use Rattle.netset_files.specs.Statuses.{IsExitStatus};
+
+use crate::lists::Reports;
+use crate::replacement::{OutputFailure, Replacement};
+use netset_lib::{Output, finish};
+use std::cell::Cell;
+use std::io;
+use std::io::{ErrorKind, IsTerminal, Stderr, Stdout, Write};
+
+/// The name of standard output.
+const STANDARD_OUTPUT: &str = "-";
+
+/// The exit status after the reader of standard output has closed it. Shells report this status for a program that
+/// SIGPIPE ended.
+pub const CLOSED: u8 = 141;
+
+/// How the output of a command ended early.
+#[derive(Drop)]
+pub struct Ends {
+    /// Whether the reader of standard output has closed it.
+    closed: Cell<bool>,
+    /// Whether a failure of the file was reported, with its name.
+    reported: Cell<bool>,
+}
+
+impl Ends {
+    /// The output has not ended.
+    pub fn new() -> Ends {
+        Ends {
+            closed: Cell::new(false),
+            reported: Cell::new(false),
+        }
+    }
+
+    /// Whether nothing more is to be reported.
+    fn is_over(&self) -> bool {
+        self.closed.get() || self.reported.get()
+    }
+}
+
+/// A destination of the answer.
+#[derive(Drop)]
+enum Destination<'a> {
+    Standard(Stdout),
+    File(Replacement<'a>),
+}
+
+/// A writer for the answer of a command.
+#[derive(Drop)]
+pub struct AnswerWriter<'a> {
+    destination: Destination<'a>,
+    is_published: bool,
+    ends: &'a Ends,
+}
+
+impl AnswerWriter<'_> {
+    /// Returns whether the answer is written to a terminal.
+    pub fn is_terminal(&self) -> bool {
+        match &self.destination {
+            Destination::Standard(out) => out.is_terminal(),
+            Destination::File(_) => false,
+        }
+    }
+
+    /// Notes that a write failed: that the reader of standard output has closed it, or reports that the file cannot be
+    /// written. Nothing more is reported then.
+    fn note(&self, error: &io::Error) {
+        match &self.destination {
+            Destination::Standard(_) if error.kind() == ErrorKind::BrokenPipe => self
+                .ends
+                .closed
+                .set(true),
+            Destination::Standard(_) => {}
+            Destination::File(_)
+                if error.kind() == ErrorKind::Interrupted || self.ends.reported.get() => {}
+            Destination::File(file) => {
+                file.report_outcome("cannot be written", error);
+                self.ends.reported.set(true);
+            }
+        }
+    }
+}
+
+impl Write for AnswerWriter<'_> {
+    fn write(&mut self, buf: &[u8]) -> io::Result<usize> {
+        let written = match &mut self.destination {
+            Destination::Standard(out) => out.write(buf),
+            Destination::File(file) => file.write(buf),
+        };
+        match written {
+            Ok(count) => Ok(count),
+            Err(error) => {
+                self.note(&error);
+                Err(error)
+            }
+        }
+    }
+
+    fn flush(&mut self) -> io::Result<()> {
+        match &mut self.destination {
+            Destination::Standard(out) => out.flush(),
+            Destination::File(file) => file.flush(),
+        }
+    }
+}
+
+/// Replaces the file. If that fails, nothing more is reported.
+fn replace_file(file: &Replacement<'_>, ends: &Ends) -> io::Result<()> {
+    let result = file.replace();
+    if result.is_err() {
+        ends.reported.set(true);
+    }
+    result
+}
+
+impl Output for AnswerWriter<'_> {
+    ghost is_published = { λ s. IsTrue s.is_published };
+
+    fn publish(&mut self) -> io::Result<()> {
+        let result = match &mut self.destination {
+            Destination::Standard(out) => out.flush(),
+            Destination::File(file) => replace_file(file, self.ends),
+        };
+        self.is_published = result.is_ok();
+        if let Err(error) = &result {
+            self.note(error);
+        }
+        result
+    }
+}
+
+/// Standard error, and nothing after the reader of standard output has closed it, or after a failure of the file was
+/// reported.
+#[derive(Drop)]
+pub struct Faults<'a> {
+    err: Stderr,
+    ends: &'a Ends,
+}
+
+impl Write for Faults<'_> {
+    fn write(&mut self, buf: &[u8]) -> io::Result<usize> {
+        if self.ends.is_over() {
+            return Ok(buf.len());
+        }
+        self.err.write(buf)
+    }
+
+    fn flush(&mut self) -> io::Result<()> {
+        self.err.flush()
+    }
+}
+
+/// The writers of a command, and the reports that it makes about its lists.
+#[derive(Drop)]
+pub struct Writers<'a> {
+    pub answer: AnswerWriter<'a>,
+    pub faults: Faults<'a>,
+    pub reports: Reports,
+}
+
+impl<'a> Writers<'a> {
+    /// Opens the output of this name: standard output if there is no name or it is "-", and otherwise a file.
+    /// `ends` notes what ends the output early.
+    #[inline(never)]
+    pub fn open(
+        rt: &HostRuntime,
+        name: Option<&'a str>,
+        reports: Reports,
+        ends: &'a Ends,
+    ) -> Result<Writers<'a>, OutputFailure> {
+        let destination = match name {
+            Some(name) if name != STANDARD_OUTPUT => Destination::File(Replacement::open(
+                rt, name,
+            )?),
+            _ => Destination::Standard(rt.stdout()),
+        };
+        let answer = AnswerWriter {
+            destination,
+            is_published: false,
+            ends,
+        };
+        let err = rt.stderr();
+        Ok(Writers {
+            answer,
+            faults: Faults { err, ends },
+            reports,
+        })
+    }
+
+    /// Ends a command with this status, and returns the exit status of the program. The file is replaced at status 0
+    /// or 1; otherwise it stays as it is.
+    #[inline(never)]
+    pub fn end(self, status: u8) -> u8
+        ensures { status ≤ 2 → IsExitStatus result }
+    {
+        let Writers {
+            mut answer,
+            mut faults,
+            ..
+        } = self;
+        let status = finish(status, &mut answer, &mut faults);
+        if let Destination::File(file) = &answer.destination {
+            if !answer.is_published {
+                file.discard();
+            }
+        }
+        if answer.ends.closed.get() {
+            return CLOSED;
+        }
+        status
+    }
+}

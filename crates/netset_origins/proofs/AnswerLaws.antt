@@ -1,0 +1,150 @@
+-- The answers of VRPs to the routes of a list.
+use Rattle.std.proofs.Common.{◌≡◌, ◌↔◌, ◌⊎◌, ℕ, ◌+◌, ◌<◌, Bool, true, false, IsTrue, List, [], ◌∷◌, ◌++◌, Contains}
+use Rattle.std.proofs.Common.{length, take, get_or, Option, Result, Ok, Err, OnOk}
+use Rattle.std.proofs.Common.{refl, sym, ap, ◌∙◌, subst, inl, inr, append_assoc, append-nil, IsPermutation}
+use Rattle.std.proofs.lemmas.List.{take_more}
+use Rattle.std.proofs.lemmas.List.Sorted.{Contains-permutation, IsPermutation-sym, IsPermutation-trans}
+use Rattle.ipnet_base.specs.Network.{Network}
+use Rattle.ipnet_sets.proofs.JoinLaws.{any_push}
+use Rattle.ipnet_origins.proofs.ValidityLaws.{one, by_members}
+use Rattle.ipnet_origins.specs.Origins.{IsValidity}
+use Rattle.ipnet_origins.specs.declared.origins.Validity.{Validity}
+use Rattle.ipnet_origins.specs.declared.origins.Validity.TheVariants.{Invalid}
+use Rattle.ipnet_origins.specs.declared.payload.Payload.{Payload}
+use Rattle.netset_origins.specs.OriginAnswers.{vrp_part, why_part, IsWhyPart, IsRouteLine, AreRouteLines, IsOneInvalid}
+use Rattle.netset_origins.specs.OriginSteps.{AddsRoute, AreAnswersBy}
+use Rattle.netset_origins.specs.RouteLines.{ListRoute}
+use Rattle.netset_origins.specs.declared.answer.OriginAnswers.{OriginAnswers}
+use Rattle.netset_origins.specs.declared.answer.OriginsRequest.{OriginsRequest}
+
+-- ---- the VRPs after a route
+
+why_push : (vrps : List Payload) (vrp : Payload) → why_part (vrps ++ vrp ∷ []) ≡ why_part vrps ++ vrp_part vrp
+why_push [] vrp = append-nil (vrp_part vrp)
+why_push (first ∷ vrps) vrp =
+    ap (λ z. vrp_part first ++ z) (why_push vrps vrp)
+    ∙ sym (append_assoc (vrp_part first) (why_part vrps) (vrp_part vrp))
+
+pub vrp_more : (vrps : List Payload) (i : ℕ) (vrp : Payload) (old text new : List ℕ) → i < length vrps
+    → vrp ≡ get_or vrps i vrp → text ≡ old ++ why_part (take i vrps) → new ≡ text ++ vrp_part vrp
+    → new ≡ old ++ why_part (take (i + 1) vrps)
+vrp_more vrps i vrp old text new less is so_far pushed =
+    pushed ∙ ap (λ z. z ++ vrp_part vrp) so_far ∙ append_assoc old (why_part (take i vrps)) (vrp_part vrp)
+    ∙ ap (λ z. old ++ z)
+    (sym (ap why_part (take_more vrps i vrp less ∙ ap (λ z. take i vrps ++ z ∷ []) (sym is))
+    ∙ why_push (take i vrps) vrp))
+
+-- ---- the lines
+
+-- a line that is added part by part
+pub regroup : (old text mark part end : List ℕ)
+    → old ++ text ++ mark ++ part ++ end ≡ old ++ (text ++ mark ++ part ++ end)
+regroup old text mark part end =
+    ap (λ z. z ++ part ++ end) (append_assoc old text mark) ∙ ap (λ z. z ++ end) (append_assoc old (text ++ mark) part)
+    ∙ append_assoc old (text ++ mark ++ part) end
+
+-- a call that succeeds keeps what follows from its promise
+pub on_ok : {T E P Q : Type 0} (r : Result T E) → (P → Q) → OnOk r P → OnOk r Q
+on_ok (Ok t) then h = then h
+on_ok (Err e) then h = tt
+
+-- a route is invalid if its validity is so
+pub invalid_from : (vrps : List Payload) (n : Network) (origin : Option ℕ) (v : Validity) (old new : Bool)
+    → IsValidity vrps n origin v → (IsTrue new ↔ (IsTrue old ⊎ (v ≡ Invalid)))
+    → IsTrue new ↔ (IsTrue old ⊎ IsValidity vrps n origin Invalid)
+invalid_from vrps n origin v old new is same = (
+  λ yes. elim (same.0 yes) [
+    | inl before ↦ inl before
+    | inr here ↦ inr (subst (IsValidity vrps n origin) here is)
+  ],
+  λ some. same.1 (elim some [
+    | inl before ↦ inl before
+    | inr here ↦ inr (one vrps n origin v Invalid is here)
+  ]),
+)
+
+lines_last : (vrps : List Payload) (request : OriginsRequest) (routes : List ListRoute) (r : ListRoute)
+    (text line new : List ℕ) → AreRouteLines vrps request routes text → IsRouteLine vrps request r line
+    → new ≡ text ++ line → AreRouteLines vrps request (routes ++ r ∷ []) new
+lines_last vrps request [] r text line new h is adds =
+    (line, [], is, adds ∙ ap (λ t. t ++ line) h ∙ sym (append-nil line), refl)
+lines_last vrps request (q ∷ routes) r text line new (first, rest, one, spelled, h) is adds = (
+  first,
+  rest ++ line,
+  one,
+  adds ∙ ap (λ t. t ++ line) spelled ∙ append_assoc first rest line,
+  lines_last vrps request routes r rest line (rest ++ line) h is refl,
+)
+
+-- a route more
+pub route_added : (vrps : List Payload) (request : OriginsRequest) (r : ListRoute) (old new : OriginAnswers)
+    (routes : List ListRoute) → AddsRoute vrps request r old new → AreAnswersBy vrps request old routes
+    → AreAnswersBy vrps request new (routes ++ r ∷ [])
+route_added vrps request r old new routes adds h = record {
+  text = lines_last vrps request routes r old.text.items adds.line new.text.items h.text adds.is adds.text;
+  invalid =
+      let push = any_push (λ q. IsValidity vrps q.network q.origin Invalid) routes r in (
+        λ yes. push.1 (elim (adds.invalid.0 yes) [
+          | inl before ↦ inl (h.invalid.0 before)
+          | inr here ↦ inr here
+        ]),
+        λ some. adds.invalid.1 (elim (push.0 some) [
+          | inl front ↦ inl (h.invalid.1 front)
+          | inr last ↦ inr last
+        ]),
+      );
+}
+
+-- ---- the same VRPs in another order
+
+module _ (vrps others : List Payload) (same : IsPermutation vrps others) where
+  members : (vrp : Payload) → Contains others vrp ↔ Contains vrps vrp
+  members vrp = (
+    Contains-permutation others vrps vrp (IsPermutation-sym vrps others same),
+    Contains-permutation vrps others vrp same,
+  )
+
+  validity_same : (r : ListRoute) (v : Validity) → IsValidity others r.network r.origin v
+      → IsValidity vrps r.network r.origin v
+  validity_same r v h = by_members others vrps r.network r.origin v members h
+
+  why_same : (why : Bool) (n : Network) (part : List ℕ) → IsWhyPart others why n part → IsWhyPart vrps why n part
+  why_same true n part (sorted, covering, h, is, spelled) = (
+    sorted,
+    covering,
+    record { same = IsPermutation-trans vrps others sorted same h.same; order = h.order; ranked = h.ranked },
+    is,
+    spelled,
+  )
+  why_same false n part h = h
+
+  line_same : (request : OriginsRequest) (r : ListRoute) (line : List ℕ) → IsRouteLine others request r line
+      → IsRouteLine vrps request r line
+  line_same request r line (v, is, inl (shown, part, why, spelled)) =
+      (v, validity_same r v is, inl (shown, part, why_same request.why r.network part why, spelled))
+  line_same request r line (v, is, inr hidden) = (v, validity_same r v is, inr hidden)
+
+  lines_same : (request : OriginsRequest) (routes : List ListRoute) (text : List ℕ)
+      → AreRouteLines others request routes text → AreRouteLines vrps request routes text
+  lines_same request [] text h = h
+  lines_same request (r ∷ routes) text (line, rest, is, spelled, h) =
+      (line, rest, line_same request r line is, spelled, lines_same request routes rest h)
+
+  invalid_same : (routes : List ListRoute) → IsOneInvalid others routes ↔ IsOneInvalid vrps routes
+  invalid_same routes = (
+    λ (i, r, l, e, h). (i, r, l, e, validity_same r Invalid h),
+    λ (i, r, l, e, h).
+        let back : (vrp : Payload) → Contains vrps vrp ↔ Contains others vrp
+        = λ vrp. ((members vrp).1, (members vrp).0) in
+        (i, r, l, e, by_members vrps others r.network r.origin Invalid back h),
+  )
+
+  pub answers_same : (request : OriginsRequest) (answers : OriginAnswers) (routes : List ListRoute)
+      → AreAnswersBy others request answers routes → AreAnswersBy vrps request answers routes
+  answers_same request answers routes h = record {
+    text = lines_same request routes answers.text.items h.text;
+    invalid = (
+      λ yes. (invalid_same routes).0 (h.invalid.0 yes),
+      λ some. h.invalid.1 ((invalid_same routes).1 some),
+    );
+  }

@@ -1,0 +1,5 @@
+-- Lemmas of this crate.
+pub mod FieldLaws
+pub mod VrpLaws
+pub mod RouteLaws
+pub mod AnswerLaws

@@ -1,0 +1,9 @@
+-- The definitions that the contracts of this crate cite.
+pub mod Fields
+pub mod VrpLines
+pub mod VrpJson
+pub mod RouteLines
+pub mod RouteSteps
+pub mod OriginAnswers
+pub mod OriginSteps
+pub mod OriginReports

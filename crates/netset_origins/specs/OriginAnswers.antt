@@ -1,0 +1,132 @@
+-- The validity of the routes of a list, by a list of validated ROA payloads (VRPs).
+use Rattle.std.specs.Prelude.{◌≡◌, ◌≢◌, ◌⊎◌, ◌↔◌, ℕ, Bool, true, false, List, [], ◌∷◌, ◌++◌, codes, decimal, Any}
+use Rattle.std.specs.Prelude.{IsPermutation, IsTrue, Option, Some, None}
+use Rattle.ipnet_base.specs.Network.{Network}
+use Rattle.ipnet.specs.CanonicalTexts.{canonical_text}
+use Rattle.ipnet.specs.NetworkOf.{ip_network}
+use Rattle.ipnet.specs.declared.parser.Grammar.{Grammar}
+use Rattle.ipnet_lists.specs.Lists.{RefusalFor}
+use Rattle.ipnet_lists.specs.RefusedLines.{AreRefused}
+use Rattle.ipnet_origins.specs.Groups.{AreInOrder, AreRanked}
+use Rattle.ipnet_origins.specs.Origins.{IsValidity, AreCovering}
+use Rattle.ipnet_origins.specs.declared.origins.Validity.{Validity}
+use Rattle.ipnet_origins.specs.declared.origins.Validity.TheVariants.{Valid, Invalid, NotFound}
+use Rattle.ipnet_origins.specs.declared.payload.Payload.{Payload}
+use Rattle.netset_origins.specs.RouteLines.{ListRoute, IsRouteList}
+use Rattle.netset_origins.specs.VrpJson.{BeginsObject, IsVrpJson, IsJsonFault}
+use Rattle.netset_origins.specs.VrpLines.{IsVrpList}
+use Rattle.netset_origins.specs.declared.answer.OriginsFailure.{OriginsFailure}
+use Rattle.netset_origins.specs.declared.answer.OriginsFailure.TheVariants as Failures
+use Rattle.netset_origins.specs.declared.answer.OriginsRequest.{OriginsRequest}
+use Rattle.netset_origins.specs.declared.route_line.RouteCause.{RouteCause}
+use Rattle.netset_origins.specs.declared.vrp_line.VrpCause.{VrpCause}
+
+-- The word of a validity.
+abbrev pub validity_word : Validity → List ℕ
+validity_word Valid = codes "valid"
+validity_word Invalid = codes "invalid"
+validity_word NotFound = codes "not-found"
+
+-- A VRP after a TAB (9): its network, "-" and its greatest prefix length, and its AS number.
+-- Example: `192.0.2.0/24-25 AS64496`.
+abbrev pub vrp_part : Payload → List ℕ
+vrp_part vrp = 9 ∷ canonical_text (ip_network vrp.network) ++ codes "-" ++ decimal vrp.max_len ++ codes " AS"
+    ++ decimal vrp.asn
+
+-- The VRPs, each after a TAB.
+abbrev pub why_part : List Payload → List ℕ
+why_part [] = []
+why_part (vrp ∷ vrps) = vrp_part vrp ++ why_part vrps
+
+-- The VRPs in the order of a table: by network, then by AS number, and then by greatest length. Each is there as often
+-- as in the list.
+pub record IsSorted (vrps sorted : List Payload) : Type 0 where
+  pub same : IsPermutation vrps sorted
+  pub order : AreInOrder sorted
+  pub ranked : AreRanked sorted
+
+-- The text after the validity of a route: if `why`, the VRPs that cover it, the longest networks first, and VRPs of one
+-- network by AS number and greatest length; else nothing.
+abbrev pub IsWhyPart : List Payload → Bool → Network → List ℕ → Type 0
+IsWhyPart vrps true n part = (sorted covering : List Payload) × IsSorted vrps sorted × AreCovering sorted n covering
+    × (part ≡ why_part covering)
+IsWhyPart vrps false n part = part ≡ []
+
+-- A route of this validity is printed.
+abbrev pub IsShown : Option Validity → Validity → Type 0
+IsShown None v = Unit {0}
+IsShown (Some only) v = only ≡ v
+
+-- The line of a route: its text, a TAB (9), the word of its validity, and what follows; or nothing if the route is not
+-- printed. A line feed (10) ends the line.
+-- Example: `192.0.2.0/26 64496`, TAB, `invalid`; and if `why`, then TAB, `192.0.2.0/24-25 AS64496`.
+abbrev pub IsRouteLine : List Payload → OriginsRequest → ListRoute → List ℕ → Type 0
+IsRouteLine vrps request r line = (v : Validity) × IsValidity vrps r.network r.origin v
+    × ((IsShown request.only v × (part : List ℕ) × IsWhyPart vrps request.why r.network part
+    × (line ≡ r.text ++ 9 ∷ validity_word v ++ part ++ 10 ∷ []))
+    ⊎ ((¬ (IsShown request.only v)) × (line ≡ [])))
+
+-- The text has the lines of the routes, in order.
+abbrev pub AreRouteLines : List Payload → OriginsRequest → List ListRoute → List ℕ → Type 0
+AreRouteLines vrps request [] text = text ≡ []
+AreRouteLines vrps request (r ∷ routes) text = (line : List ℕ) × (rest : List ℕ) × IsRouteLine vrps request r line
+    × (text ≡ line ++ rest) × AreRouteLines vrps request routes rest
+
+-- One of the routes is invalid.
+abbrev pub IsOneInvalid : List Payload → List ListRoute → Type 0
+IsOneInvalid vrps routes = Any (λ r. IsValidity vrps r.network r.origin Invalid) routes
+
+-- The bytes are these VRPs, as JSON or as lines of which none is refused.
+abbrev pub AreVrpsOf : Grammar → List ℕ → List Payload → Type 0
+AreVrpsOf grammar bytes vrps = (BeginsObject bytes × IsVrpJson grammar bytes vrps)
+    ⊎ ((¬ (BeginsObject bytes)) × IsVrpList grammar bytes vrps [])
+
+-- The VRPs are read, no line of the routes is refused, and the text has the lines of the routes. `invalid` says whether
+-- a route is invalid, printed or not.
+pub record IsOriginAnswer (request : OriginsRequest) (vrp_bytes route_bytes : List ℕ) (invalid : Bool) (text : List ℕ)
+    : Type 0 where
+  pub vrps : List Payload
+  pub routes : List ListRoute
+  pub vrp_list : AreVrpsOf request.grammar vrp_bytes vrps
+  pub route_list : IsRouteList request.grammar route_bytes routes []
+  pub right : AreRouteLines vrps request routes text
+  pub is_invalid : IsTrue invalid ↔ IsOneInvalid vrps routes
+
+-- The VRPs are not JSON. Some of their lines are refused, and these are all of them.
+pub record HasRefusedVrps (grammar : Grammar) (vrp_bytes : List ℕ) (refused : List (RefusalFor VrpCause)) : Type 0
+  where
+    pub vrps : List Payload
+    pub lines : ¬ (BeginsObject vrp_bytes)
+    pub read : IsVrpList grammar vrp_bytes vrps refused
+    pub some : refused ≢ []
+
+-- Some lines of the routes are refused, and these are all of them.
+pub record HasRefusedRoutes (request : OriginsRequest) (route_bytes : List ℕ) (refused : List (RefusalFor RouteCause))
+    : Type 0 where
+  pub routes : List ListRoute
+  pub read : IsRouteList request.grammar route_bytes routes refused
+  pub some : refused ≢ []
+
+-- Why there are no VRPs: refused lines; JSON that is not a list of VRPs; or out of memory. When memory runs out is not
+-- specified.
+abbrev pub IsVrpsFailure : Grammar → List ℕ → OriginsFailure → Type 0
+IsVrpsFailure grammar bytes (Failures.Vrps lines) =
+    (refusals : List (RefusalFor VrpCause)) × HasRefusedVrps grammar bytes refusals × AreRefused lines refusals
+IsVrpsFailure grammar bytes (Failures.Json fault) = BeginsObject bytes × IsJsonFault grammar bytes fault
+IsVrpsFailure grammar bytes (Failures.Routes lines) = ⊥
+IsVrpsFailure grammar bytes Failures.Memory = Unit {0}
+
+-- The bytes are VRPs.
+abbrev pub HasVrps : Grammar → List ℕ → Type 0
+HasVrps grammar bytes = (vrps : List Payload) × AreVrpsOf grammar bytes vrps
+
+-- Why there is no answer: why there are no VRPs; or if there are, refused lines of the routes.
+abbrev pub IsOriginsFailure : OriginsRequest → (vrp_bytes route_bytes : List ℕ) → OriginsFailure → Type 0
+IsOriginsFailure request vrp_bytes route_bytes (Failures.Vrps lines) =
+    IsVrpsFailure request.grammar vrp_bytes (Failures.Vrps lines)
+IsOriginsFailure request vrp_bytes route_bytes (Failures.Json fault) =
+    IsVrpsFailure request.grammar vrp_bytes (Failures.Json fault)
+IsOriginsFailure request vrp_bytes route_bytes (Failures.Routes lines) =
+    HasVrps request.grammar vrp_bytes × ((refusals : List (RefusalFor RouteCause))
+    × HasRefusedRoutes request route_bytes refusals × AreRefused lines refusals)
+IsOriginsFailure request vrp_bytes route_bytes Failures.Memory = Unit {0}

@@ -1,0 +1,112 @@
+-- Lists of validated ROA payloads (VRPs), as validators write them: on each line an AS number, a network and the
+-- greatest prefix length, with a comma between. A trust anchor and a time may follow; they decide nothing.
+use Rattle.std.specs.Prelude.{◌≡◌, ◌⊎◌, ◌<◌, ℕ, List, [], ◌∷◌, ◌++◌, codes}
+use Rattle.ipnet_base.specs.Address.{width}
+use Rattle.ipnet_base.specs.Network.{Network, truncation}
+use Rattle.ipnet.specs.NetworkOf.{ip_network}
+use Rattle.ipnet.specs.declared.parser.Grammar.{Grammar}
+use Rattle.ipnet_lists.specs.Causes.{Has}
+use Rattle.ipnet_lists.specs.ContentLines.{IsItemList}
+use Rattle.ipnet_lists.specs.Entries.{IsNetworkOrMasked}
+use Rattle.ipnet_lists.specs.Lists.{RefusalFor}
+use Rattle.ipnet_origins.specs.declared.payload.Payload.{Payload}
+use Rattle.ipnet_origins.specs.declared.payload.PayloadError.{PayloadError}
+use Rattle.ipnet_origins.specs.declared.payload.PayloadError.TheVariants.{MaxLenBelowPrefixLen, MaxLenAboveWidth}
+use Rattle.netset_lib.specs.NetworkEntries.{IsArgumentCause}
+use Rattle.netset_origins.specs.Fields.{first_field, after_field, IsNumber, IsAsn}
+use Rattle.netset_origins.specs.declared.vrp_line.VrpCause.{VrpCause}
+use Rattle.netset_origins.specs.declared.vrp_line.VrpCause.TheVariants as Causes
+
+-- The field of the network: the second one. Example: `192.0.2.0/24` of `AS64496,192.0.2.0/24,24`.
+abbrev pub network_field : List ℕ → List ℕ
+network_field text = first_field (after_field text)
+
+-- The field of the greatest prefix length: the third one. Example: `24` of `AS64496,192.0.2.0/24,24`.
+abbrev pub length_field : List ℕ → List ℕ
+length_field text = first_field (after_field (after_field text))
+
+-- The text from the fifth field on. Example: `0` of `AS64496,192.0.2.0/24,24,x,0`.
+abbrev pub last_fields : List ℕ → List ℕ
+last_fields text = after_field (after_field (after_field (after_field text)))
+
+-- The line is the header that validators write before the VRPs.
+abbrev pub IsHeader : List ℕ → Type 0
+IsHeader text = (text ≡ codes "ASN,IP Prefix,Max Length,Trust Anchor")
+    ⊎ (text ≡ codes "ASN,IP Prefix,Max Length,Trust Anchor,Expires")
+
+-- The VRP has this AS number, this network without host bits, and this greatest prefix length.
+pub record IsVrpOf (asn : ℕ) (n : Network) (max_len : ℕ) (vrp : Payload) : Type 0 where
+  pub of_asn : vrp.asn ≡ asn
+  pub of_network : ip_network vrp.network ≡ truncation n
+  pub of_max_len : vrp.max_len ≡ max_len
+
+-- The text is this VRP. Example: `AS64496,192.0.2.0/24,25,x` is 192.0.2.0/24 with greatest length 25 and AS 64496.
+pub record IsVrpText (grammar : Grammar) (text : List ℕ) (vrp : Payload) : Type 0 where
+  pub network : Network
+  pub is : IsVrpOf vrp.asn network vrp.max_len vrp
+  pub writes_asn : IsAsn (first_field text) vrp.asn
+  pub writes_network : IsNetworkOrMasked grammar (network_field text) network
+  pub writes_max_len : IsNumber (length_field text) vrp.max_len
+  pub fields : ¬ (Has 44 (last_fields text))
+
+-- The greatest prefix length is refused for this network: it is less than the prefix length, or more than the width.
+abbrev pub IsLengthError : Network → ℕ → PayloadError → Type 0
+IsLengthError n max_len MaxLenBelowPrefixLen = max_len < n.prefix_len
+IsLengthError n max_len MaxLenAboveWidth = width n.family < max_len
+
+-- Why there is no greatest prefix length of this network: there is no number, or the number is refused. `IsLength` says
+-- what the number is.
+abbrev pub IsLengthCause : Network → (ℕ → Type 0) → VrpCause → Type 0
+IsLengthCause n IsLength Causes.TooManyFields = ⊥
+IsLengthCause n IsLength Causes.NoAsn = ⊥
+IsLengthCause n IsLength (Causes.NoNetwork cause) = ⊥
+IsLengthCause n IsLength Causes.NoMaxLen = (number : ℕ) → ¬ (IsLength number)
+IsLengthCause n IsLength (Causes.RefusedMaxLen error) =
+    (number : ℕ) × IsLength number × IsLengthError n number error
+
+-- The text has at most five fields, and the first one is an AS number.
+abbrev pub HasAsn : List ℕ → Type 0
+HasAsn text = (¬ (Has 44 (last_fields text))) × ((asn : ℕ) × IsAsn (first_field text) asn)
+
+-- The first two fields are an AS number and a network, and the third is refused for this cause.
+abbrev pub HasLengthCause : Grammar → List ℕ → VrpCause → Type 0
+HasLengthCause grammar text cause = HasAsn text
+    × ((n : Network) × IsNetworkOrMasked grammar (network_field text) n
+    × IsLengthCause n (IsNumber (length_field text)) cause)
+
+-- Why a text is not a VRP: it has more than five fields; its first field is not an AS number; its second field is not a
+-- network; its third field is not a number, or a length that is refused for the network. If several of these are true,
+-- the cause is the first of them.
+-- Example: `ASx,192.0.2.0/24,24`; `AS64496,192.0.2.0,24`; `AS64496,192.0.2.0/24,x`; `AS64496,192.0.2.0/24,33`.
+abbrev pub IsVrpCause : Grammar → List ℕ → VrpCause → Type 0
+IsVrpCause grammar text Causes.TooManyFields = Has 44 (last_fields text)
+IsVrpCause grammar text Causes.NoAsn =
+    (¬ (Has 44 (last_fields text))) × ((asn : ℕ) → ¬ (IsAsn (first_field text) asn))
+IsVrpCause grammar text (Causes.NoNetwork cause) =
+    HasAsn text × IsArgumentCause grammar (network_field text) cause
+IsVrpCause grammar text Causes.NoMaxLen = HasLengthCause grammar text Causes.NoMaxLen
+IsVrpCause grammar text (Causes.RefusedMaxLen error) = HasLengthCause grammar text (Causes.RefusedMaxLen error)
+
+-- Why a line is refused: it is not the header, and it is not a VRP for this cause.
+-- Example: `ASN,IP Prefix,Max Length,Trust Anchor` is never refused, though its first field is not an AS number.
+abbrev pub IsVrpLineCause : Grammar → List ℕ → VrpCause → Type 0
+IsVrpLineCause grammar text cause = (¬ (IsHeader text)) × IsVrpCause grammar text cause
+
+-- The line adds these VRPs: a header adds none, and another line adds the VRP that it is.
+abbrev pub IsVrpLine : Grammar → List ℕ → List Payload → Type 0
+IsVrpLine grammar text added =
+    (IsHeader text × (added ≡ [])) ⊎ ((vrp : Payload) × IsVrpText grammar text vrp × (added ≡ vrp ∷ []))
+
+-- The VRPs that the lines add, one line after another.
+abbrev pub all_added : List (List Payload) → List Payload
+all_added [] = []
+all_added (added ∷ lines) = added ++ all_added lines
+
+-- The bytes are a list with these VRPs: each line is a VRP or a header, or is refused. Blanks, comments and a byte
+-- order mark are as in lists of entries.
+-- Example: of `ASN,IP Prefix,Max Length,Trust Anchor\nAS64496,192.0.2.0/24,24,x\nx\n`, line 2 is a VRP, and line 3 is
+-- refused.
+abbrev pub IsVrpList : Grammar → List ℕ → List Payload → List (RefusalFor VrpCause) → Type 0
+IsVrpList grammar bytes vrps refused = (lines : List (List Payload))
+    × IsItemList (λ line. IsVrpLine grammar line.text) (IsVrpLineCause grammar) bytes lines refused
+    × (vrps ≡ all_added lines)

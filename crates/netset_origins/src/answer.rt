@@ -1,0 +1,327 @@
+//! The validity of the routes of a list, by a list of validated ROA payloads (VRPs).
+ghost use Rattle.std.specs.Prelude.{◌≡◌, ◌⊎◌, ◌++◌, ◌↔◌, IsTrue, IfOk, IfErr, OnOk, List};
+ghost use Rattle.ipnet_origins.specs.declared.origins.Validity.TheVariants.{Invalid};
+ghost use Rattle.ipnet.specs.NetworkOf.{ip_network};
+ghost use Rattle.ipnet_origins.specs.OriginsOf.{payloads_of};
+ghost use Rattle.ipnet_origins.specs.declared.payload.Payload.{Payload};
+ghost use Rattle.netset_origins.specs.OriginAnswers.{validity_word, vrp_part, why_part, IsShown, IsOriginAnswer};
+ghost use Rattle.netset_origins.specs.OriginAnswers.{AreVrpsOf, IsVrpsFailure, IsOriginsFailure};
+ghost use Rattle.netset_origins.specs.OriginSteps.{AreVrpsRead, AreJudged, AddsRoute, AddsWhy, AddsLine};
+ghost use Rattle.netset_origins.specs.RouteLines.{IsRouteText, IsRouteCause};
+ghost use Rattle.netset_origins.specs.RouteSteps.{route_in};
+ghost use Rattle.netset_origins.specs.VrpLines.{IsVrpLine, IsVrpLineCause};
+ghost use Rattle.netset_origins.specs.declared.answer.OriginsFailure.TheVariants.{Memory};
+
+use crate::route_line::{RouteCause, RouteLine, read_route};
+use crate::vrp_json::{JsonFailure, JsonFault, begins_object, read_json};
+use crate::vrp_line::{VrpCause, is_header, read_vrp};
+use ipnet::{Grammar, IpNet};
+use ipnet_lists::{ContentLine, LineHandler, Refusals, read_lines};
+use ipnet_origins::{OriginTable, Payload, Validity};
+use itoa::Buffer;
+use std::alloc::{AllocError, Global};
+
+/// A question about a list of routes.
+#[derive(Clone, Copy, Debug, PartialEq, Eq)]
+pub struct OriginsRequest {
+    /// The grammar of the networks in both lists.
+    pub grammar: Grammar,
+    /// Whether the VRPs that cover a route follow it.
+    pub why: bool,
+    /// The validity of the routes that are printed, or `None` if all are.
+    pub only: Option<Validity>,
+}
+
+/// Why there is no answer.
+#[derive(Debug, Drop)]
+pub enum OriginsFailure {
+    /// These lines of the list of VRPs are refused.
+    Vrps(Refusals<VrpCause>),
+    /// The list of VRPs begins like JSON, and is not a list of VRPs in JSON.
+    Json(JsonFault),
+    /// These lines of the list of routes are refused.
+    Routes(Refusals<RouteCause>),
+    /// Memory ran out.
+    Memory,
+}
+
+impl From<AllocError> for OriginsFailure {
+    ghost from_gives = { λ _ result. result ≡ Memory };
+
+    fn from(_: AllocError) -> OriginsFailure {
+        OriginsFailure::Memory
+    }
+}
+
+/// The validity of the routes of a list.
+#[derive(Debug, Drop)]
+pub struct OriginAnswers {
+    /// The lines of the routes.
+    pub text: Vec<u8>,
+    /// Whether a route is invalid.
+    pub invalid: bool,
+}
+
+/// A list of VRPs that was read, and its refused lines.
+#[derive(Drop)]
+struct VrpList {
+    vrps: Vec<Payload>,
+    refused: Refusals<VrpCause>,
+}
+
+/// Takes the VRPs of a list.
+#[derive(Drop)]
+struct VrpReader {
+    grammar: Grammar,
+}
+
+impl<'a> LineHandler<'a, Vec<Payload>, VrpCause> for VrpReader {
+    ghost takes = { λ h line old new. (added : List Payload) × IsVrpLine h.grammar line.text added
+        × (new.items ≡ old.items ++ added) };
+
+    ghost is_cause = { λ h. IsVrpLineCause h.grammar };
+
+    fn take(
+        &self,
+        made: &mut Vec<Payload>,
+        line: ContentLine<'a>,
+    ) -> Result<Result<(), VrpCause>, AllocError> {
+        if is_header(line.text) {
+            return Ok(Ok(()));
+        }
+        match read_vrp(line.text, self.grammar) {
+            Ok(vrp) => {
+                made.push(vrp)?;
+                Ok(Ok(()))
+            }
+            Err(cause) => Ok(Err(cause)),
+        }
+    }
+}
+
+/// Reads the list of VRPs. Fails if memory runs out.
+fn read_vrps(alloc: Global, bytes: &[u8], grammar: Grammar) -> Result<VrpList, AllocError>
+    ensures { IfOk result (AreVrpsRead grammar bytes.now) }
+{
+    let mut vrps = Vec::new(alloc);
+    let refused = read_lines(alloc, bytes, &VrpReader { grammar }, &mut vrps)?;
+    Ok(VrpList { vrps, refused })
+}
+
+/// The word of the validity.
+fn word_of(validity: Validity) -> &'static [u8]
+    ensures { result.now ≡ validity_word validity }
+{
+    match validity {
+        Validity::Valid => b"valid",
+        Validity::Invalid => b"invalid",
+        Validity::NotFound => b"not-found",
+    }
+}
+
+/// Whether a route of this validity is printed.
+fn is_shown(only: Option<Validity>, validity: Validity) -> bool
+    ensures { IsTrue result ↔ IsShown only validity }
+{
+    match only {
+        Some(wanted) => wanted == validity,
+        None => true,
+    }
+}
+
+/// Whether a route before was invalid, or this validity is.
+fn is_invalid(before: bool, validity: Validity) -> bool
+    ensures { IsTrue result ↔ (IsTrue before ⊎ (validity ≡ Invalid)) }
+{
+    before || validity == Validity::Invalid
+}
+
+/// Appends a VRP, after a TAB. Fails if memory runs out.
+fn push_vrp(text: &mut Vec<u8>, vrp: &Payload) -> Result<(), AllocError>
+    ensures { OnOk result (text.new.items ≡ text.old.items ++ vrp_part vrp.now) }
+{
+    text.extend_from_slice(b"\t")?;
+    text.extend_from_slice(vrp.network().to_text().as_bytes())?;
+    text.extend_from_slice(b"-")?;
+    text.extend_from_slice(Buffer::new().format(vrp.max_len()).as_bytes())?;
+    text.extend_from_slice(b" AS")?;
+    text.extend_from_slice(Buffer::new().format(vrp.asn()).as_bytes())
+}
+
+/// Appends the VRPs. Fails if memory runs out.
+fn push_vrps(text: &mut Vec<u8>, vrps: &[Payload]) -> Result<(), AllocError>
+    ensures { OnOk result (text.new.items ≡ text.old.items ++ why_part vrps.now) }
+{
+    for vrp in vrps {
+        push_vrp(text, vrp)?;
+    }
+    Ok(())
+}
+
+/// Takes routes, and finds their validity by the VRPs.
+#[derive(Drop)]
+struct Judge {
+    alloc: Global,
+    table: OriginTable,
+    request: OriginsRequest,
+}
+
+impl Judge {
+    /// Appends the VRPs that cover the network, if they are asked for. Fails if memory runs out.
+    fn push_why(&self, text: &mut Vec<u8>, network: &IpNet) -> Result<(), AllocError>
+        ensures { OnOk result (AddsWhy (payloads_of self.now.table) self.now.request.why (ip_network network.now)
+            text.old.items text.new.items) }
+    {
+        if !self.request.why {
+            return Ok(());
+        }
+        let covering = self.table.covering(self.alloc, network)?;
+        push_vrps(text, covering.as_slice())
+    }
+
+    /// Appends the line of a route with this text, network and validity. Fails if memory runs out.
+    fn push_line(
+        &self,
+        out: &mut Vec<u8>,
+        text: &[u8],
+        network: &IpNet,
+        validity: Validity,
+    ) -> Result<(), AllocError>
+        ensures { OnOk result (AddsLine (payloads_of self.now.table) self.now.request.why text.now
+            (ip_network network.now) validity out.old.items out.new.items) }
+    {
+        out.extend_from_slice(text)?;
+        out.extend_from_slice(b"\t")?;
+        out.extend_from_slice(word_of(validity))?;
+        self.push_why(out, network)?;
+        out.extend_from_slice(b"\n")
+    }
+
+    /// Appends the line of the route, which is written so. Fails if memory runs out.
+    fn push_route(
+        &self,
+        answers: &mut OriginAnswers,
+        text: &[u8],
+        route: RouteLine,
+    ) -> Result<(), AllocError>
+        ensures { OnOk result (AddsRoute (payloads_of self.now.table) self.now.request (route_in text.now route)
+            answers.old answers.new) }
+    {
+        let validity = self.table.validity(&route.network, route.origin);
+        answers.invalid = is_invalid(answers.invalid, validity);
+        if is_shown(self.request.only, validity) {
+            return self.push_line(&mut answers.text, text, &route.network, validity);
+        }
+        Ok(())
+    }
+}
+
+impl<'a> LineHandler<'a, OriginAnswers, RouteCause> for Judge {
+    ghost takes = { λ h line old new. (r : _) × IsRouteText h.request.grammar line.text r
+        × AddsRoute (payloads_of h.table) h.request r old new };
+
+    ghost is_cause = { λ h. IsRouteCause h.request.grammar };
+
+    fn take(
+        &self,
+        made: &mut OriginAnswers,
+        line: ContentLine<'a>,
+    ) -> Result<Result<(), RouteCause>, AllocError> {
+        match read_route(line.text, self.request.grammar) {
+            Ok(route) => {
+                self.push_route(made, line.text, route)?;
+                Ok(Ok(()))
+            }
+            Err(cause) => Ok(Err(cause)),
+        }
+    }
+}
+
+/// The validity of the routes of a list, and the refused lines of the list.
+#[derive(Drop)]
+struct JudgedRoutes {
+    answers: OriginAnswers,
+    refused: Refusals<RouteCause>,
+}
+
+/// Makes a table of the VRPs, and finds the validity of the routes of the list. Fails if memory runs out.
+fn judge_routes(
+    alloc: Global,
+    vrps: Vec<Payload>,
+    routes: &[u8],
+    request: OriginsRequest,
+) -> Result<JudgedRoutes, AllocError>
+    ensures { IfOk result (AreJudged request routes.now vrps.items) }
+{
+    let table = OriginTable::from_payloads(alloc, vrps)?;
+    let judge = Judge {
+        alloc,
+        table,
+        request,
+    };
+    let mut answers = OriginAnswers {
+        text: Vec::new(alloc),
+        invalid: false,
+    };
+    let refused = read_lines(alloc, routes, &judge, &mut answers)?;
+    Ok(JudgedRoutes { answers, refused })
+}
+
+/// Returns the VRPs of the list, which is lines or JSON, or why it has none.
+fn vrps_of(alloc: Global, bytes: &[u8], grammar: Grammar) -> Result<Vec<Payload>, OriginsFailure>
+    ensures vrps { IfOk result (λ vrps. AreVrpsOf grammar bytes.now vrps.items) }
+    ensures failure { IfErr result (IsVrpsFailure grammar bytes.now) }
+{
+    if begins_object(bytes) {
+        return match read_json(alloc, bytes, grammar) {
+            Ok(vrps) => Ok(vrps),
+            Err(JsonFailure::Fault(fault)) => Err(OriginsFailure::Json(fault)),
+            Err(JsonFailure::Memory) => Err(OriginsFailure::Memory),
+        };
+    }
+    let VrpList { vrps, refused } = read_vrps(alloc, bytes, grammar)?;
+    if refused.count != 0 {
+        return Err(OriginsFailure::Vrps(refused));
+    }
+    Ok(vrps)
+}
+
+/// Returns the validity of the routes of a list, by a list of VRPs: a line for each route, in order, with the route as
+/// it is written, a TAB and `valid`, `invalid` or `not-found`.
+///
+/// A line of the VRPs has the fields AS number, network and greatest prefix length, with a comma between, and perhaps a
+/// trust anchor and a time, which decide nothing. A header line is skipped. If the first byte is `{`, the VRPs are
+/// JSON: an object whose member `roas` is an array of objects with `asn`, `prefix` and `maxLength`. A line of the
+/// routes has a network, blanks or a comma, and an AS number, or a set of AS numbers in braces. Comments are as in
+/// lists of entries.
+///
+/// With `why`, each VRP that covers the route follows after a TAB, the longest networks first. With `only`, the other
+/// routes are left out.
+///
+/// The error is `Vrps` if lines of the VRPs are refused, and `Json` if JSON is not a list of VRPs. If neither is true,
+/// the error is `Routes` if lines of the routes are refused. It is `Memory` if memory runs out.
+///
+/// ```text
+/// "AS64496,192.0.2.0/24,25,x\n" and "192.0.2.0/25 64496\n192.0.2.0/26 64496\n198.51.100.0/24 64496\n":
+///     "192.0.2.0/25 64496\tvalid\n192.0.2.0/26 64496\tinvalid\n198.51.100.0/24 64496\tnot-found\n", and a route is
+///     invalid
+/// ```
+pub fn origin_answers(
+    alloc: Global,
+    vrps: &[u8],
+    routes: &[u8],
+    request: OriginsRequest,
+) -> Result<OriginAnswers, OriginsFailure>
+    ensures answers { IfOk result (λ a. IsOriginAnswer request vrps.now routes.now a.invalid a.text.items) }
+    ensures failure { IfErr result (IsOriginsFailure request vrps.now routes.now) }
+{
+    let vrps = match vrps_of(alloc, vrps, request.grammar) {
+        Ok(vrps) => vrps,
+        Err(failure) => return Err(failure),
+    };
+    let JudgedRoutes { answers, refused } = judge_routes(alloc, vrps, routes, request)?;
+    if refused.count != 0 {
+        return Err(OriginsFailure::Routes(refused));
+    }
+    Ok(answers)
+}

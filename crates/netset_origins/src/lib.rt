@@ -1,0 +1,16 @@
+//! The command `origins` of `netset`: which routes their origins may announce, by lists of validated ROA payloads.
+#![tactic(auto)]
+
+pub mod answer;
+mod field;
+pub mod origins_program;
+mod reasons;
+pub mod route_line;
+pub mod vrp_json;
+pub mod vrp_line;
+
+pub use answer::{OriginAnswers, OriginsFailure, OriginsRequest, origin_answers};
+pub use origins_program::OriginsCommand;
+pub use route_line::RouteCause;
+pub use vrp_json::JsonFault;
+pub use vrp_line::VrpCause;

@@ -1,0 +1,6 @@
+//! Commands over tables of networks with texts.
+#![tactic(auto)]
+
+mod shorten;
+
+pub use shorten::ShortenCommand;

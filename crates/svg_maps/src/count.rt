@@ -1,0 +1,120 @@
+//! Counts of addresses as readers like them: with commas, large ones in networks of length 64, and shares in per cent.
+ghost use Rattle.std.specs.Prelude.{◌≡◌, ◌++◌, ◌≤◌, OnOk, codes, string_bytes};
+ghost use Rattle.ipnet.specs.NetworkOf.{ip_network};
+ghost use Rattle.ipnet_bars.specs.MarkTexts.{percent_text};
+ghost use Rattle.ipnet_bars.specs.Parts.{counted, block_size};
+ghost use Rattle.ipnet_bars.specs.Shares.{tenths};
+ghost use Rattle.svg_maps.specs.Counts.{three_digits, grouped, number_text, quantity_text};
+
+use ipnet::IpNet;
+use ipnet_bars::{host_bits_of, tenths_of};
+use std::alloc::AllocError;
+
+/// How many addresses a network of length 64 has.
+const SUBNET: u128 = 0x1_0000_0000_0000_0000;
+
+/// How many commas a number of addresses has at most.
+const COMMAS: u8 = 12;
+
+/// Appends the last three digits of the number.
+fn push_three(text: &mut String, number: u128) -> Result<(), AllocError>
+    ensures { OnOk result (string_bytes text.new ≡ string_bytes text.old ++ three_digits number) }
+{
+    let hundreds = number / 100 % 10;
+    let tens = number / 10 % 10;
+    let ones = number % 10;
+    write!(text, "{hundreds}{tens}{ones}")
+}
+
+/// Appends the number, with at most this many commas.
+fn push_grouped(text: &mut String, number: u128, commas: u8) -> Result<(), AllocError>
+    ensures { OnOk result (string_bytes text.new ≡ string_bytes text.old ++ grouped commas number) }
+{
+    if commas == 0 {
+        write!(text, "{number}")?;
+        return Ok(());
+    }
+    let is_short = number < 1000;
+    if is_short {
+        write!(text, "{number}")?;
+        return Ok(());
+    }
+    push_grouped(text, number / 1000, commas - 1)?;
+    text.push_str(",")?;
+    push_three(text, number)?;
+    Ok(())
+}
+
+/// Appends the number and then the unit.
+#[tactic(auto, unfolding(crate::specs::Counts::number_text))]
+fn push_number(text: &mut String, number: u128, unit: &str) -> Result<(), AllocError>
+    ensures { OnOk result (string_bytes text.new ≡ string_bytes text.old ++ number_text number ++ unit.now) }
+{
+    push_grouped(text, number, COMMAS)?;
+    text.push_str(unit)?;
+    Ok(())
+}
+
+/// Appends this many addresses, as `push_quantity` does.
+fn push_word_quantity(text: &mut String, count: u128) -> Result<(), AllocError>
+    ensures { OnOk result (string_bytes text.new ≡ string_bytes text.old ++ quantity_text count) }
+{
+    let is_one = count == 1;
+    if is_one {
+        text.push_str("1 address")?;
+        return Ok(());
+    }
+    let is_small = count <= SUBNET;
+    if is_small {
+        push_number(text, count, " addresses")?;
+        return Ok(());
+    }
+    push_number(text, count / SUBNET, " /64s")?;
+    Ok(())
+}
+
+/// Appends this many addresses; if they are more than one network of length 64 has, how many such networks have as
+/// many, rounded down. `None` is 2^128, as in `count_in`.
+///
+/// ```text
+/// Some(1) appends "1 address", Some(16777216) appends "16,777,216 addresses", and None appends
+/// "18,446,744,073,709,551,616 /64s"
+/// ```
+pub(crate) fn push_quantity(text: &mut String, count: Option<u128>) -> Result<(), AllocError>
+    ensures { OnOk result (string_bytes text.new ≡ string_bytes text.old ++ quantity_text (counted count)) }
+{
+    match count {
+        Some(count) => push_word_quantity(text, count),
+        None => {
+            text.push_str("18,446,744,073,709,551,616 /64s")?;
+            Ok(())
+        }
+    }
+}
+
+/// The share of the network that the count is, in tenths of a per cent.
+fn share_of(count: Option<u128>, network: &IpNet) -> u16
+    requires { counted count ≤ block_size (ip_network network.now) }
+    ensures { result ≡ tenths (counted count) (block_size (ip_network network.now)) }
+{
+    match count {
+        Some(count) => tenths_of(count, host_bits_of(network)),
+        None => 1000,
+    }
+}
+
+/// Appends the share of the network that the count is, in per cent.
+pub(crate) fn push_share(
+    text: &mut String,
+    count: Option<u128>,
+    network: &IpNet,
+) -> Result<(), AllocError>
+    requires { counted count ≤ block_size (ip_network network.now) }
+    ensures { OnOk result (string_bytes text.new
+        ≡ string_bytes text.old ++ percent_text (tenths (counted count) (block_size (ip_network network.now)))) }
+{
+    let share = share_of(count, network);
+    let whole = share / 10;
+    let rest = share % 10;
+    write!(text, "{whole}.{rest} %")
+}
