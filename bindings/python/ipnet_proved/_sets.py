@@ -171,7 +171,8 @@ class IpSet:
         if answer is not None:
             return answer
         # an interface is an address for `isinstance`, and a network here
-        if type(network) in (IPv4Address, IPv6Address) and getattr(network, "scope_id", None) is None:
+        if ((type(network) is IPv4Address or type(network) is IPv6Address)
+                and getattr(network, "scope_id", None) is None):
             octets = network.packed
             return _contains(self._image, len(self._image), octets, len(octets)) == 1
         wanted = bytes_of(network)
