@@ -197,7 +197,9 @@ class Sets(unittest.TestCase):
             covered = [all(cell in cells for cell in CELLS if cell.version == network.version and cell in network)
                        for network in networks]
             self.assertEqual(made.covers_all(asked), covered)
+            self.assertEqual(made.covers_all("\n".join(asked)), covered)
             self.assertEqual([network in made for network in networks], covered)
+        self.assertEqual(IpSet("10.0.0.0/8").covers_all(ipaddress.ip_network("10.0.0.0/7")), [False])
         self.assertEqual(IpSet("10.0.0.0/8").covers_packed(b"", 18), b"")
         for octets, width in ((b"123", 6), (b"123456", 18), (b"1234", 4), (b"", 0)):
             with self.assertRaises(ValueError):

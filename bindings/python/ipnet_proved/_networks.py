@@ -261,6 +261,15 @@ def text_of(networks: Networks, other: bool = False) -> bytes:
     return b"\n".join(lines)
 
 
+def items_of(networks: Networks) -> Iterable[OneNetwork]:
+    """The networks of a list, one by one: the lines of a text, the items of an iterable, or the only network."""
+    if isinstance(networks, TEXTS):
+        return as_bytes(networks).splitlines()
+    if isinstance(networks, OBJECTS):
+        return [networks]
+    return networks
+
+
 def bytes_of(network: OneNetwork, legacy: bool = False) -> bytes:
     """The byte form of a network: a byte for the family, the octets, the prefix length."""
     if isinstance(network, TEXTS):

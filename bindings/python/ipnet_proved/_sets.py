@@ -2,13 +2,13 @@
 import ctypes
 import struct
 from ipaddress import IPv4Address, IPv6Address
-from typing import Any, Callable, Iterator, List, Optional, Sequence, Tuple, Union
+from typing import Any, Callable, Iterator, List, Optional, Tuple, Union
 
 from . import _library as library
 from ._bulk import RAISE, Options, contained
 from ._columns import ArrowText, blocks_of_lines
 from ._networks import (Address, BadLine, Network, Networks, OneNetwork, Text, answered, as_bytes, bytes_of,
-                        cause_of_entry, networks_of, shown, text_of)
+                        cause_of_entry, items_of, networks_of, shown, text_of)
 from ._rows import WIDTH, checked
 
 try:
@@ -212,13 +212,16 @@ class IpSet:
         """
         return self.contains_all(ArrowText(data, offsets, validity), invalid=invalid, mapped=mapped, out=out)
 
-    def covers_all(self, networks: Sequence[OneNetwork]) -> List[bool]:
-        """Whether the set contains every address of each of the networks, in order.
+    def covers_all(self, networks: Networks) -> List[bool]:
+        """Whether the set contains every address of each of the networks, in order. The list has each form that the
+        functions of this package take: an iterable, a text with one network per line, or one network.
 
         >>> IpSet(["10.0.0.0/24", "fd00::/32"]).covers_all(["10.0.0.128/25", ipaddress.ip_network("fd00::/31"), "::1"])
         [True, False, False]
+        >>> IpSet("10.0.0.0/24").covers_all("10.0.0.7\\n10.0.0.0/23\\n")
+        [True, False]
         """
-        rows = [bytes_of(network) for network in networks]
+        rows = [bytes_of(network) for network in items_of(networks)]
         covered = [False] * len(rows)
         for width in (6, 18):
             places = [place for place, row in enumerate(rows) if len(row) == width]
