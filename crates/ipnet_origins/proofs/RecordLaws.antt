@@ -1,5 +1,5 @@
 -- The payloads of an image: what their bytes say, what appending them changes, and what reading them back gives.
-use Rattle.std.proofs.Common.{◌≡◌, ℕ, ◌+◌, ◌*◌, ◌<◌, ◌≤◌, ◌⊎◌, List, [], ◌∷◌, ◌++◌, length, get_or, Any, Option}
+use Rattle.std.proofs.Common.{◌≡◌, ℕ, ◌+◌, ◌*◌, ◌<◌, ◌≤◌, List, [], ◌∷◌, ◌++◌, length, get_or, Any, Option, Some}
 use Rattle.std.proofs.Common.{refl, sym, ap, ◌∙◌, subst, arith, inl, inr}
 use Rattle.std.proofs.lemmas.Bool.{cases_lt}
 use Rattle.std.proofs.lemmas.List.{length_push, get_or_push, get_or_append_left}
@@ -17,8 +17,11 @@ use Rattle.ipnet_origins.specs.declared.origins.Validity.TheVariants.{Valid, Inv
 use Rattle.ipnet_origins.specs.Groups.{network_of}
 use Rattle.ipnet_origins.specs.Origins.{IsCovered, IsMatched, IsValidity}
 use Rattle.ipnet_origins.specs.OriginImages.{stated_payloads, payload_place, family_number, origins_magic}
-use Rattle.ipnet_origins.specs.OriginImages.{IsNetworkAt, IsPayloadAt, IsOriginImageOf, IsPayloadAdded}
-use Rattle.ipnet_origins.specs.OriginImages.{ArePayloadsAdded}
+use Rattle.ipnet_origins.specs.OriginImages.{IsNetworkAt, IsPayloadAt, IsOriginImageOf, IsOriginImage, IsPayloadAdded}
+use Rattle.ipnet_origins.specs.OriginImages.{ArePayloadsAdded, IsOriginRefusal}
+use Rattle.ipnet_origins.specs.declared.image.OriginImageError.{OriginImageError}
+use Rattle.ipnet_origins.specs.declared.image.OriginImageError.TheVariants.{TooShort, Magic, Version, Length, Payloads}
+use Rattle.ipnet_origins.specs.declared.image.OriginImageError.TheVariants.{Memory}
 use Rattle.ipnet_origins.proofs.LastLaws.{payload_at}
 
 -- ---- one payload
@@ -206,6 +209,28 @@ read_more bytes vrps more count vrp e is h = record {
   ];
 }
 
+-- bytes that hold payloads are an image
+pub image_from : (bytes : List ℕ) (vrps : List Payload) → IsOriginImageOf bytes vrps → IsOriginImage bytes
+image_from bytes vrps h = (
+  h.header,
+  λ i l.
+      let inside : i < length vrps = omega (arith, l, h.as_many) in
+      let found = payload_at vrps i inside in (
+        found.0,
+        subst (IsPayloadAt bytes (payload_place i)) (found.2 found.0) (h.held i found.0 inside),
+      ),
+)
+
+-- bytes that are refused, but not for want of memory, are no image
+pub refused : (bytes : List ℕ) (error : OriginImageError) → IsOriginRefusal error bytes → (error ≡ Memory → ⊥)
+    → IsOriginImage bytes → ⊥
+refused bytes TooShort h other image = h image.0.room
+refused bytes Magic h other image = h.1 image.0.magic
+refused bytes Version h other image = h.2 image.0.version
+refused bytes Length h other image = h.3 image.0.stated
+refused bytes Payloads h other image = h.1 image.1
+refused bytes Memory h other image = other refl
+
 -- ---- one validity
 
 -- a payload that the same bytes are read as
@@ -237,7 +262,7 @@ same_matched : (route : Network) (origin : Option ℕ) (vrp other : Payload) →
 same_matched route origin vrp other e m a h = record {
   covered = same_covered route vrp other e h.covered;
   within_length = omega (arith, h.within_length, m);
-  same_origin = h.same_origin ∙ ap (λ x. Option.Some x) a;
+  same_origin = h.same_origin ∙ ap Some a;
   not_zero = λ zero. h.not_zero (a ∙ zero);
 }
 

@@ -77,9 +77,9 @@ pub(crate) fn are_payloads(bytes: &[u8], count: usize) -> bool
     ensures { IsTrue result ↔ ((i : ℕ) → i < count → (vrp : Payload) × IsPayloadAt bytes.now (payload_place i) vrp) }
 {
     for index in 0..count {
-        if stored_payload(bytes, 24 + index * 32).is_none() {
+        let Some(_payload) = stored_payload(bytes, 24 + index * 32) else {
             return false;
-        }
+        };
     }
     true
 }
@@ -114,7 +114,8 @@ pub(crate) fn append_payloads(bytes: &mut Vec<u8>, payloads: &[Payload]) -> Resu
     ensures { OnOk result (ArePayloadsAdded payloads.now bytes.old.items bytes.new.items) }
 {
     for index in 0..payloads.len() {
-        append_payload(bytes, &payloads[index])?;
+        let payload = payloads[index];
+        append_payload(bytes, &payload)?;
     }
     Ok(())
 }
