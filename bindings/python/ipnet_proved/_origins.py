@@ -112,7 +112,7 @@ class OriginTable:
         return self._image
 
     def __eq__(self, other: object) -> bool:
-        """Whether the images are equal, as those of equal lists of payloads are, in any order."""
+        """Whether the tables have equal images. Lists of the same payloads in any order have one image."""
         if not isinstance(other, OriginTable):
             return NotImplemented
         return self._image == other._image

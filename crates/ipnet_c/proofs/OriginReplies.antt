@@ -35,7 +35,8 @@ pub one_network_row : (family : ℕ) (bytes : List ℕ) (len : ℕ) (n k : Netwo
 one_network_row family bytes len n k h e =
     let same : own_address n ≡ own_address k
     = row_once family bytes (own_address n) (own_address k) h.address e.address in
-    same_network n k (ap (λ (x : Address). x.family) same) (ap (λ (x : Address). x.number) same) (h.len_is ∙ sym e.len_is)
+    same_network n k (ap (λ (x : Address). x.family) same) (ap (λ (x : Address). x.number) same)
+    (h.len_is ∙ sym e.len_is)
 
 -- the network of an address and a length
 pub row_made : (family : ℕ) (bytes : List ℕ) (len : ℕ) (x : Address) (n : IpNet) → IsRowOf family bytes x
@@ -46,7 +47,7 @@ row_made family bytes len x n is e = record {
   len_is = ap (λ (k : Network). k.prefix_len) e;
 }
 
--- a row without an address is no network
+-- a row without an address is not a network
 pub row_without : (family : ℕ) (bytes : List ℕ) (len : ℕ) → IsNoFamily family → (n : Network)
     → IsNetworkRow family bytes len n → ⊥
 row_without family bytes len none n row = not_both family bytes (own_address n) row.address none
@@ -214,7 +215,7 @@ row_of_image origins vrps given c i answer has image h = record {
   none = h.none;
 }
 
--- all answers
+-- the validity of each row
 pub validities : (origins : List ℕ) (vrps : List Payload) (c : Columns) (index : ℕ) (old new : List ℕ)
     → HasPayloadsOf origins vrps → IsOriginImage origins → AreColumns c (length old)
     → AreRightTo (IsRowValidity vrps c) index old new → length old ≤ index → IsValidityReply origins c old new 0

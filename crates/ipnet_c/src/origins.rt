@@ -7,7 +7,8 @@ ghost use Rattle.ipnet_origins.specs.declared.payload.Payload.{Payload};
 ghost use Rattle.ipnet_c.specs.Rows.{row_bytes};
 ghost use Rattle.ipnet_c.specs.OriginReplies.{columns, AreColumns, IsNetworkRow, IsPayloadAtRow};
 ghost use Rattle.ipnet_c.specs.OriginReplies.{AreGoodRows, IsFirstBadRow, ArePayloadsOfRows, IsImageOfRows};
-ghost use Rattle.ipnet_c.specs.OriginReplies.{IsOriginsReply, IsOriginCountReply, validity_byte, IsRowValidity, IsValidityReply};
+ghost use Rattle.ipnet_c.specs.OriginReplies.{IsOriginsReply, IsOriginCountReply, validity_byte, IsRowValidity};
+ghost use Rattle.ipnet_c.specs.OriginReplies.{IsValidityReply};
 
 use crate::buffers::write_to_buffer;
 use crate::row_form::{are_rows, read_row};

@@ -26,7 +26,7 @@ use Rattle.ipnet_origins.proofs.LastLaws.{payload_at}
 
 -- ---- one payload
 
--- a family is told by its number
+-- two families have two numbers
 one_family : (f g : Family) → family_number f ≡ family_number g → f ≡ g
 one_family IPv4 IPv4 e = refl
 one_family IPv4 IPv6 e = absurd (omega (arith, e))
@@ -45,19 +45,19 @@ pub payload_added : (vrp : Payload) (family len max_len asn number : ℕ) (b0 b1
     → IsAppended 16 number b4 b5 → family ≡ family_number (network_of vrp).family
     → len ≡ (network_of vrp).prefix_len → max_len ≡ vrp.max_len → asn ≡ vrp.asn
     → number ≡ (network_of vrp).number → IsPayloadAdded vrp b0 b5
-payload_added vrp family len max_len asn number b0 b1 b2 b3 b4 b5 h1 h2 h3 h4 h5 is_family is_len is_max is_asn is_number
+payload_added vrp family len max_len asn number b0 b1 b2 b3 b4 b5 h1 h2 h3 h4 h5 e1 e2 e3 e4 e5
     = record {
       more = whole.more;
       bytes_are = whole.is;
       size = omega (arith, l4, size_one 16 number b4 b5 h5);
       stored = record {
         network = record {
-          family_is = read_back 4 family (length b0) b0 b1 b5 h1 refl to1 ∙ is_family;
-          len_is = read_back 4 len (length b0 + 4) b1 b2 b5 h2 l1 to2 ∙ is_len;
-          number_is = read_back 16 number (length b0 + 16) b4 b5 b5 h5 l4 (same_bytes b5) ∙ is_number;
+          family_is = read_back 4 family (length b0) b0 b1 b5 h1 refl to1 ∙ e1;
+          len_is = read_back 4 len (length b0 + 4) b1 b2 b5 h2 l1 to2 ∙ e2;
+          number_is = read_back 16 number (length b0 + 16) b4 b5 b5 h5 l4 (same_bytes b5) ∙ e5;
         };
-        max_len_is = read_back 4 max_len (length b0 + 8) b2 b3 b5 h3 l2 to3 ∙ is_max;
-        asn_is = read_back 4 asn (length b0 + 12) b3 b4 b5 h4 l3 to4 ∙ is_asn;
+        max_len_is = read_back 4 max_len (length b0 + 8) b2 b3 b5 h3 l2 to3 ∙ e3;
+        asn_is = read_back 4 asn (length b0 + 12) b3 b4 b5 h4 l3 to4 ∙ e4;
       };
     }
   where
@@ -88,7 +88,7 @@ payload_added vrp family len max_len asn number b0 b1 b2 b3 b4 b5 h1 h2 h3 h4 h5
     whole : IsLonger b0 b5
     whole = longer b0 b1 b5 (by_one 4 family b0 b1 h1) to1
 
--- a payload stays where it is when bytes are appended
+-- a payload keeps its place when bytes are appended
 payload_longer : (bytes all : List ℕ) (at : ℕ) (vrp : Payload) → at + 32 ≤ length bytes → IsLonger bytes all
     → IsPayloadAt bytes at vrp → IsPayloadAt all at vrp
 payload_longer bytes all at vrp l more h = record {
@@ -221,7 +221,7 @@ image_from bytes vrps h = (
       ),
 )
 
--- bytes that are refused, but not for want of memory, are no image
+-- bytes that are refused, and not because memory runs out, are not an image
 pub refused : (bytes : List ℕ) (error : OriginImageError) → IsOriginRefusal error bytes → (error ≡ Memory → ⊥)
     → IsOriginImage bytes → ⊥
 refused bytes TooShort h other image = h image.0.room

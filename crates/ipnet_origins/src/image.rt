@@ -106,7 +106,7 @@ impl<'a> OriginTableRef<'a> {
     pub fn is_empty(&self) -> bool
         ensures { IsTrue result ↔ (stated_payloads self.now.bytes.now ≡ 0) }
     {
-        self.count == 0
+        self.len() == 0
     }
 
     /// Returns the payload with this index, in the order of the bytes; `None` if the index is too high. Allocates
@@ -121,7 +121,7 @@ impl<'a> OriginTableRef<'a> {
         ensures none { IsNone result → index < stated_payloads self.now.bytes.now
             → (vrp : Payload) → ¬ (IsPayloadAt self.now.bytes.now (payload_place index) vrp) }
     {
-        if index >= self.count {
+        if index >= self.len() {
             return None;
         }
         stored_payload(self.bytes, 24 + index * 32)

@@ -1,4 +1,4 @@
--- The payloads so far are those of the rows.
+-- The payloads so far are the payloads of the rows.
 use Rattle.ipnet_c.specs.OriginReplies.{columns, ArePayloadsOfRows}
 use Rattle.ipnet_c.proofs.origins.read_payloads.Given as goal
 
