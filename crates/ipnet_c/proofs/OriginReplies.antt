@@ -12,6 +12,8 @@ use Rattle.ipnet.specs.NetworkOf.{ip_network}
 use Rattle.ipnet.specs.NetLaws.{ip_valid}
 use Rattle.ipnet.specs.declared.net.IpNet.{IpNet}
 use Rattle.ipnet_origins.specs.declared.payload.Payload.{Payload}
+use Rattle.ipnet_origins.specs.declared.payload.PayloadError.{PayloadError}
+use Rattle.ipnet_origins.specs.declared.payload.PayloadError.TheVariants.{MaxLenBelowPrefixLen, MaxLenAboveWidth}
 use Rattle.ipnet_origins.specs.declared.origins.Validity.{Validity}
 use Rattle.ipnet_origins.specs.declared.origins.Validity.TheVariants.{Valid, Invalid, NotFound}
 use Rattle.ipnet_origins.specs.Origins.{IsValidity}
@@ -81,6 +83,16 @@ payload_fits c max_lens i n vrp row h =
         ap (λ (k : Network). width k.family) same,
       ),
     )
+
+-- a row whose payload is refused is not a payload
+pub payload_refused : (c : Columns) (max_lens : List ℕ) (i : ℕ) (n : Network) (error : PayloadError)
+    → IsNetworkAtRow c i n → (error ≡ MaxLenBelowPrefixLen → get_or max_lens i 0 < n.prefix_len)
+    → (error ≡ MaxLenAboveWidth → width n.family < get_or max_lens i 0) → (vrp : Payload)
+    → IsPayloadAtRow c max_lens i vrp → ⊥
+payload_refused c max_lens i n MaxLenBelowPrefixLen row below above vrp h =
+    omega (arith, below refl, (payload_fits c max_lens i n vrp row h).0)
+payload_refused c max_lens i n MaxLenAboveWidth row below above vrp h =
+    omega (arith, above refl, (payload_fits c max_lens i n vrp row h).1)
 
 -- the rows so far are payloads
 pub good_more : (c : Columns) (max_lens : List ℕ) (count : ℕ) (vrp : Payload) → IsPayloadAtRow c max_lens count vrp

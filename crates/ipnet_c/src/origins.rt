@@ -139,7 +139,8 @@ fn image_of(alloc: Global, rows: &Rows<'_>, max_lens: &[u8]) -> Result<Vec<u8>, 
 {
     let payloads = read_payloads(alloc, rows, max_lens)?;
     let table = OriginTable::from_payloads(alloc, payloads)?;
-    table.to_bytes(alloc)
+    let image = table.to_bytes(alloc)?;
+    Ok(image)
 }
 
 /// Writes the image of a table of validated ROA payloads into the buffer, and its length in bytes into `count`.
