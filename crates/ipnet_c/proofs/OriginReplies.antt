@@ -1,19 +1,14 @@
 -- Rows of payloads and of routes, and the replies about images of tables of payloads.
-use Rattle.std.proofs.Common.{◌≡◌, ℕ, ◌+◌, ◌<◌, ◌≤◌, ◌⊎◌, ◌↔◌, List, [], ◌∷◌, ◌++◌, length, get_or, Some, Contains}
+use Rattle.std.proofs.Common.{◌≡◌, ℕ, ◌+◌, ◌≤◌, ◌⊎◌, List, [], ◌∷◌, ◌++◌, length, get_or, Some}
 use Rattle.std.proofs.Common.{inl, inr, refl, sym, ap, subst, ◌∙◌, arith}
 use Rattle.std.proofs.lemmas.Bool.{cases_lt}
 use Rattle.std.proofs.lemmas.List.{length_push, get_or_push, get_or_append_left}
 use Rattle.std.proofs.lemmas.List.Sorted.{Contains-permutation, IsPermutation-sym}
 use Rattle.ipnet_base.proofs.NetworkLaws.{same_network}
-use Rattle.ipnet.specs.Address.{Address, width}
-use Rattle.ipnet.specs.Network.{Network, IsNetwork}
-use Rattle.ipnet.specs.NetworkParts.{own_address, network_at}
-use Rattle.ipnet.specs.NetworkOf.{ip_network}
-use Rattle.ipnet.specs.NetLaws.{ip_valid}
-use Rattle.ipnet.specs.declared.net.IpNet.{IpNet}
+use Rattle.ipnet.specs.Address.{Address}
+use Rattle.ipnet.specs.Network.{Network}
+use Rattle.ipnet.specs.NetworkParts.{own_address}
 use Rattle.ipnet_origins.specs.declared.payload.Payload.{Payload}
-use Rattle.ipnet_origins.specs.declared.payload.PayloadError.{PayloadError}
-use Rattle.ipnet_origins.specs.declared.payload.PayloadError.TheVariants.{MaxLenBelowPrefixLen, MaxLenAboveWidth}
 use Rattle.ipnet_origins.specs.declared.origins.Validity.{Validity}
 use Rattle.ipnet_origins.specs.declared.origins.Validity.TheVariants.{Valid, Invalid, NotFound}
 use Rattle.ipnet_origins.specs.Origins.{IsValidity}
@@ -25,74 +20,19 @@ use Rattle.ipnet_c.specs.OriginReplies.{Columns, AreColumns, IsNetworkRow, IsNet
 use Rattle.ipnet_c.specs.OriginReplies.{ArePayloadsOfRows, IsFirstBadRow, IsImageOfRows, IsOriginsReply}
 use Rattle.ipnet_c.specs.OriginReplies.{validity_byte, IsRowValidity, IsValidityReply}
 use Rattle.ipnet_c.proofs.StatusLaws.{differ, not_other}
-use Rattle.ipnet_c.specs.Rows.{IsRowOf, IsNoFamily}
-use Rattle.ipnet_c.proofs.RowLaws.{row_once, not_both}
+use Rattle.ipnet_c.proofs.RowLaws.{row_once}
 use Rattle.ipnet_c.proofs.ColumnLaws.{AreRightTo}
 
 -- ---- rows
 
 -- a row is one network
-pub one_network_row : (family : ℕ) (bytes : List ℕ) (len : ℕ) (n k : Network) → IsNetworkRow family bytes len n
+one_network_row : (family : ℕ) (bytes : List ℕ) (len : ℕ) (n k : Network) → IsNetworkRow family bytes len n
     → IsNetworkRow family bytes len k → n ≡ k
 one_network_row family bytes len n k h e =
     let same : own_address n ≡ own_address k
     = row_once family bytes (own_address n) (own_address k) h.address e.address in
     same_network n k (ap (λ (x : Address). x.family) same) (ap (λ (x : Address). x.number) same)
     (h.len_is ∙ sym e.len_is)
-
--- the network of an address and a length
-pub row_made : (family : ℕ) (bytes : List ℕ) (len : ℕ) (x : Address) (n : IpNet) → IsRowOf family bytes x
-    → ip_network n ≡ network_at x len → IsNetworkRow family bytes len (ip_network n)
-row_made family bytes len x n is e = record {
-  network = ip_valid n;
-  address = subst (IsRowOf family bytes) (ap own_address (sym e)) is;
-  len_is = ap (λ (k : Network). k.prefix_len) e;
-}
-
--- a row without an address is not a network
-pub row_without : (family : ℕ) (bytes : List ℕ) (len : ℕ) → IsNoFamily family → (n : Network)
-    → IsNetworkRow family bytes len n → ⊥
-row_without family bytes len none n row = not_both family bytes (own_address n) row.address none
-
--- nor is one with a length that is too long
-pub row_too_long : (family : ℕ) (bytes : List ℕ) (len : ℕ) (x : Address) → IsRowOf family bytes x
-    → width x.family < len → (n : Network) → IsNetworkRow family bytes len n → ⊥
-row_too_long family bytes len x is long n row =
-    let same : x ≡ own_address n = row_once family bytes x (own_address n) is row.address in
-    omega (arith, row.network.prefix_fits, row.len_is, long, ap (λ (y : Address). width y.family) same)
-
--- the greatest length of a row that is a payload
-pub payload_fits : (c : Columns) (max_lens : List ℕ) (i : ℕ) (n : Network) (vrp : Payload) → IsNetworkAtRow c i n
-    → IsPayloadAtRow c max_lens i vrp
-    → (n.prefix_len ≤ get_or max_lens i 0) × (get_or max_lens i 0 ≤ width n.family)
-payload_fits c max_lens i n vrp row h =
-    let same : n ≡ h.network
-    = one_network_row (get_or c.families i 0) _ (get_or c.lengths i 0) n h.network row h.row in (
-      omega (
-        arith,
-        vrp.at_least,
-        h.max_len_is,
-        ap (λ (k : Network). k.prefix_len) h.network_is,
-        ap (λ (k : Network). k.prefix_len) same,
-      ),
-      omega (
-        arith,
-        vrp.at_most,
-        h.max_len_is,
-        ap (λ (k : Network). width k.family) h.network_is,
-        ap (λ (k : Network). width k.family) same,
-      ),
-    )
-
--- a row whose payload is refused is not a payload
-pub payload_refused : (c : Columns) (max_lens : List ℕ) (i : ℕ) (n : Network) (error : PayloadError)
-    → IsNetworkAtRow c i n → (error ≡ MaxLenBelowPrefixLen → get_or max_lens i 0 < n.prefix_len)
-    → (error ≡ MaxLenAboveWidth → width n.family < get_or max_lens i 0) → (vrp : Payload)
-    → IsPayloadAtRow c max_lens i vrp → ⊥
-payload_refused c max_lens i n MaxLenBelowPrefixLen row below above vrp h =
-    omega (arith, below refl, (payload_fits c max_lens i n vrp row h).0)
-payload_refused c max_lens i n MaxLenAboveWidth row below above vrp h =
-    omega (arith, above refl, (payload_fits c max_lens i n vrp row h).1)
 
 -- the rows so far are payloads
 pub good_more : (c : Columns) (max_lens : List ℕ) (count : ℕ) (vrp : Payload) → IsPayloadAtRow c max_lens count vrp
@@ -148,20 +88,6 @@ origins_made c max_lens image old new count_old count status as_shown good is kn
   ];
 }
 
--- a bad row
-pub row_refused : (c : Columns) (max_lens old : List ℕ) (count_old row : ℕ) → AreColumns c (length max_lens)
-    → IsFirstBadRow c max_lens row → IsOriginsReply c max_lens old old count_old row 15
-row_refused c max_lens old count_old row as_shown is = record {
-  known = inr (inr (inl refl));
-  ok = λ e. absurd (differ 15 0 refl e);
-  too_short = λ e. absurd (differ 15 4 refl e);
-  bad_row = λ e. is;
-  bad = λ other columns h. refl;
-  wrong_length = (λ e. absurd (differ 15 6 refl e), λ wrong. absurd (wrong as_shown));
-  buffer_kept = λ e. refl;
-  count_kept = λ e. elim e [ inl e ↦ absurd (differ 15 6 refl e) | inr e ↦ absurd (differ 15 3 refl e) ];
-}
-
 -- no memory for the image
 pub memory_refused : (c : Columns) (max_lens old : List ℕ) (count : ℕ) → AreColumns c (length max_lens)
     → AreGoodRows c max_lens (length max_lens) → IsOriginsReply c max_lens old old count count 3
@@ -207,7 +133,7 @@ row_unanswered vrps c i out = record {
 }
 
 -- the answer by a table is the answer by the payloads of its image
-pub row_of_image : (origins : List ℕ) (vrps given : List Payload) (c : Columns) (i answer : ℕ)
+row_of_image : (origins : List ℕ) (vrps given : List Payload) (c : Columns) (i answer : ℕ)
     → HasPayloadsOf origins vrps → IsOriginImageOf origins given → IsRowValidity vrps c i answer
     → IsRowValidity given c i answer
 row_of_image origins vrps given c i answer has image h = record {

@@ -1,5 +1,5 @@
 -- The bytes of the row are a part of the octets.
-use Rattle.std.proofs.Common.{◌≡◌, get_or, subst, IfSome, IsNone}
+use Rattle.std.proofs.Common.{get_or, subst, IfSome, IsNone}
 use Rattle.ipnet.specs.Network.{Network}
 use Rattle.ipnet.specs.NetworkOf.{ip_network}
 use Rattle.ipnet_c.specs.OriginReplies.{IsNetworkRow}
