@@ -8,7 +8,7 @@ from . import _frames as frames
 from . import _library as library
 from ._bulk import MISSING, RAISE, AnswerBytes, Answers
 from ._frames import Form
-from ._network_rows import NetworkRows, network_rows, numbers
+from ._network_rows import WIDTHS, NetworkRows, network_rows, numbers
 from ._networks import OneNetwork, bytes_of
 from ._rows import LARGEST, WIDTH, BadRow, checked, lent
 
@@ -223,9 +223,9 @@ def image_of(rows: NetworkRows, max_lens: Any, asns: Any) -> bytes:
 
 def _text_and_cause(rows: NetworkRows, max_lens: bytearray, row: int) -> Tuple[str, str]:
     """The network of a row that is not a payload, and why it is not one."""
-    width = {4: 32, 6: 128}.get(rows.families[row], 0)
     text, cause = rows.text_and_cause(row)
-    if rows.lengths[row] > width:
+    width = WIDTHS.get(rows.families[row])
+    if width is None or rows.lengths[row] > width:
         return text, cause
     if max_lens[row] > width:
         return text, f"the greatest length {max_lens[row]} is above {width}"
