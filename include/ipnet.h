@@ -64,7 +64,9 @@ typedef enum ipnet_status {
     IPNET_NOT_A_SET = 11,         /* the bytes are not the image of a set */
     IPNET_OTHER_NOT_A_SET = 12,   /* `other`, the second image, is not the image of a set */
     IPNET_NOT_A_TABLE = 13,       /* the bytes are not the image of a table */
-    IPNET_BAD_OFFSETS = 14        /* an offset is less than the offset before it, or more than the length of the text */
+    IPNET_BAD_OFFSETS = 14,       /* an offset is less than the offset before it, or more than the length of the text */
+    IPNET_BAD_ROW = 15,           /* a row is not what the call reads */
+    IPNET_NOT_ORIGINS = 16        /* the bytes are not the image of a table of payloads */
 } ipnet_status;
 
 /* Returns the meaning of a status, in English. The text is constant; nothing is allocated. */
@@ -86,6 +88,8 @@ static inline const char *ipnet_status_text(ipnet_status status)
     case IPNET_OTHER_NOT_A_SET: return "the other bytes are not the image of a set";
     case IPNET_NOT_A_TABLE: return "the bytes are not the image of a table";
     case IPNET_BAD_OFFSETS: return "the offsets are not ascending places in the text";
+    case IPNET_BAD_ROW: return "a row is not what the call reads";
+    case IPNET_NOT_ORIGINS: return "the bytes are not a table of payloads";
     }
     return "unknown status";
 }
@@ -683,6 +687,70 @@ ipnet_status ipnet_table_with_values(const void *table, size_t table_len, const 
  */
 ipnet_status ipnet_truncate_rows(uint32_t ipv4_length, uint32_t ipv6_length, const uint8_t *families,
                                  size_t families_len, uint8_t *octets, size_t octets_len);
+
+/* ---- Origins of routes
+ *
+ * A validated ROA payload says which AS may announce a network, and its subnets up to a greatest prefix length. A table
+ * of payloads says whether the origin of a route is valid (RFC 6811, section 2). It is kept by the caller as its image,
+ * as a table of routes is: 24 bytes, and 32 for each payload. */
+
+/* The validity of a route, as ipnet_origins_validity writes it. NOT_FOUND: no payload covers the route, because no
+ * network of a payload contains the route's network. VALID: a payload matches the route. It covers the route, has the
+ * route's AS number, which is not 0, and has a greatest length that is not less than the route's prefix length.
+ * INVALID: a payload covers the route, and none matches it. NO_ROUTE: the row is not a network. */
+enum { IPNET_NOT_FOUND = 0, IPNET_VALID = 1, IPNET_INVALID = 2, IPNET_NO_ROUTE = 3 };
+
+/* Writes the image of a table of payloads. The networks are given as rows, as for ipnet_set_contains_rows, and
+ * `lengths` has their prefix lengths. `max_lens` has the greatest prefix length of each payload, and `asns` its AS
+ * number. Host bits do not count. Payloads may overlap and repeat. The image has the payloads in the order of their
+ * networks, IPv4 first, then of their AS numbers and greatest lengths.
+ *
+ * OK                `buffer` starts with the image, and `*count` is its length
+ * BUFFER_TOO_SHORT  `*count` is the length of the image
+ * BAD_ROW           if and only if the lengths fit and a row is not a payload; `*count` is the index of the first such
+ *                   row. Its family is neither 4 nor 6, its prefix length is above 32 (IPv4) or 128 (IPv6), or its
+ *                   greatest length is less than the prefix length or above 32 or 128
+ * WRONG_LENGTH      if and only if `octets_len` is not 16 times `families_len`, or the length of `lengths`, `max_lens`
+ *                   or `asns` is not `families_len`
+ * OUT_OF_MEMORY
+ *
+ * `buffer` is modified only on OK, and only up to the end of the image. `*count` is modified only on OK,
+ * BUFFER_TOO_SHORT and BAD_ROW.
+ *
+ *     the row of 192.0.2.0, 24, 26 and 64496   OK, 56
+ *     the row of 192.0.2.0, 24, 23 and 64496   BAD_ROW, 0
+ */
+ipnet_status ipnet_origins_from_rows(const uint8_t *families, size_t families_len, const uint8_t *octets,
+                                     size_t octets_len, const uint8_t *lengths, size_t lengths_len,
+                                     const uint8_t *max_lens, size_t max_lens_len, const uint32_t *asns,
+                                     size_t asns_len, void *buffer, size_t buffer_len, size_t *count);
+
+/* Writes the number of payloads of a table into `*count`. Reads all payloads once.
+ *
+ * OK
+ * NOT_ORIGINS       if and only if the bytes are not the image of a table of payloads; `*count` is not modified
+ */
+ipnet_status ipnet_origins_count(const void *origins, size_t origins_len, size_t *count);
+
+/* Writes the validity of each route, as one of the numbers above. The routes are given as rows, and `lengths` has their
+ * prefix lengths. `asns` has the AS numbers of their origins. A route without a single origin has the number 0, which
+ * no payload matches. Host bits do not count.
+ *
+ * OK                the validity of each row is written
+ * WRONG_LENGTH      if and only if `octets_len` is not 16 times `families_len`, or the length of `lengths`, `asns` or
+ *                   `answers` is not `families_len`
+ * NOT_ORIGINS       if and only if the lengths fit and the bytes are not the image of a table of payloads
+ * OUT_OF_MEMORY
+ *
+ * `answers` is modified only on OK. Each call tests all of the image and makes the table, so ask for many routes at
+ * once.
+ *
+ *     192.0.2.0/24 with 26 and 64496; 192.0.2.64/26 of 64496, 192.0.2.0/27 of 64496, 198.51.100.0/24   OK, 1, 2, 0
+ */
+ipnet_status ipnet_origins_validity(const void *origins, size_t origins_len, const uint8_t *families,
+                                    size_t families_len, const uint8_t *octets, size_t octets_len,
+                                    const uint8_t *lengths, size_t lengths_len, const uint32_t *asns,
+                                    size_t asns_len, uint8_t *answers, size_t answers_len);
 
 #ifdef __cplusplus
 }

@@ -208,6 +208,36 @@ static ipnet_status set_is_subset(struct lent *lent)
     return answer <= 1 ? IPNET_OK : (ipnet_status)answer;
 }
 
+/* Two payloads and two routes as rows: 192.0.2.0/24 and 2001::/16. */
+static const uint8_t families[] = {4, 6}, octets[32] = {192, 0, 2, [16] = 0x20, 0x01}, lengths[] = {24, 16};
+static const uint8_t max_lens[] = {24, 16};
+static const uint32_t asns[] = {64496, 64497};
+
+static ipnet_status origins_from_rows(struct lent *lent)
+{
+    uint8_t image[88];
+    ipnet_status status = ipnet_origins_from_rows(families, 2, octets, 32, lengths, 2, max_lens, 2, asns, 2, image,
+                                                  sizeof image, &lent->number);
+    lent->yes = status == IPNET_OK ? lent->number == 88 && memcmp(image, "ipnetvrp", 8) == 0 : lent->yes;
+    return status;
+}
+
+static ipnet_status origins_validity(struct lent *lent)
+{
+    static uint8_t image[88];
+    uint8_t answers[2] = {9, 9};
+    size_t len = 88;
+    if (image[0] == 0) {
+        long left = granted;
+        granted = -1;
+        ipnet_origins_from_rows(families, 2, octets, 32, lengths, 2, max_lens, 2, asns, 2, image, sizeof image, &len);
+        granted = left;
+    }
+    ipnet_status status = ipnet_origins_validity(image, len, families, 2, octets, 32, lengths, 2, asns, 2, answers, 2);
+    lent->yes = status == IPNET_OK ? answers[0] == IPNET_VALID && answers[1] == IPNET_VALID : lent->yes;
+    return answers[0] == (status == IPNET_OK ? IPNET_VALID : 9) ? status : IPNET_NOT_ORIGINS;
+}
+
 /* Each call, and the text that it writes; NULL if its result is yes. */
 static const struct {
     const char *name;
@@ -223,6 +253,7 @@ static const struct {
     {"set_complement", set_complement, NULL}, {"set_is_subset", set_is_subset, NULL},
     {"set_from_list", set_from_list, NULL}, {"set_counts", set_counts, NULL},
     {"set_from_list_legacy", set_from_list_legacy, NULL}, {"set_from_text_legacy", set_from_text_legacy, NULL},
+    {"origins_from_rows", origins_from_rows, NULL}, {"origins_validity", origins_validity, NULL},
 };
 
 static int is_answered(const struct lent *lent, const char *answer)

@@ -168,6 +168,14 @@ def booleans(answers: bytearray, form: Form) -> Any:
     return masked(codes == 1, codes == 2, form.invalid)
 
 
+def codes(answers: bytearray, gap: int, form: Form) -> Any:
+    """The answers in the form of the column. The rows with the answer `gap` are missing."""
+    values = module("numpy").frombuffer(answers, dtype="uint8")
+    if form.name == "pandas":
+        return series_of(module("pandas").arrays.IntegerArray(values, values == gap), form)
+    return masked(values, values == gap, form.invalid)
+
+
 def numbers(values: bytearray, gaps: Optional[bytearray], absent: Optional[int], form: Form) -> Any:
     """The numbers in the form of the column. The rows at which `gaps` is not 0, and those with the number `absent`, are
     missing."""

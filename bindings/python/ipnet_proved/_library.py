@@ -18,6 +18,8 @@ NOT_A_SET = 11
 OTHER_NOT_A_SET = 12
 NOT_A_TABLE = 13
 BAD_OFFSETS = 14
+BAD_ROW = 15
+NOT_ORIGINS = 16
 
 MAX_BYTES = 18
 MAX_TEXT = 43
@@ -100,6 +102,9 @@ def _load() -> ctypes.CDLL:
         "ipnet_set_contains_rows": [read, size, read, size, read, size, read, size],
         "ipnet_table_longest_match_u32": [read, size, words, size, value, words, size],
         "ipnet_table_longest_match_rows": [read, size, read, size, read, size, value, words, size],
+        "ipnet_origins_from_rows": [read, size, read, size, read, size, read, size, words, size, read, size, number],
+        "ipnet_origins_count": [read, size, number],
+        "ipnet_origins_validity": [read, size, read, size, read, size, read, size, words, size, read, size],
         "ipnet_unmap_rows": [read, size, read, size],
         "ipnet_truncate_rows": [value, value, read, size, read, size],
     }

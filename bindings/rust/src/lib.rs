@@ -22,12 +22,14 @@
 #![deny(missing_docs)]
 
 mod column;
+mod origin;
 mod raw;
 mod rows;
 mod set;
 mod table;
 
 pub use column::Rows;
+pub use origin::{OriginTable, Payload, Validity};
 pub use raw::Offset;
 pub use set::IpSet;
 pub use table::RouteTable;
@@ -66,6 +68,11 @@ pub enum Error {
     WrongLength,
     /// An offset is less than the offset before it, or greater than the length of the text.
     BadOffsets,
+    /// The index of the first payload that is not valid: its greatest length is less than the prefix length of its
+    /// network, or above 32 (IPv4) or 128 (IPv6).
+    BadRow(usize),
+    /// The bytes are not the image of a table of payloads.
+    NotOrigins,
     /// `malloc` or `realloc` failed.
     OutOfMemory,
 }
@@ -83,6 +90,8 @@ impl fmt::Display for Error {
             Error::NotATable => f.write_str("not the image of a table"),
             Error::WrongLength => f.write_str("wrong length"),
             Error::BadOffsets => f.write_str("the offsets are not ascending places in the text"),
+            Error::BadRow(index) => write!(f, "payload {index}: invalid greatest prefix length"),
+            Error::NotOrigins => f.write_str("not the image of a table of payloads"),
             Error::OutOfMemory => f.write_str("out of memory"),
         }
     }

@@ -13,6 +13,8 @@ const BAD_LINE_IN_OTHER: u32 = 9;
 const NOT_A_SET: u32 = 11;
 const NOT_A_TABLE: u32 = 13;
 const BAD_OFFSETS: u32 = 14;
+const BAD_ROW: u32 = 15;
+const NOT_ORIGINS: u32 = 16;
 
 /// The maximum number of bytes in the byte form of a network, and in its text.
 const MAX_BYTES: usize = 18;
@@ -352,6 +354,36 @@ extern "C" {
         values: *mut u32,
         values_len: usize,
     ) -> u32;
+    fn ipnet_origins_from_rows(
+        families: *const u8,
+        families_len: usize,
+        octets: *const u8,
+        octets_len: usize,
+        lengths: *const u8,
+        lengths_len: usize,
+        max_lens: *const u8,
+        max_lens_len: usize,
+        asns: *const u32,
+        asns_len: usize,
+        buffer: *mut u8,
+        buffer_len: usize,
+        count: *mut usize,
+    ) -> u32;
+    fn ipnet_origins_count(origins: *const u8, origins_len: usize, count: *mut usize) -> u32;
+    fn ipnet_origins_validity(
+        origins: *const u8,
+        origins_len: usize,
+        families: *const u8,
+        families_len: usize,
+        octets: *const u8,
+        octets_len: usize,
+        lengths: *const u8,
+        lengths_len: usize,
+        asns: *const u32,
+        asns_len: usize,
+        answers: *mut u8,
+        answers_len: usize,
+    ) -> u32;
     pub fn ipnet_unmap_rows(families: *mut u8, families_len: usize, octets: *mut u8, octets_len: usize) -> u32;
     pub fn ipnet_truncate_rows(
         ipv4_length: u32,
@@ -404,6 +436,8 @@ fn error_of(status: u32, line: usize) -> Error {
         NOT_A_TABLE => Error::NotATable,
         WRONG_LENGTH => Error::WrongLength,
         BAD_OFFSETS => Error::BadOffsets,
+        BAD_ROW => Error::BadRow(line),
+        NOT_ORIGINS => Error::NotOrigins,
         _ => Error::NotANetwork,
     }
 }
@@ -856,4 +890,72 @@ pub fn table_longest_match_all(table: &[u8], addresses: &[u8], width: usize, mis
             values.len(),
         );
     }
+}
+
+/// Networks with AS numbers as columns: a family, 16 octets, a prefix length and an AS number for each.
+pub struct Columns {
+    pub families: Vec<u8>,
+    pub octets: Vec<u8>,
+    pub lengths: Vec<u8>,
+    pub asns: Vec<u32>,
+}
+
+/// The image of the table of the payloads of the rows with these greatest lengths.
+pub fn origins_from(rows: &Columns, max_lens: &[u8]) -> Result<Vec<u8>, Error> {
+    answer(max_lens.len().saturating_mul(32).saturating_add(24), |buffer| {
+        let mut count = 0;
+        // SAFETY: as in `call`.
+        let status = unsafe {
+            ipnet_origins_from_rows(
+                rows.families.as_ptr(),
+                rows.families.len(),
+                rows.octets.as_ptr(),
+                rows.octets.len(),
+                rows.lengths.as_ptr(),
+                rows.lengths.len(),
+                max_lens.as_ptr(),
+                max_lens.len(),
+                rows.asns.as_ptr(),
+                rows.asns.len(),
+                buffer.as_mut_ptr(),
+                buffer.len(),
+                &mut count,
+            )
+        };
+        (status, count)
+    })
+}
+
+/// The number of payloads of the table of an image.
+pub fn origins_count(origins: &[u8]) -> Result<usize, Error> {
+    let mut count = 0;
+    // SAFETY: as in `call`.
+    match unsafe { ipnet_origins_count(origins.as_ptr(), origins.len(), &mut count) } {
+        OK => Ok(count),
+        status => Err(error_of(status, 0)),
+    }
+}
+
+/// The answer for each route of the rows.
+pub fn origins_validity(origins: &[u8], rows: &Columns) -> Result<Vec<u8>, Error> {
+    let mut answers = Vec::new();
+    grow(&mut answers, rows.families.len())?;
+    // SAFETY: as in `call`.
+    let status = unsafe {
+        ipnet_origins_validity(
+            origins.as_ptr(),
+            origins.len(),
+            rows.families.as_ptr(),
+            rows.families.len(),
+            rows.octets.as_ptr(),
+            rows.octets.len(),
+            rows.lengths.as_ptr(),
+            rows.lengths.len(),
+            rows.asns.as_ptr(),
+            rows.asns.len(),
+            answers.as_mut_ptr(),
+            answers.len(),
+        )
+    };
+    if status == OK { Ok(answers) } else { Err(error_of(status, 0)) }
 }

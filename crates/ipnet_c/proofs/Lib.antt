@@ -19,3 +19,4 @@ pub mod OffsetLaws
 pub mod TextRowReplies
 pub mod RouteReplies
 pub mod ImageRowReplies
+pub mod OriginReplies

@@ -12,3 +12,4 @@ pub mod RowReplies
 pub mod TextRows
 pub mod RouteReplies
 pub mod ImageRows
+pub mod OriginReplies

@@ -63,6 +63,14 @@ not_a_table = 13
 abbrev pub bad_offsets : ℕ
 bad_offsets = 14
 
+-- A row is not what the call reads.
+abbrev pub bad_row : ℕ
+bad_row = 15
+
+-- The bytes are not the image of a table of payloads.
+abbrev pub not_origins : ℕ
+not_origins = 16
+
 -- The status for bytes that are not a network.
 abbrev pub status_of_bytes : CompactError → ℕ
 status_of_bytes Length = wrong_length

@@ -10,6 +10,7 @@ pub mod covers;
 pub mod image_rows;
 mod lists;
 pub mod networks;
+pub mod origins;
 mod row_form;
 pub mod rows;
 pub mod set_images;

@@ -49,6 +49,12 @@ pub(crate) const NOT_A_TABLE: u32 = 13;
 /// An offset is less than the offset before it, or greater than the length of the text.
 pub(crate) const BAD_OFFSETS: u32 = 14;
 
+/// A row is not what the call reads.
+pub(crate) const BAD_ROW: u32 = 15;
+
+/// The bytes are not the image of a table of payloads.
+pub(crate) const NOT_ORIGINS: u32 = 16;
+
 /// Returns the status for bytes that are not a network.
 pub(crate) fn status_of(error: CompactError) -> u32
     ensures status { result ≡ status_of_bytes error }

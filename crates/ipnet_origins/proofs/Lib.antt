@@ -6,3 +6,4 @@ pub mod ValidityLaws
 pub mod ThoseLaws
 pub mod CoveringLaws
 pub mod WalkLaws
+pub mod RecordLaws

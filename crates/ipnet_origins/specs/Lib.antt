@@ -2,3 +2,4 @@
 pub mod Origins
 pub mod Groups
 pub mod OriginsOf
+pub mod OriginImages

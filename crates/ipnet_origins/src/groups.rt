@@ -35,7 +35,7 @@ pub(crate) fn places(alloc: Global, payloads: &[Payload]) -> Result<Vec<(IpNet, 
 }
 
 /// Whether the payload is of the network.
-fn is_of(payload: &Payload, network: &IpNet) -> bool
+pub(crate) fn is_of(payload: &Payload, network: &IpNet) -> bool
     ensures { IsTrue result ↔ (network_of payload.now ≡ ip_network network.now) }
 {
     ip_nets_compare_by_network();

@@ -3,6 +3,7 @@ ghost use Rattle.std.specs.Prelude.{◌≡◌, ℕ, ◌↔◌, List, Contains, O
 ghost use Rattle.ipnet_base.specs.Network.{Network, IsNetwork, IsSubnetOf};
 ghost use Rattle.ipnet.specs.NetworkOf.{ip_network};
 ghost use Rattle.ipnet_origins.specs.Origins.{IsCovered, IsMatched, IsValidity};
+ghost use Rattle.ipnet_origins.specs.OriginImages.{IsOriginImageOf};
 ghost use Rattle.ipnet_origins.specs.declared.payload.Payload.{Payload};
 ghost use Rattle.ipnet_origins.specs.declared.origins.Validity.{Validity};
 
@@ -25,4 +26,11 @@ pub fn one_validity()
 pub fn some_origins_never_match()
     ensures none { (route : Network) (vrp : Payload) → ¬ (IsMatched route None vrp) }
     ensures zero { (route : Network) (vrp : Payload) → ¬ (IsMatched route (Some 0) vrp) }
+{}
+
+/// An image has one validity for each route, whichever payloads its bytes are read as.
+pub fn one_validity_of_image()
+    ensures { (bytes : List ℕ) (vrps others : List Payload) (route : Network) (origin : Option ℕ) (v : Validity)
+        → IsOriginImageOf bytes vrps → IsOriginImageOf bytes others → IsValidity vrps route origin v
+        → IsValidity others route origin v }
 {}
