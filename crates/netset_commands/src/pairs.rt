@@ -1,5 +1,6 @@
 //! Runs of `count` and `compare` whose answers are of other forms: prefix lengths, and pairs of lists.
-ghost use Rattle.std.specs.Prelude.{◌≤◌};
+ghost use Rattle.std.specs.Prelude.{◌≤◌, codes};
+ghost use Rattle.netset_commands.specs.Arguments.{IsFlag};
 
 use crate::arguments::{
     ArgumentFailure, FIRST, have_control, is_set, reads_input_twice, report_argument_failure,
@@ -23,7 +24,9 @@ pub const LENGTHS_FLAG: Argument = Argument {
 };
 
 /// Whether prefix lengths are asked for.
-pub fn has_lengths_flag(matches: &ArgMatches) -> bool {
+pub fn has_lengths_flag(matches: &ArgMatches) -> bool
+    ensures { IsFlag matches.now (codes "lengths") result }
+{
     is_set(matches, LENGTHS)
 }
 

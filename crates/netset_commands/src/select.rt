@@ -1,5 +1,5 @@
 //! The command `select`: its arguments, and its run.
-ghost use Rattle.std.specs.Prelude.{◌≡◌, ◌≤◌, IfOk, IfErr};
+ghost use Rattle.std.specs.Prelude.{◌≡◌, ◌≤◌, IfOk, IfErr, OnErr};
 ghost use Rattle.netset_commands.specs.SelectOptions.{IsLengthGiven, IsSelectRequest, bounds_of};
 
 use crate::arguments::{
@@ -83,13 +83,15 @@ struct SelectedLists {
 }
 
 impl ListReader for SelectedLists {
-    ghost use Rattle.netset_entries.specs.SelectSteps.{has_entry, refused_count};
+    ghost use Rattle.netset_entries.specs.SelectSteps.{has_entry, refused_count, IsBroken};
 
     ghost refused = { λ lists. refused_count lists.selection };
 
     ghost holds = { λ lists. has_entry lists.selection };
 
-    fn read<R: Read>(&mut self, input: &mut R) -> Result<(), ReadFailure> {
+    fn read<R: Read>(&mut self, input: &mut R) -> Result<(), ReadFailure>
+        ensures { OnErr result (IsBroken self.new.selection) }
+    {
         self.selection.read(input)
     }
 

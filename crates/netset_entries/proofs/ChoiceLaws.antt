@@ -41,77 +41,77 @@ one_address a x h = λ i. record { family = h.same_family i; number = number i }
         sym (whole x.number) ∙ e ∙ whole a.number
 
 module _ (r : AddressRange) (a b : Address) (n k s : Network) (is_a : a ≡ address_at r.family r.start)
-  (is_b : b ≡ address_at r.family r.end) (of_a : n ≡ network_at a (width a.family))
-  (of_b : k ≡ network_at b (width b.family)) (common : IsCommonSupernet n k s) where
-    first_in : InBlock s a
-    first_in = common.first a (subst (λ z. InBlock z a) (sym of_a) (own_in (network_at a (width a.family))))
+    (is_b : b ≡ address_at r.family r.end) (of_a : n ≡ network_at a (width a.family))
+    (of_b : k ≡ network_at b (width b.family)) (common : IsCommonSupernet n k s) where
+  first_in : InBlock s a
+  first_in = common.first a (subst (λ z. InBlock z a) (sym of_a) (own_in (network_at a (width a.family))))
 
-    last_in : InBlock s b
-    last_in = common.second b (subst (λ z. InBlock z b) (sym of_b) (own_in (network_at b (width b.family))))
+  last_in : InBlock s b
+  last_in = common.second b (subst (λ z. InBlock z b) (sym of_b) (own_in (network_at b (width b.family))))
 
-    -- the smallest network around the ends lies in each network that has them
-    smallest : (o : Network) → IsNetwork o → InBlock o a → InBlock o b → IsSubnetOf s o
-    smallest o is first last = common.smallest o is
-        (λ x y. subst (InBlock o) (sym (one_address a x (subst (λ z. InBlock z x) of_a y))) first)
-        (λ x y. subst (InBlock o) (sym (one_address b x (subst (λ z. InBlock z x) of_b y))) last)
+  -- the smallest network around the ends lies in each network that has them
+  smallest : (o : Network) → IsNetwork o → InBlock o a → InBlock o b → IsSubnetOf s o
+  smallest o is first last = common.smallest o is
+      (λ x y. subst (InBlock o) (sym (one_address a x (subst (λ z. InBlock z x) of_a y))) first)
+      (λ x y. subst (InBlock o) (sym (one_address b x (subst (λ z. InBlock z x) of_b y))) last)
 
-    -- if the range has a prefix length, an address of that network is in the range
-    inside : (len : ℕ) → HasPrefixLen r len → (x : Address) → InBlock s x → IsInRange r x
-    inside len h x in_s =
-        let o = h.network in
-        let some = (h.same (own o)).1 (own_in o) in
-        let first = (h.same (address_at r.family r.start)).0 (record {
-          of_family = refl;
-          from_start = omega arith;
-          to_end = omega (arith, some.from_start, some.to_end);
-        }) in
-        let last = (h.same (address_at r.family r.end)).0 (record {
-          of_family = refl;
-          from_start = omega (arith, some.from_start, some.to_end);
-          to_end = omega arith;
-        }) in
-        (h.same x).1 (smallest o h.is_network (subst (InBlock o) (sym is_a) first) (subst (InBlock o) (sym is_b) last) x
-        in_s)
+  -- if the range has a prefix length, an address of that network is in the range
+  inside : (len : ℕ) → HasPrefixLen r len → (x : Address) → InBlock s x → IsInRange r x
+  inside len h x in_s =
+      let o = h.network in
+      let some = (h.same (own o)).1 (own_in o) in
+      let first = (h.same (address_at r.family r.start)).0 (record {
+        of_family = refl;
+        from_start = omega arith;
+        to_end = omega (arith, some.from_start, some.to_end);
+      }) in
+      let last = (h.same (address_at r.family r.end)).0 (record {
+        of_family = refl;
+        from_start = omega (arith, some.from_start, some.to_end);
+        to_end = omega arith;
+      }) in
+      (h.same x).1 (smallest o h.is_network (subst (InBlock o) (sym is_a) first) (subst (InBlock o) (sym is_b) last) x
+      in_s)
 
-    pub first_is_least : (low : Address) → IsLeastOf s low → (len : ℕ) → HasPrefixLen r len
-        → (a.family ≡ low.family) × (a.number ≤ low.number)
-    first_is_least low least len h =
-        let there = inside len h low least.inside in (
-          ap (λ z. z.family) is_a ∙ sym there.of_family,
-          omega (arith, ap (λ z. z.number) is_a, there.from_start),
-        )
+  pub first_is_least : (low : Address) → IsLeastOf s low → (len : ℕ) → HasPrefixLen r len
+      → (a.family ≡ low.family) × (a.number ≤ low.number)
+  first_is_least low least len h =
+      let there = inside len h low least.inside in (
+        ap (λ z. z.family) is_a ∙ sym there.of_family,
+        omega (arith, ap (λ z. z.number) is_a, there.from_start),
+      )
 
-    pub last_is_greatest : (high : Address) → IsGreatestOf s high → (len : ℕ) → HasPrefixLen r len
-        → (high.family ≡ b.family) × (high.number ≤ b.number)
-    last_is_greatest high greatest len h =
-        let there = inside len h high greatest.inside in (
-          there.of_family ∙ sym (ap (λ z. z.family) is_b),
-          omega (arith, ap (λ z. z.number) is_b, there.to_end),
-        )
+  pub last_is_greatest : (high : Address) → IsGreatestOf s high → (len : ℕ) → HasPrefixLen r len
+      → (high.family ≡ b.family) × (high.number ≤ b.number)
+  last_is_greatest high greatest len h =
+      let there = inside len h high greatest.inside in (
+        there.of_family ∙ sym (ap (λ z. z.family) is_b),
+        omega (arith, ap (λ z. z.number) is_b, there.to_end),
+      )
 
-    -- a network that has both ends, and no address before the first or after the last
-    pub length_found : (low high : Address) → IsLeastOf s low → IsGreatestOf s high → a.number ≤ low.number
-        → high.number ≤ b.number → HasPrefixLen r s.prefix_len
-    length_found low high least greatest from to =
-        let start = ap (λ z. z.number) is_a in
-        let end = ap (λ z. z.number) is_b in
-        let family : s.family ≡ r.family = sym first_in.same_family ∙ ap (λ z. z.family) is_a in record {
-          network = s;
-          is_network = common.network;
-          same = λ x. (
-            λ h. (block_is_between s low high x least greatest).1 (record {
-              of_family = h.of_family ∙ sym family;
-              from_start = omega (arith, h.from_start, start, least.least a first_in);
-              to_end = omega (arith, h.to_end, end, greatest.greatest b last_in);
-            }),
-            λ y. record {
-              of_family = y.same_family ∙ family;
-              from_start = omega (arith, from, start, least.least x y);
-              to_end = omega (arith, to, end, greatest.greatest x y);
-            },
-          );
-          is_len = refl;
-        }
+  -- a network that has both ends, and no address before the first or after the last
+  pub length_found : (low high : Address) → IsLeastOf s low → IsGreatestOf s high → a.number ≤ low.number
+      → high.number ≤ b.number → HasPrefixLen r s.prefix_len
+  length_found low high least greatest from to =
+      let start = ap (λ z. z.number) is_a in
+      let end = ap (λ z. z.number) is_b in
+      let family : s.family ≡ r.family = sym first_in.same_family ∙ ap (λ z. z.family) is_a in record {
+        network = s;
+        is_network = common.network;
+        same = λ x. (
+          λ h. (block_is_between s low high x least greatest).1 (record {
+            of_family = h.of_family ∙ sym family;
+            from_start = omega (arith, h.from_start, start, least.least a first_in);
+            to_end = omega (arith, h.to_end, end, greatest.greatest b last_in);
+          }),
+          λ y. record {
+            of_family = y.same_family ∙ family;
+            from_start = omega (arith, from, start, least.least x y);
+            to_end = omega (arith, to, end, greatest.greatest x y);
+          },
+        );
+        is_len = refl;
+      }
 
 -- a network has its own prefix length
 pub own_length : (n : Network) → IsNetwork n → HasPrefixLen (block_range n) n.prefix_len

@@ -15,7 +15,8 @@ use Rattle.netset_lib.specs.Operations.{IsInResult}
 use Rattle.netset_lib.specs.PlanAnswers.{IsResultSet}
 use Rattle.netset_entries.specs.Lengths.{has_length, count_with, AreLengthLines, IsLengthsAnswer}
 
-count_push : {X : Type 0} (p : X → Bool) (xs : List X) (x : X) → count_by p (xs ++ x ∷ []) ≡ count_by p xs + cond (p x) 1 0
+count_push : {X : Type 0} (p : X → Bool) (xs : List X) (x : X)
+    → count_by p (xs ++ x ∷ []) ≡ count_by p xs + cond (p x) 1 0
 count_push p [] x = omega arith
 count_push p (y ∷ xs) x = omega (arith, count_push p xs x)
 

@@ -1,21 +1,30 @@
 -- The lines of pairs of sets, and of the lists that they were read from.
-use Rattle.std.proofs.Common.{◌≡◌, ◌≤◌, ◌<◌, ◌+◌, ◌-◌, ◌^◌, ◌↔◌, ℕ, zero, suc, List, [], ◌∷◌, ◌++◌, length, get_or}
+use Rattle.std.proofs.Common.{◌≡◌, ◌≢◌, ◌≤◌, ◌<◌, ◌+◌, ◌-◌, ◌^◌, ◌↔◌, ℕ, zero, suc, List, [], ◌∷◌, ◌++◌, length, get_or}
 use Rattle.std.proofs.Common.{All, Option, Some, None, IsNone, IfSome, IsTrue, Bool, refl, sym, ap, ◌∙◌, subst, arith}
+use Rattle.std.proofs.Common.{append_assoc, take}
+use Rattle.std.proofs.lemmas.List.{take_more}
+use Rattle.std.proofs.lemmas.List.Elements.{All-nil, All-cons, All-append}
 use Rattle.ipnet_base.specs.Address.{IPv4, IPv6, Address, IsAddress}
 use Rattle.ipnet_bars.specs.Parts.{counted}
 use Rattle.ipnet_lists.specs.Lists.{ListEntry, IsInEntries, HaveAddresses}
 use Rattle.ipnet_lists.specs.Names.{Names, name_at}
 use Rattle.ipnet_sets.specs.declared.set.IpSet.{IpSet}
-use Rattle.ipnet_sets.specs.Members.{IsCountOf, IsMember, IsMemberOf}
+use Rattle.ipnet_sets.specs.Members.{HaveSameAddresses, IsCountOf, IsMember, IsMemberOf}
 use Rattle.netset_lib.specs.Counts.{HasCounts, HaveSame}
 use Rattle.netset_lib.specs.ListSets.{HaveMembers}
 use Rattle.netset_lib.proofs.CountTexts.{all_counted}
 use Rattle.netset_entries.specs.ListPairs.{AreTabbedCounts, IsPairLine, IsPairAt, IsListAt, ArePairsOf, ArePairs}
-use Rattle.netset_entries.specs.ListPairs.{HaveAllSame}
+use Rattle.netset_entries.specs.ListPairs.{HaveAllSame, IsPairsAnswer, IsPairsFailure, IsPairsOutcome}
+use Rattle.netset_lib.specs.Replies.{IsWorkFailure}
+use Rattle.netset_lib.specs.declared.command.Work.TheVariants.{Combine}
+use Rattle.netset_lib.specs.declared.failure.Failure.{Failure}
+use Rattle.netset_lib.specs.declared.failure.Failure.TheVariants as Failures
+use Rattle.netset_lib.specs.SetsOf.{AreSetsOf}
+use Rattle.netset_lib.specs.declared.answer.Request.{Request}
 use Rattle.netset_entries.specs.TextParts.{AreTextParts}
 use Rattle.netset_entries.proofs.PartLaws.{parts_weaker}
 
--- the count of IPv6 addresses, where there may be 2 ^ 128
+-- the count of IPv6 addresses, which may be 2 ^ 128
 pub counted_right : (s : IpSet) (count : Option ℕ)
     → IsNone count ↔ ((x : Address) → IsAddress x → x.family ≡ IPv6 → IsMember s x)
     → IfSome count (IsCountOf (IsMemberOf IPv6 s)) → IsCountOf (IsMemberOf IPv6 s) (counted count)
@@ -60,9 +69,17 @@ pair_same name other line A B C D a b h = record {
   spelled = h.spelled;
 }
 
+-- texts, one after the other
+pub line_joined : (old a tab b one two three end p q r s new : List ℕ) → p ≡ old ++ a → q ≡ p ++ tab → r ≡ q ++ b
+    → s ≡ r ++ one ++ two ++ three → new ≡ s ++ end
+    → new ≡ old ++ (a ++ tab ++ b ++ one ++ two ++ three ++ end)
+line_joined old a tab b one two three end p q r s new e f g h k =
+    k ∙ ap (λ z. z ++ end) (h
+    ∙ ap (λ z. z ++ one ++ two ++ three) (g ∙ ap (λ z. z ++ b) (f ∙ ap (λ z. z ++ tab) e))) ∙ simp append_assoc
+
 -- ---- the lists of sets
 
-pub size_same : (sets : List IpSet) (entries : List (List ListEntry)) → HaveMembers sets entries
+size_same : (sets : List IpSet) (entries : List (List ListEntry)) → HaveMembers sets entries
     → length sets ≡ length entries
 size_same [] [] h = refl
 size_same [] (e ∷ entries) h = absurd h
@@ -132,3 +149,59 @@ module _ (names : Names) (sets : List IpSet) (entries : List (List ListEntry)) (
           λ k. (e_has x).1 (same.1 ((f_has x).0 k)),
         ),
   )
+
+-- ---- sets that are all the same
+
+first_is : (first : IpSet) (others : List IpSet) → All (λ s. HaveSameAddresses s first) others → (i : ℕ) (s : IpSet)
+    → IsListAt (first ∷ others) i s → HaveSameAddresses s first
+first_is first others all zero s at = subst (λ z. HaveSameAddresses z first) at.1 (λ x. (λ m. m, λ m. m))
+first_is first others all (suc i) s at =
+    subst (λ z. HaveSameAddresses z first) at.1 (all i s (omega (arith, at.0)))
+
+pub all_same_from : (first : IpSet) (others : List IpSet) → All (λ s. HaveSameAddresses s first) others
+    → HaveAllSame IsMember (first ∷ others)
+all_same_from first others all i j s t first_at second_at x =
+    let one = first_is first others all i s first_at x in
+    let two = first_is first others all j t second_at x in
+    (λ m. two.1 (one.0 m), λ m. one.1 (two.0 m))
+
+pub not_all_same : (first : IpSet) (others : List IpSet) (k : ℕ) (s : IpSet) → k < length others
+    → s ≡ get_or others k s → ¬ (HaveSameAddresses s first) → ¬ (HaveAllSame IsMember (first ∷ others))
+not_all_same first others k s below at differ all =
+    differ (λ x. all (suc k) 0 s first (omega (arith, below), sym at) (omega arith, refl) x)
+
+pub one_same_more : (first : IpSet) (others : List IpSet) (k : ℕ) (s : IpSet) → k < length others
+    → s ≡ get_or others k s → All (λ z. HaveSameAddresses z first) (take k others) → HaveSameAddresses s first
+    → All (λ z. HaveSameAddresses z first) (take (k + 1) others)
+one_same_more first others k s below at all same =
+    subst (All (λ z. HaveSameAddresses z first))
+    (sym (take_more others k s below ∙ ap (λ z. take k others ++ z ∷ []) (sym at)))
+    (All-append (λ z. HaveSameAddresses z first) (take k others) (s ∷ []) all
+    (All-cons (λ z. HaveSameAddresses z first) s [] same (All-nil (λ z. HaveSameAddresses z first))))
+
+pub none_all_same : HaveAllSame IsMember []
+none_all_same i j s t first_at second_at x = absurd (let wrong : ⊥ = omega (arith, first_at.0) in wrong)
+
+-- ---- the answer
+
+module _ (r : Request) (lists : List (List ℕ)) (sets : List IpSet) (of : AreSetsOf r.grammar lists sets) where
+  pub pairs_answer : (names : Names) (text : List ℕ) → ArePairs IsMember names sets text
+      → IsPairsAnswer names r.grammar lists text
+  pairs_answer names text h =
+      record { entries = of.entries; read = of.read; right = pairs_same names sets of.entries of.of_each text h }
+
+  pub pairs_outcome : (same : Bool) → IsTrue same ↔ HaveAllSame IsMember sets → IsPairsOutcome r.grammar lists same
+  pairs_outcome same h =
+      let all = all_same_of_lists [] sets of.entries of.of_each in record {
+        entries = of.entries;
+        read = of.read;
+        is_same = (λ t. all.0 (h.0 t), λ a. h.1 (all.1 a));
+      }
+
+pub pairs_failure : (r : Request) (lists : List (List ℕ)) (failure : Failure)
+    → IsWorkFailure (Combine r) lists failure → failure ≢ Failures.Memory → IsPairsFailure r lists failure
+pairs_failure r lists Failures.Count h other = h
+pairs_failure r lists (Failures.Refused refused) h other = h
+pairs_failure r lists Failures.NoFamily h other = h
+pairs_failure r lists Failures.Unreadable h other = h
+pairs_failure r lists Failures.Memory h other = absurd (other refl)

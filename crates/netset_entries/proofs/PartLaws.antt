@@ -7,7 +7,7 @@ pub no_parts : (Is : ℕ → List ℕ → Type 0) (i : ℕ) → AreTextParts Is 
 unfolding AreTextParts
 no_parts Is i = refl
 
-pub parts_push : (Is : ℕ → List ℕ → Type 0) (i n j : ℕ) (text part : List ℕ) → AreTextParts Is i n text → i + n ≡ j
+parts_push : (Is : ℕ → List ℕ → Type 0) (i n j : ℕ) (text part : List ℕ) → AreTextParts Is i n text → i + n ≡ j
     → Is j part → AreTextParts Is i (suc n) (text ++ part)
 unfolding AreTextParts
 parts_push Is i zero j text part h at is =
@@ -25,6 +25,13 @@ parts_push Is i (suc n) j text part (first, rest, cut, here, h) at is = (
   here,
   parts_push Is (i + 1) n j rest part h (omega (arith, at)) is,
 )
+
+-- one part more, at the next number
+pub parts_more : (Is : ℕ → List ℕ → Type 0) (i n j m : ℕ) (text part : List ℕ) → AreTextParts Is i n text → i + n ≡ j
+    → n + 1 ≡ m → Is j part → AreTextParts Is i m (text ++ part)
+parts_more Is i n j m text part h at next is =
+    let same : suc n ≡ m = omega (arith, next) in
+    subst (λ z. AreTextParts Is i z (text ++ part)) same (parts_push Is i n j text part h at is)
 
 pub parts_weaker : (Is Other : ℕ → List ℕ → Type 0) → ((i : ℕ) (part : List ℕ) → Is i part → Other i part)
     → (i n : ℕ) (text : List ℕ) → AreTextParts Is i n text → AreTextParts Other i n text

@@ -1,15 +1,15 @@
 -- Selected entries, one entry more: chosen or not, repeated or not, with its text and its place.
-use Rattle.std.proofs.Common.{◌≡◌, ◌≤◌, ◌↔◌, ◌⊎◌, ◌+◌, ◌-◌, ℕ, Bool, true, false, IsTrue, List, [], ◌∷◌, ◌++◌, length, map}
-use Rattle.std.proofs.Common.{take, drop, All, Any, inl, inr, refl, sym, ap, ◌∙◌, subst, arith, append_assoc, append-nil}
-use Rattle.std.proofs.Common.{cond, nat_cmp, Ordering, Less, Equal, Greater}
+use Rattle.std.proofs.Common.{◌≡◌, ◌≤◌, ◌↔◌, ◌⊎◌, ◌+◌, ◌-◌, ℕ, Bool, true, false, IsTrue, List, [], ◌∷◌, ◌++◌}
+use Rattle.std.proofs.Common.{length, map, take, drop, All, Any, inl, inr, refl, sym, ap, ◌∙◌, subst, arith}
+use Rattle.std.proofs.Common.{append_assoc, append-nil, ◌<◌, get_or, cond, nat_cmp, Ordering, Less, Equal, Greater}
 use Rattle.std.specs.List.{slice_range}
 use Rattle.std.specs.Ordering.{ordering_then, is_eq}
 use Rattle.std.specs.BTreeMap.{is_at}
 use Rattle.std.specs.BTreeSet.{BTreeSet, Updates, contains}
 use Rattle.std.specs.Cmp.{nat_cmp_is}
-use Rattle.std.proofs.lemmas.List.{length-append, length-drop, map_push, drop-append-le, take-append-le}
+use Rattle.std.proofs.lemmas.List.{length-append, length-drop, map_push, take_more, drop-append-le, take-append-le}
 use Rattle.std.proofs.Math.Seq.{drop-append_seam, take-append_seam}
-use Rattle.std.proofs.lemmas.List.Elements.{All-nil, All-cons, All-append, All-weaker, All-head, All-tail}
+use Rattle.std.proofs.lemmas.List.Elements.{All-nil, All-cons, All-append, All-weaker, All-head, All-tail, All-get_or}
 use Rattle.std.proofs.lemmas.Map.Lookups.{exact_unsigned}
 use Rattle.ipnet_base.specs.Address.{Family, IPv4, IPv6, family_index}
 use Rattle.ipnet_base.specs.Ranges.{AddressRange}
@@ -191,10 +191,10 @@ slice_kept text more start end ordered within =
     ∙ take-append-le (end - start) (drop start text) more (omega (arith, length-drop start text, ordered, within))
 
 slice_new : (text line more : List ℕ) (start end : ℕ) → start ≡ length text → end ≡ length text + length line
-    → slice_range (text ++ line ++ more) start end ≡ line
+    → slice_range (text ++ (line ++ more)) start end ≡ line
 slice_new text line more start end at to =
     let size : end - start ≡ length line = omega (arith, at, to) in
-    ap (λ z. take (end - z) (drop z (text ++ line ++ more))) at
+    ap (λ z. take (end - z) (drop z (text ++ (line ++ more)))) at
     ∙ ap (λ z. take (end - length text) z) (drop-append_seam text (line ++ more))
     ∙ ap (λ z. take z (line ++ more)) (ap (λ z. end - z) (sym at) ∙ size) ∙ take-append_seam line more
 
@@ -217,7 +217,7 @@ places_kept text more (p ∷ places) within =
 
 places_more : (text : List ℕ) (places : List EntryPlace) (kept : List ListEntry) (p : EntryPlace) (e : ListEntry)
     → ArePlaces text places kept → p.span.place ≡ length text → p.end ≡ length text + length e.text
-    → range_at p ≡ e.range → ArePlaces (text ++ e.text ++ 10 ∷ []) (places ++ p ∷ []) (kept ++ e ∷ [])
+    → range_at p ≡ e.range → ArePlaces (text ++ (e.text ++ 10 ∷ [])) (places ++ p ∷ []) (kept ++ e ∷ [])
 places_more text places kept p e h start end range =
     let more = e.text ++ 10 ∷ [] in
     let long : length (text ++ more) ≡ length text + (length e.text + 1)
@@ -256,7 +256,8 @@ module _ (request : SelectRequest) (before : List ListEntry) (e : ListEntry) whe
       → IsSelected request new (before ++ e ∷ [])
   repeated old new is unique has text places adds found h =
       let had = (h.seen unique e.range).0 has in
-      let firsts : AreFirsts [] h.chosen h.kept = subst (λ u. AreWithout u h.chosen h.kept) unique h.are_kept in record {
+      let firsts : AreFirsts [] h.chosen h.kept
+      = subst (λ u. AreWithout u h.chosen h.kept) unique h.are_kept in record {
         chosen = h.chosen ++ e ∷ [];
         kept = h.kept;
         are_chosen = chosen_more (λ x. IsChosen request.choice x.range) before h.chosen e h.are_chosen is;
@@ -265,7 +266,7 @@ module _ (request : SelectRequest) (before : List ListEntry) (e : ListEntry) whe
         text = ap (λ z. z.items) text ∙ h.text;
         seen = λ u range. (
           λ now. elim ((adds range).0 now) [
-            | inl then ↦ (h.seen u range).0 then
+            | inl had_it ↦ (h.seen u range).0 had_it
             | inr same ↦ subst (HaveRange h.kept) same had
           ],
           λ there. (adds range).1 (inl ((h.seen u range).1 there)),
@@ -284,16 +285,16 @@ module _ (request : SelectRequest) (before : List ListEntry) (e : ListEntry) whe
       → (request.sort ≡ true → new.places.items ≡ old.places.items ++ p ∷ []) → new.found ≡ true
       → IsSelected request old before → IsSelected request new (before ++ e ∷ [])
   added old new p is fresh text adds start end range places found h =
-      let whole : new.text.items ≡ old.text.items ++ e.text ++ 10 ∷ []
+      let whole : new.text.items ≡ old.text.items ++ (e.text ++ 10 ∷ [])
       = text ∙ append_assoc old.text.items e.text (10 ∷ []) in record {
         chosen = h.chosen ++ e ∷ [];
         kept = h.kept ++ e ∷ [];
         are_chosen = chosen_more (λ x. IsChosen request.choice x.range) before h.chosen e h.are_chosen is;
         are_kept = one_more request.unique refl h.are_kept;
-        text = whole ∙ ap (λ z. z ++ e.text ++ 10 ∷ []) h.text ∙ sym (lines_more h.kept e);
+        text = text ∙ ap (λ z. z ++ e.text ++ 10 ∷ []) h.text ∙ sym (lines_more h.kept e);
         seen = λ u other. (
           λ now. elim ((adds u other).0 now) [
-            | inl then ↦ (have_more h.kept e other).1 (inl ((h.seen u other).0 then))
+            | inl had_it ↦ (have_more h.kept e other).1 (inl ((h.seen u other).0 had_it))
             | inr same ↦ (have_more h.kept e other).1 (inr same)
           ],
           λ there. elim ((have_more h.kept e other).0 there) [
@@ -302,7 +303,7 @@ module _ (request : SelectRequest) (before : List ListEntry) (e : ListEntry) whe
           ],
         );
         places = λ s. subst (λ z. ArePlaces z new.places.items (h.kept ++ e ∷ [])) (sym whole)
-            (subst (λ z. ArePlaces (old.text.items ++ e.text ++ 10 ∷ []) z (h.kept ++ e ∷ [])) (sym (places s))
+            (subst (λ z. ArePlaces (old.text.items ++ (e.text ++ 10 ∷ [])) z (h.kept ++ e ∷ [])) (sym (places s))
             (places_more old.text.items old.places.items h.kept p e (h.places s) start end range));
         found = found_push (λ x. IsChosen request.choice x.range) before e old.found new.found h.found
             (inl (is, found));
@@ -328,9 +329,9 @@ none_selected request s text places seen found = record {
     λ has. let none = seen range in absurd (cc),
     λ had. absurd (contains_nil had.1 (had.0, had.2, had.3)),
   );
-  places = λ s. record {
-    within = subst (All (IsPlaceIn _)) (sym places) (All-nil (IsPlaceIn _));
-    are = ap (map (entry_at _)) places;
+  places = λ _. record {
+    within = subst (All (IsPlaceIn s.text.items)) (sym places) (All-nil (IsPlaceIn s.text.items));
+    are = ap (map (entry_at s.text.items)) places;
   };
   found = found_none (λ x. IsChosen request.choice x.range) s.found found;
 }
@@ -338,3 +339,20 @@ none_selected request s text places seen found = record {
     by : (unique : Bool) → AreWithout unique [] []
     by true = refl
     by false = refl
+
+-- the line of one place more
+pub place_line : (text : List ℕ) (places : List EntryPlace) (i : ℕ) (p : EntryPlace) (old line new : List ℕ)
+    → i < length places → p ≡ get_or places i p → All (IsPlaceIn text) places
+    → old ≡ text_of_entries (map (entry_at text) (take i places))
+    → (IsPlaceIn text p → line ≡ slice_range text p.span.place p.end) → new ≡ (old ++ line) ++ 10 ∷ []
+    → new ≡ text_of_entries (map (entry_at text) (take (i + 1) places))
+place_line text places i p old line new below is within so_far cut pushed =
+    let here : IsPlaceIn text p
+    = subst (IsPlaceIn text) (sym is) (All-get_or (IsPlaceIn text) places i p below within) in
+    let before = map (entry_at text) (take i places) in
+    let more : map (entry_at text) (take (i + 1) places) ≡ before ++ entry_at text p ∷ []
+    = ap (map (entry_at text)) (take_more places i p below ∙ ap (λ z. take i places ++ z ∷ []) (sym is))
+    ∙ map_push (entry_at text) (take i places) p in
+    pushed ∙ ap (λ z. (z ++ line) ++ 10 ∷ []) so_far
+    ∙ ap (λ z. (text_of_entries before ++ z) ++ 10 ∷ []) (cut here)
+    ∙ sym (ap text_of_entries more ∙ lines_more before (entry_at text p))

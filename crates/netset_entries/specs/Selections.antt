@@ -19,7 +19,7 @@ use Rattle.netset_entries.specs.Choices.{IsChosen}
 abbrev pub HaveRange : List ListEntry → AddressRange → Type 0
 HaveRange entries range = Any (λ e. e.range ≡ range) entries
 
--- Of these entries, which come after those in `before`, the firsts are those with addresses that no entry before has
+-- These entries come after the entries `before`. The firsts are the entries with addresses that no earlier entry has
 -- exactly, in order.
 -- Example: of 10.0.0.1, ::1, 10.0.0.1/32 and 10.0.0.0/31, all except the third.
 abbrev pub AreFirsts : (before : List ListEntry) → List ListEntry → (firsts : List ListEntry) → Type 0

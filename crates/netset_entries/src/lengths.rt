@@ -1,18 +1,15 @@
 //! How many of the fewest networks of a set have each prefix length, as text.
-ghost use Rattle.std.specs.Prelude.{◌≡◌, ◌<◌, ◌++◌, nat_eq, ℕ, List, IfOk, OnOk, map, get_or, string_bytes};
+ghost use Rattle.std.specs.Prelude.{◌≡◌, ◌++◌, nat_eq, ℕ, List, IfOk, OnOk, map, string_bytes};
 ghost use Rattle.ipnet_base.specs.Address.{family_index, width};
 ghost use Rattle.ipnet.specs.NetworkOf.{ip_network};
 ghost use Rattle.ipnet_sets.specs.Members.{IsMember};
-ghost use Rattle.netset_entries.specs.Lengths.{count_with, length_line, AreFamilyLines, AreLengthLines};
+ghost use Rattle.netset_entries.specs.Lengths.{count_with, has_length, length_line, AreFamilyLines, AreLengthLines};
 ghost use Rattle.netset_entries.specs.Spans.{family_of};
 
 use crate::span::Family;
 use ipnet::IpNet;
 use ipnet_sets::IpSet;
 use std::alloc::{AllocError, Global};
-
-/// How many prefix lengths there are: 0 to 128.
-const LENGTHS: usize = 129;
 
 /// Returns whether the network is of the family.
 fn is_of(network: &IpNet, family: Family) -> bool
@@ -24,27 +21,26 @@ fn is_of(network: &IpNet, family: Family) -> bool
     )
 }
 
-/// Returns how many of the networks are of the family and have each prefix length, from 0 on.
-fn count_lengths(networks: &[IpNet], family: Family) -> [usize; LENGTHS]
-    ensures { (len : ℕ) → len < 129
-        → get_or result len 0 ≡ count_with (family_of family) len (map ip_network networks.now) }
+/// Returns whether the network is of the family and has the prefix length.
+fn has_length(network: &IpNet, family: Family, len: u8) -> bool
+    ensures { result ≡ has_length (family_of family) len (ip_network network.now) }
 {
-    let mut counts = [0; LENGTHS];
+    is_of(network, family) && network.prefix_len() == len
+}
+
+/// Returns how many of the networks are of the family and have the prefix length.
+fn count_of(networks: &[IpNet], family: Family, len: u8) -> usize
+    ensures { result ≡ count_with (family_of family) len (map ip_network networks.now) }
+{
+    let mut count = 0;
     for network in networks {
-        if is_of(network, family) {
-            counts[usize::from(network.prefix_len())] += 1;
-        }
+        count += usize::from(has_length(network, family, len));
     }
-    counts
+    count
 }
 
 /// Appends the line of a prefix length; nothing if no network has it.
-fn push_length(
-    text: &mut String,
-    family: Family,
-    len: usize,
-    count: usize,
-) -> Result<(), AllocError>
+fn push_length(text: &mut String, family: Family, len: u8, count: usize) -> Result<(), AllocError>
     ensures { OnOk result
         (string_bytes text.new ≡ string_bytes text.old ++ length_line (family_of family) len count) }
 {
@@ -59,7 +55,7 @@ fn push_length(
 }
 
 /// Returns the number of bits of an address of the family.
-fn width_of(family: Family) -> usize
+fn width_of(family: Family) -> u8
     ensures { result ≡ width (family_of family) }
 {
     match family {
@@ -74,10 +70,9 @@ fn push_family(text: &mut String, networks: &[IpNet], family: Family) -> Result<
         × AreFamilyLines (family_of family) (map ip_network networks.now) lines
         × (string_bytes text.new ≡ string_bytes text.old ++ lines)) }
 {
-    let counts = count_lengths(networks, family);
     let end = width_of(family) + 1;
     for len in 0..end {
-        push_length(text, family, len, counts[len])?;
+        push_length(text, family, len, count_of(networks, family, len))?;
     }
     Ok(())
 }

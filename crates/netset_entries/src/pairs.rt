@@ -1,8 +1,9 @@
 //! How many addresses are in only one list of each pair, and how many are in both, as text.
 ghost use Rattle.std.specs.Prelude.{◌≡◌, ◌<◌, ◌++◌, ◌↔◌, ◌∷◌, [], ℕ, List, IfOk, OnOk, IsTrue, length, slice_index_or};
-ghost use Rattle.std.specs.Prelude.{string_bytes};
+ghost use Rattle.std.specs.Prelude.{string_bytes, decimal};
+ghost use Rattle.ipnet_base.specs.Address.{IPv6};
 ghost use Rattle.ipnet_lists.specs.Names.{name_at};
-ghost use Rattle.ipnet_sets.specs.Members.{IsMember};
+ghost use Rattle.ipnet_sets.specs.Members.{HaveSameAddresses, IsCountOf, IsMember, IsMemberOf};
 ghost use Rattle.netset_entries.specs.ListPairs.{AreTabbedCounts, IsPairLine, IsPairAt, ArePairsOf, ArePairs};
 ghost use Rattle.netset_entries.specs.ListPairs.{HaveAllSame};
 
@@ -10,6 +11,14 @@ use ipnet_bars::push_count;
 use ipnet_lists::name_of;
 use ipnet_sets::IpSet;
 use std::alloc::{AllocError, Global};
+
+/// Appends the number of IPv6 addresses of the set.
+fn push_ipv6_count(text: &mut String, set: &IpSet) -> Result<(), AllocError>
+    ensures { OnOk result ((n : ℕ) × IsCountOf (IsMemberOf IPv6 set.now) n
+        × (string_bytes text.new ≡ string_bytes text.old ++ decimal n)) }
+{
+    push_count(text, set.ipv6_count())
+}
 
 /// Appends the numbers of IPv4 and IPv6 addresses of the set, with a tab before each.
 fn push_tabbed_counts(text: &mut String, set: &IpSet) -> Result<(), AllocError>
@@ -20,7 +29,7 @@ fn push_tabbed_counts(text: &mut String, set: &IpSet) -> Result<(), AllocError>
     text.push_str("\t")?;
     write!(text, "{count}")?;
     text.push_str("\t")?;
-    push_count(text, set.ipv6_count())
+    push_ipv6_count(text, set)
 }
 
 /// Appends the counts of the addresses that are only in the first set, only in the second, and in both.
@@ -61,7 +70,8 @@ fn push_pair(
     text.push_str("\t")?;
     text.push_str(second_name)?;
     push_pair_counts(alloc, text, first, second)?;
-    text.push_str("\n")
+    text.push_str("\n")?;
+    Ok(())
 }
 
 /// Appends the lines of the set at this index with each set after it.
@@ -105,6 +115,13 @@ pub fn pairs_text(alloc: Global, names: &[&str], sets: &[IpSet]) -> Result<Strin
     Ok(text)
 }
 
+/// Returns whether the sets have the same addresses.
+fn is_same(set: &IpSet, other: &IpSet) -> bool
+    ensures { IsTrue result ↔ HaveSameAddresses set.now other.now }
+{
+    set == other
+}
+
 /// Returns whether no two of the sets differ.
 ///
 /// ```text
@@ -117,7 +134,7 @@ pub fn are_all_same(sets: &[IpSet]) -> bool
         return true;
     };
     for other in others {
-        if other != first {
+        if !is_same(other, first) {
             return false;
         }
     }

@@ -1,6 +1,6 @@
 //! The command `compare` of the program with more than two lists.
-ghost use Rattle.netset_entries.specs.ListPairs.{IsPairsAnswer, IsPairsOutcome};
-ghost use Rattle.netset_lib.specs.Runs.{OfCombined, HasNoResult};
+ghost use Rattle.netset_entries.specs.ListPairs.{IsPairsAnswer, IsPairsFailure, IsPairsOutcome};
+ghost use Rattle.netset_lib.specs.Runs.{OfCombined};
 
 use crate::pairs::{are_all_same, pairs_text};
 use netset_lib::{Failure, Session, TextCommand};
@@ -35,7 +35,7 @@ impl<'a> TextCommand for PairsCommand<'a> {
 
     ghost is_outcome = { λ c same. OfCombined (λ r lists. IsPairsOutcome r.grammar lists same) c.session };
 
-    ghost is_failure = { λ c. HasNoResult c.session };
+    ghost is_failure = { λ c failure. OfCombined (λ r lists. IsPairsFailure r lists failure) c.session };
 
     fn answer(self) -> Result<(String, bool), Failure> {
         let PairsCommand { session, names } = self;

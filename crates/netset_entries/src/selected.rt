@@ -44,7 +44,7 @@ pub(crate) struct RangeKey {
 #[derive(Clone, Copy)]
 pub(crate) struct EntryPlace {
     family: Family,
-    /// The addresses. Its place is where the text of the entry begins.
+    /// The addresses. The place is the start of the entry's text.
     span: Span,
     /// The place after the text.
     end: usize,
@@ -57,7 +57,7 @@ pub(crate) struct Selected {
     text: Vec<u8>,
     /// Their addresses, and the places of their texts, if they are to be sorted.
     places: Vec<EntryPlace>,
-    /// Their addresses, if none may have those of another.
+    /// Their addresses, if repeated entries are left out.
     seen: BTreeSet<RangeKey>,
     /// Whether an entry is chosen.
     found: bool,

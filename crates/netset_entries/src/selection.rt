@@ -58,8 +58,8 @@ impl Selection {
             .read_list(input, &self.request, &mut self.selected)
     }
 
-    /// Reads the next list up to its end. Its lines are read as those of `Session::read` of `netset_lib`. A line that is
-    /// not an entry is not an error here: the command `select` reports it.
+    /// Reads the next list up to its end, in the format of `Session::read` of `netset_lib`. A line that is not an
+    /// entry is not an error here: the command `select` reports it.
     ///
     /// The error is `Unreadable` if a read fails, now or in a call before, and `Memory` if memory runs out.
     pub fn read<R: Read>(&mut self, input: &mut R) -> Result<(), ReadFailure>

@@ -1,8 +1,9 @@
 -- The smallest network around the ends decides.
-use Rattle.std.proofs.Common.{refl, sym}
+use Rattle.std.proofs.Common.{refl, sym, subst}
 use Rattle.ipnet_base.specs.Address.{ip_address}
 use Rattle.ipnet.specs.NetworkOf.{ip_network}
 use Rattle.ipnet_lists.specs.EntryOf.{entry_range}
+use Rattle.netset_entries.specs.Choices.{HasPrefixLen}
 use Rattle.netset_entries.proofs.ChoiceLaws.{first_is_least, last_is_greatest, length_found}
 use Rattle.netset_entries.proofs.choice.len_of_ends.Goals as goal
 
@@ -29,4 +30,5 @@ returns-clause-some c =
     (ip_network c.in_ok-network.network) c.ends-first.ensures.first c.ends-first.ensures.last c.from.ensures
     c.from-2.ensures c.in_ok-network.ensures.some (ip_address c.network.result) (ip_address c.broadcast.result)
     c.network.ensures c.broadcast.ensures (c.if-not-is_at_most.ensures.0 refl).1
-    (c.if-not-is_at_most-2.ensures.0 refl).1 in record length { is_len = sym c.prefix_len.ensures }
+    (c.if-not-is_at_most-2.ensures.0 refl).1 in
+    subst (HasPrefixLen (entry_range c.args.entry)) (sym c.prefix_len.ensures) length
