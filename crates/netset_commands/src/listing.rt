@@ -109,12 +109,14 @@ fn network_of(rt: &HostRuntime, matches: &ArgMatches) -> Option<IpNet>
 pub fn length_or_report(rt: &HostRuntime, word: &str) -> Option<u8>
     ensures { IfSome result (IsLengthText word.now) }
 {
-    let length = read_length(word);
-    if length.is_none() {
-        let word = word.as_bytes().escape_ascii();
-        let _ = writeln!(rt.stderr(), "netset: not a prefix length: {word}");
+    match read_length(word) {
+        Some(length) => Some(length),
+        None => {
+            let word = word.as_bytes().escape_ascii();
+            let _ = writeln!(rt.stderr(), "netset: not a prefix length: {word}");
+            None
+        }
     }
-    length
 }
 
 /// Reads the arguments of `split`, and prints the subnets.

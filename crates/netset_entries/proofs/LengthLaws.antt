@@ -4,6 +4,7 @@ use Rattle.std.proofs.Common.{length, map, take, get_or, refl, sym, ap, ◌∙�
 use Rattle.std.specs.List.{count_by}
 use Rattle.std.specs.Int.{from_bool}
 use Rattle.std.proofs.lemmas.List.{map_push, take_more}
+use Rattle.std.proofs.lemmas.List.Sums.{sum_by-append}
 use Rattle.ipnet_base.specs.Address.{Family, Address}
 use Rattle.ipnet_base.specs.Network.{Network}
 use Rattle.ipnet_base.proofs.UniqueLaws.{AreMaximalBlocks-same_set}
@@ -17,8 +18,11 @@ use Rattle.netset_entries.specs.Lengths.{has_length, count_with, AreLengthLines,
 
 count_push : {X : Type 0} (p : X → Bool) (xs : List X) (x : X)
     → count_by p (xs ++ x ∷ []) ≡ count_by p xs + cond (p x) 1 0
-count_push p [] x = omega arith
-count_push p (y ∷ xs) x = omega (arith, count_push p xs x)
+count_push p xs x =
+    sum_by-append (λ y. cond (p y) 1 0) xs (x ∷ []) ∙ ap (λ z. count_by p xs + z) (from_zero (cond (p x) 1 0))
+  where
+    from_zero : (n : ℕ) → 0 + n ≡ n
+    from_zero n = omega arith
 
 pub one_more_with : {X : Type 0} (network_of : X → Network) (f : Family) (len : ℕ) (items : List X) (i : ℕ) (item : X)
     → i < length items → item ≡ get_or items i item

@@ -1,7 +1,7 @@
 -- The lines of pairs of sets, and of the lists that they were read from.
 use Rattle.std.proofs.Common.{◌≡◌, ◌≢◌, ◌≤◌, ◌<◌, ◌+◌, ◌-◌, ◌^◌, ◌↔◌, ℕ, zero, suc, List, [], ◌∷◌, ◌++◌, length, get_or}
 use Rattle.std.proofs.Common.{All, Option, Some, None, IsNone, IfSome, IsTrue, Bool, refl, sym, ap, ◌∙◌, subst, arith}
-use Rattle.std.proofs.Common.{append_assoc, take}
+use Rattle.std.proofs.Common.{append_assoc, drop, take, take_all}
 use Rattle.std.proofs.lemmas.List.{take_more}
 use Rattle.std.proofs.lemmas.List.Elements.{All-nil, All-cons, All-append}
 use Rattle.ipnet_base.specs.Address.{IPv4, IPv6, Address, IsAddress}
@@ -28,7 +28,7 @@ use Rattle.netset_entries.proofs.PartLaws.{parts_weaker}
 pub counted_right : (s : IpSet) (count : Option ℕ)
     → IsNone count ↔ ((x : Address) → IsAddress x → x.family ≡ IPv6 → IsMember s x)
     → IfSome count (IsCountOf (IsMemberOf IPv6 s)) → IsCountOf (IsMemberOf IPv6 s) (counted count)
-counted_right s None none some = all_counted s (none.0 tt)
+counted_right s None none some = all_counted s (none.0 refl)
 counted_right s (Some n) none some = some
 
 count_same : (A B : Address → Type 0) (n : ℕ) → ((x : Address) → A x ↔ B x) → IsCountOf A n → IsCountOf B n
@@ -165,11 +165,6 @@ all_same_from first others all i j s t first_at second_at x =
     let two = first_is first others all j t second_at x in
     (λ m. two.1 (one.0 m), λ m. one.1 (two.0 m))
 
-pub not_all_same : (first : IpSet) (others : List IpSet) (k : ℕ) (s : IpSet) → k < length others
-    → s ≡ get_or others k s → ¬ (HaveSameAddresses s first) → ¬ (HaveAllSame IsMember (first ∷ others))
-not_all_same first others k s below at differ all =
-    differ (λ x. all (suc k) 0 s first (omega (arith, below), sym at) (omega arith, refl) x)
-
 pub one_same_more : (first : IpSet) (others : List IpSet) (k : ℕ) (s : IpSet) → k < length others
     → s ≡ get_or others k s → All (λ z. HaveSameAddresses z first) (take k others) → HaveSameAddresses s first
     → All (λ z. HaveSameAddresses z first) (take (k + 1) others)
@@ -179,8 +174,14 @@ one_same_more first others k s below at all same =
     (All-append (λ z. HaveSameAddresses z first) (take k others) (s ∷ []) all
     (All-cons (λ z. HaveSameAddresses z first) s [] same (All-nil (λ z. HaveSameAddresses z first))))
 
-pub none_all_same : HaveAllSame IsMember []
-none_all_same i j s t first_at second_at x = absurd (let wrong : ⊥ = omega (arith, first_at.0) in wrong)
+-- a list that is not empty is its first and its other sets
+pub rest_of : (sets : List IpSet) (first : IpSet) → first ≡ get_or sets 0 first → 0 < length sets
+    → sets ≡ first ∷ take (length sets - 1) (drop 1 sets)
+rest_of [] first is some = absurd (let wrong : ⊥ = omega (arith, some) in wrong)
+rest_of (x ∷ sets) first is some =
+    let size : length (x ∷ sets) - 1 ≡ length sets = omega arith in
+    let rest : take (length (x ∷ sets) - 1) sets ≡ sets = ap (λ n. take n sets) size ∙ take_all (length sets) sets (omega arith) in
+    λ i. sym is i ∷ sym rest i
 
 -- ---- the answer
 

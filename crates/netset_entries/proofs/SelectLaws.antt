@@ -341,18 +341,18 @@ none_selected request s text places seen found = record {
     by false = refl
 
 -- the line of one place more
-pub place_line : (text : List ℕ) (places : List EntryPlace) (i : ℕ) (p : EntryPlace) (old line new : List ℕ)
-    → i < length places → p ≡ get_or places i p → All (IsPlaceIn text) places
+pub place_line : (text : List ℕ) (places : List EntryPlace) (i : ℕ) (d : EntryPlace) (old line new : List ℕ)
+    → i < length places → All (IsPlaceIn text) places
     → old ≡ text_of_entries (map (entry_at text) (take i places))
-    → (IsPlaceIn text p → line ≡ slice_range text p.span.place p.end) → new ≡ (old ++ line) ++ 10 ∷ []
-    → new ≡ text_of_entries (map (entry_at text) (take (i + 1) places))
-place_line text places i p old line new below is within so_far cut pushed =
-    let here : IsPlaceIn text p
-    = subst (IsPlaceIn text) (sym is) (All-get_or (IsPlaceIn text) places i p below within) in
+    → (IsPlaceIn text (get_or places i d)
+    → line ≡ slice_range text (get_or places i d).span.place (get_or places i d).end)
+    → new ≡ (old ++ line) ++ 10 ∷ [] → new ≡ text_of_entries (map (entry_at text) (take (i + 1) places))
+place_line text places i d old line new below within so_far cut pushed =
+    let p = get_or places i d in
+    let here : IsPlaceIn text p = All-get_or (IsPlaceIn text) places i d below within in
     let before = map (entry_at text) (take i places) in
     let more : map (entry_at text) (take (i + 1) places) ≡ before ++ entry_at text p ∷ []
-    = ap (map (entry_at text)) (take_more places i p below ∙ ap (λ z. take i places ++ z ∷ []) (sym is))
-    ∙ map_push (entry_at text) (take i places) p in
+    = ap (map (entry_at text)) (take_more places i d below) ∙ map_push (entry_at text) (take i places) p in
     pushed ∙ ap (λ z. (z ++ line) ++ 10 ∷ []) so_far
     ∙ ap (λ z. (text_of_entries before ++ z) ++ 10 ∷ []) (cut here)
     ∙ sym (ap text_of_entries more ∙ lines_more before (entry_at text p))

@@ -44,12 +44,12 @@ range_for r = λ i. record { family = family_for r.family i; start = r.start; en
 filter_of_map : {X Y : Type 0} (f : X → Y) (test : Y → Bool) (xs : List X)
     → filter test (map f xs) ≡ map f (filter (λ x. test (f x)) xs)
 filter_of_map f test [] = refl
-filter_of_map f test (x ∷ xs) = by (test (f x))
+filter_of_map f test (x ∷ xs) = by (filter_of_map f test xs) (test (f x))
   where
-    by : (b : Bool) → cond b (f x ∷ filter test (map f xs)) (filter test (map f xs))
+    by : filter test (map f xs) ≡ map f (filter (λ y. test (f y)) xs) → (b : Bool) → cond b (f x ∷ filter test (map f xs)) (filter test (map f xs))
         ≡ map f (cond b (x ∷ filter (λ y. test (f y)) xs) (filter (λ y. test (f y)) xs))
-    by true = ap (λ z. f x ∷ z) (filter_of_map f test xs)
-    by false = filter_of_map f test xs
+    by rest true = ap (λ z. f x ∷ z) rest
+    by rest false = rest
 
 pub places_sorted : (text : List ℕ) (places sorted : List EntryPlace) → IsPermutation places sorted
     → IsSortedByKey (λ p. key_of (range_at p)) key_cmp sorted

@@ -62,7 +62,7 @@ fn push_pair(
     second: &IpSet,
 ) -> Result<(), AllocError>
     ensures { OnOk result ((line : List ℕ)
-        × IsPairLine names.0.now names.1.now (IsMember first.now) (IsMember second.now) line
+        × IsPairLine names.entry.0.now names.entry.1.now (IsMember first.now) (IsMember second.now) line
         × (string_bytes text.new ≡ string_bytes text.old ++ line)) }
 {
     let (first_name, second_name) = names;

@@ -143,7 +143,7 @@ impl Collector<Selected> for SelectRequest {
             return Ok(());
         }
         made.found = true;
-        let place = place_of(entry, made.text.len(), text.len());
+        let place = place_of(entry, made.text.as_slice().len(), text.len());
         if is_repeated(self.unique, &mut made.seen, &place)? {
             return Ok(());
         }

@@ -31,7 +31,7 @@ returns c =
     let networks = map ip_network c.args.networks.now in
     let (lines, are, so_far) = c.loop-len.invariant in
     let all : c.loop-len.len ≡ width f + 1
-    = omega (arith, c.loop-len-test.false, c.loop-len.auto.len-end, c.width_of.ensures) in (
+    = omega (arith, c.loop-len-test.false, c.loop-len.auto.len-end, c.width_of-end.ensures) in (
       lines,
       subst (λ n. AreTextParts (λ m z. z ≡ length_line f m (count_with f m networks)) 0 n lines) all are,
       so_far,

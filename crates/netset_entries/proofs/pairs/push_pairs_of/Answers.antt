@@ -32,7 +32,7 @@ loop-other-preserved c =
     let second = c.index-sets-other.result in
     let (from, (lines, are, so_far)) = c.loop-other.invariant in
     let (line, is, text) = c.in_ok-push_pair.ensures in
-    let below : other < length sets = omega (arith, c.loop-other-test.true, c.len.ensures) in
+    let below : other < length sets = omega (arith, c.loop-other-test.true) in
     let named : IsPairLine (name_at names index) (name_at names other) (IsMember first) (IsMember second) line
     = subst (λ n. IsPairLine n (name_at names other) (IsMember first) (IsMember second) line)
     c.name_of-first_name.ensures
@@ -60,5 +60,5 @@ returns c =
     let Is = IsPairAt IsMember c.args.names.now sets index in
     let (from, (lines, are, so_far)) = c.loop-other.invariant in
     let size : c.loop-other.other ≡ length sets
-    = omega (arith, c.loop-other-test.false, c.loop-other.auto.other-end, c.len.ensures, c.requires) in
+    = omega (arith, c.loop-other-test.false, c.loop-other.auto.other-end, c.requires) in
     (lines, subst (λ n. AreTextParts Is (index + 1) (n - (index + 1)) lines) size are, so_far)

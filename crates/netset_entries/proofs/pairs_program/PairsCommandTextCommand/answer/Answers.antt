@@ -22,7 +22,7 @@ pub returns-in_err-sets-clause-failure : goal.returns-in_err-sets-clause-failure
 returns-in_err-sets-clause-failure c =
     let p = err_from_is_err_and c.from_residual.result c.from_residual.ensures.1 in
     rw (p.1, p.2) (λ r lists h.
-    pairs_failure r lists c.in_err-sets.field-0 (c.in_err-sets.ensures.failure r lists h) c.in_err-sets.ensures.sure)
+    pairs_failure r lists _ (c.in_err-sets.ensures.failure r lists h) c.in_err-sets.ensures.sure)
 
 pub returns-in_err-text-clause-failure : goal.returns-in_err-text-clause-failure
 returns-in_err-text-clause-failure c =
