@@ -180,7 +180,8 @@ pub rest_of : (sets : List IpSet) (first : IpSet) → first ≡ get_or sets 0 fi
 rest_of [] first is some = absurd (let wrong : ⊥ = omega (arith, some) in wrong)
 rest_of (x ∷ sets) first is some =
     let size : length (x ∷ sets) - 1 ≡ length sets = omega arith in
-    let rest : take (length (x ∷ sets) - 1) sets ≡ sets = ap (λ n. take n sets) size ∙ take_all (length sets) sets (omega arith) in
+    let rest : take (length (x ∷ sets) - 1) sets ≡ sets
+    = ap (λ n. take n sets) size ∙ take_all (length sets) sets (omega arith) in
     λ i. sym is i ∷ sym rest i
 
 -- ---- the answer

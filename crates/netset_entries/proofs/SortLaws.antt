@@ -46,7 +46,8 @@ filter_of_map : {X Y : Type 0} (f : X → Y) (test : Y → Bool) (xs : List X)
 filter_of_map f test [] = refl
 filter_of_map f test (x ∷ xs) = by (filter_of_map f test xs) (test (f x))
   where
-    by : filter test (map f xs) ≡ map f (filter (λ y. test (f y)) xs) → (b : Bool) → cond b (f x ∷ filter test (map f xs)) (filter test (map f xs))
+    by : filter test (map f xs) ≡ map f (filter (λ y. test (f y)) xs) → (b : Bool)
+        → cond b (f x ∷ filter test (map f xs)) (filter test (map f xs))
         ≡ map f (cond b (x ∷ filter (λ y. test (f y)) xs) (filter (λ y. test (f y)) xs))
     by rest true = ap (λ z. f x ∷ z) rest
     by rest false = rest

@@ -47,5 +47,6 @@ returns c =
     (c.in_ok-extend_from_slice-2.ensures.items ∙ ap (λ z. z ++ 10 ∷ []) c.in_ok-extend_from_slice.ensures.items)
     (λ unique. subst (AddsRange old.seen c.is_repeated.new.seen) range (c.in_ok-is_repeated.ensures.added unique))
     (c.place_of-place.ensures.start ∙ ap length c.as_slice.ensures.value)
-    (c.place_of-place.ensures.end ∙ ap (λ z. length z + length c.args.text.now) c.as_slice.ensures.value) range places refl h)
+    (c.place_of-place.ensures.end ∙ ap (λ z. length z + length c.args.text.now) c.as_slice.ensures.value) range places
+    refl h)
     c.push_place.ensures
