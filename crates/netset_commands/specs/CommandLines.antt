@@ -53,8 +53,8 @@ space_names = codes "plan" ∷ codes "bar" ∷ codes "map" ∷ codes "supernet" 
 
 -- The commands about entries and networks, in the order in which help lists them.
 abbrev pub entry_names : List (List ℕ)
-entry_names = codes "redundant" ∷ codes "overlaps" ∷ codes "find" ∷ codes "info" ∷ codes "split" ∷ codes "hosts"
-    ∷ []
+entry_names = codes "redundant" ∷ codes "overlaps" ∷ codes "find" ∷ codes "select" ∷ codes "info" ∷ codes "split"
+    ∷ codes "hosts" ∷ []
 
 -- The commands about rules and the origins of routes, in the order in which help lists them.
 abbrev pub rule_names : List (List ℕ)

@@ -7,3 +7,4 @@ pub mod MapTitles
 pub mod Words
 pub mod InfoWords
 pub mod FindOptions
+pub mod SelectOptions

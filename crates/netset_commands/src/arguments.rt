@@ -139,7 +139,7 @@ pub enum ArgumentFailure {
     /// Two lists are standard input, which can be read once.
     #[error("standard input is named twice")]
     InputTwice,
-    /// The name of a list to be counted has a control character, such as a tab, which would break its line.
+    /// The name of a list has a control character, such as a tab, which would break a line of the answer.
     #[error("the name of a list has a control character")]
     ControlCharacter,
     /// No command has this name.
@@ -392,7 +392,7 @@ fn has_control(name: &str) -> bool
 }
 
 /// Whether one of the names has a control character.
-fn have_control(names: &[&str]) -> bool
+pub fn have_control(names: &[&str]) -> bool
     ensures { result ≡ have_control names.now }
 {
     names.iter().any(|name| has_control(name))

@@ -18,9 +18,11 @@ use crate::info::INFO_COMMAND;
 use crate::listing::{HOSTS_COMMAND, SPLIT_COMMAND};
 use crate::map::MAP_COMMAND;
 use crate::origins::ORIGINS_COMMAND;
+use crate::pairs::LENGTHS_FLAG;
 use crate::plan::PLAN_COMMAND;
 use crate::prefixes::PREFIX_COMMAND;
 use crate::rules::{PERMITTED_COMMAND, UNREACHED_COMMAND};
+use crate::select::SELECT_COMMAND;
 use crate::shorten::SHORTEN_COMMAND;
 use crate::table::{ARGUMENT, Argument, Form, Subcommand, command_of};
 use crate::texts::TEXT_FLAG;
@@ -47,19 +49,18 @@ pub const FILTER: &str = "filter";
 
 pub const ROUTE: &str = "route";
 
-/// The arguments of an operation on at least two lists.
-const TWO_AND_MORE: &[&[Argument]] = &[
-    SHARED,
-    ANSWER_FORM,
-    &[
-        FIRST_LIST,
-        Argument {
-            form: Form::Words("FILE"),
-            help: "The other lists",
-            ..OTHER_LIST
-        },
-    ],
+/// Two lists or more.
+const TWO_LISTS_AND_MORE: &[Argument] = &[
+    FIRST_LIST,
+    Argument {
+        form: Form::Words("FILE"),
+        help: "The other lists",
+        ..OTHER_LIST
+    },
 ];
+
+/// The arguments of an operation on at least two lists.
+const TWO_AND_MORE: &[&[Argument]] = &[SHARED, ANSWER_FORM, TWO_LISTS_AND_MORE];
 
 /// The flags for the families of a complement, and its list.
 const COMPLEMENT_ARGUMENTS: &[Argument] = &[
@@ -160,12 +161,12 @@ const QUERIES: &[Subcommand] = &[
     Subcommand {
         name: COUNT,
         about: "For each list its name, and how many IPv4 and IPv6 addresses it has, with tabs between; then the total",
-        arguments: &[SHARED, &[ANY_LISTS]],
+        arguments: &[SHARED, &[LENGTHS_FLAG, ANY_LISTS]],
     },
     Subcommand {
         name: COMPARE,
-        about: "The number of addresses that are in only one of two lists; status 1 if there are any",
-        arguments: &[SHARED, &[FIRST_LIST, OTHER_LIST]],
+        about: "The number of addresses that are in only one of two lists, or of each pair; status 1 if there are any",
+        arguments: &[SHARED, TWO_LISTS_AND_MORE],
     },
     CHANGES_COMMAND,
     APPLY_COMMAND,
@@ -197,6 +198,7 @@ const ENTRY_COMMANDS: &[Subcommand] = &[
     REDUNDANT_COMMAND,
     OVERLAPS_COMMAND,
     FIND_COMMAND,
+    SELECT_COMMAND,
     INFO_COMMAND,
     SPLIT_COMMAND,
     HOSTS_COMMAND,

@@ -2,6 +2,7 @@
 ghost use Rattle.std.specs.Prelude.{◌≡◌, ◌≤◌, codes, IfSome};
 ghost use Rattle.ipnet.specs.NetworkOf.{ip_network};
 ghost use Rattle.ipnet_lists.specs.Entries.{IsNetworkOrMasked};
+ghost use Rattle.netset_lib.specs.PlanAnswers.{IsLengthText};
 ghost use Rattle.netset_commands.specs.Words.{word_of, IsNetworkGiven};
 
 use crate::arguments::{FIRST, LEGACY_FLAG, OTHERS, OUTPUT_OPTION, flags_of};
@@ -104,6 +105,20 @@ fn network_of(rt: &HostRuntime, matches: &ArgMatches) -> Option<IpNet>
     network_or_report(rt, word, flags_of(matches).grammar())
 }
 
+/// Reads a prefix length. If the word is not one, it is reported, and the result is `None`.
+pub fn length_or_report(rt: &HostRuntime, word: &str) -> Option<u8>
+    ensures { IfSome result (IsLengthText word.now) }
+{
+    match read_length(word) {
+        Some(length) => Some(length),
+        None => {
+            let word = word.as_bytes().escape_ascii();
+            let _ = writeln!(rt.stderr(), "netset: not a prefix length: {word}");
+            None
+        }
+    }
+}
+
 /// Reads the arguments of `split`, and prints the subnets.
 pub fn list_subnets(rt: &HostRuntime, matches: &ArgMatches, writers: &mut Writers<'_>) -> u8
     ensures { result ≤ 2 }
@@ -112,9 +127,7 @@ pub fn list_subnets(rt: &HostRuntime, matches: &ArgMatches, writers: &mut Writer
         return 2;
     };
     let word = word_of(matches, OTHERS);
-    let Some(length) = read_length(word) else {
-        let word = word.as_bytes().escape_ascii();
-        let _ = writeln!(rt.stderr(), "netset: not a prefix length: {word}");
+    let Some(length) = length_or_report(rt, word) else {
         return 2;
     };
     run_split(&network, length, &mut writers.answer, &mut writers.faults)

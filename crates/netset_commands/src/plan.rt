@@ -9,14 +9,14 @@ use crate::arguments::{
     ArgumentFailure, FIRST, FIRST_LIST, SHARED, flags_of, name_of_list, report_argument_failure,
 };
 use crate::bar::{BAR, PLAN_BAR, bar_form_of};
+use crate::listing::length_or_report;
 use crate::reading::{reading_work, session_of};
 use crate::table::{ARGUMENT, Argument, Form, Subcommand};
 use clap::ArgMatches;
 use ipnet_bars::BarForm;
 use netset_files::Writers;
-use netset_lib::{Families, PlanCommand, PlanRequest, families, read_length, run_text};
+use netset_lib::{Families, PlanCommand, PlanRequest, families, run_text};
 use netset_pictures::{PlanBarCommand, PlanBarRequest};
-use std::io::Write;
 
 /// The name of the command.
 pub const PLAN: &str = "plan";
@@ -78,9 +78,7 @@ fn lengths_of(rt: &HostRuntime, words: &[&str]) -> Result<Vec<u8>, u8>
 {
     let mut lengths = Vec::new(rt.alloc());
     for word in words {
-        let Some(length) = read_length(word) else {
-            let word = word.as_bytes().escape_ascii();
-            let _ = writeln!(rt.stderr(), "netset: not a prefix length: {word}");
+        let Some(length) = length_or_report(rt, word) else {
             return Err(2);
         };
         if lengths.push(length).is_err() {

@@ -23,17 +23,19 @@ use crate::info::{INFO, print_facts};
 use crate::listing::{HOSTS, SPLIT, list_hosts, list_subnets};
 use crate::map::{MAP, draw_map};
 use crate::origins::{ORIGINS, validate_origins};
+use crate::pairs::{compare_pairs, has_lengths_flag, print_lengths};
 use crate::plan::{PLAN, plan_networks};
 use crate::prefixes::{PREFIX_LIST, judge_networks};
 use crate::reading::session_of;
 use crate::rules::{PERMITTED, UNREACHED, print_permitted, print_unreached};
+use crate::select::{SELECT, select_entries};
 use crate::shorten::{SHORTEN, shorten_table};
 use crate::texts::{has_text_flag, route_with_text};
 use crate::whole_lines::{LINES, filter_lines};
 use clap::ArgMatches;
 use netset_files::{CLOSED, Ends, Writers, stream_list};
 use netset_forms::FormCommand;
-use netset_lib::{AnswerCommand, Work, run_text};
+use netset_lib::{AnswerCommand, Query, Work, run_text};
 use std::io::{ErrorKind, Write};
 
 /// Runs the program that prints this version of itself, and returns its exit status.
@@ -111,6 +113,7 @@ fn run_command(rt: &HostRuntime, name: &str, matches: &ArgMatches, writers: &mut
     ensures { result ≤ 2 }
 {
     match name {
+        COUNT if has_lengths_flag(matches) => print_lengths(rt, matches, writers),
         UNION | INTERSECTION | DIFFERENCE | SYMMETRIC_DIFFERENCE | COMPLEMENT | COUNT | COMPARE => {
             run_call(rt, name, matches, writers)
         }
@@ -128,6 +131,7 @@ fn run_command(rt: &HostRuntime, name: &str, matches: &ArgMatches, writers: &mut
         REDUNDANT => print_redundant(rt, matches, writers),
         OVERLAPS => print_overlaps(rt, matches, writers),
         FIND => find_entries(rt, matches, writers),
+        SELECT => select_entries(rt, matches, writers),
         INFO => print_facts(rt, matches, writers),
         SPLIT => list_subnets(rt, matches, writers),
         HOSTS => list_hosts(rt, matches, writers),
@@ -174,6 +178,9 @@ fn run_call(rt: &HostRuntime, name: &str, matches: &ArgMatches, writers: &mut Wr
     };
     match call.work {
         Work::Combine(_) => run_operation(rt, matches, call, writers),
+        Work::Ask(Query::Compare, _) if call.names.len() > 2 => {
+            compare_pairs(rt, matches, call.names.as_slice(), writers)
+        }
         Work::Ask(_, _) => run_query(rt, call, writers),
     }
 }

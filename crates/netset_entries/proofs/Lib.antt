@@ -19,3 +19,10 @@ pub mod TitledBlocks
 pub mod NotedLists
 pub mod TitleLaws
 pub mod FindLaws
+pub mod ChoiceLaws
+pub mod PartLaws
+pub mod SelectLaws
+pub mod SortLaws
+pub mod ReadingLaws
+pub mod LengthLaws
+pub mod PairLineLaws

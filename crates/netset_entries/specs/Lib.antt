@@ -15,3 +15,9 @@ pub mod NoteSteps
 pub mod WriteReports
 pub mod Finds
 pub mod FindSteps
+pub mod TextParts
+pub mod Lengths
+pub mod ListPairs
+pub mod Choices
+pub mod Selections
+pub mod SelectSteps

@@ -52,7 +52,7 @@ struct NumberedLine<'a> {
 }
 
 /// Returns whether the addresses are of one family, and the first is at most the second.
-fn is_at_most(first: IpAddr, second: IpAddr) -> bool
+pub(crate) fn is_at_most(first: IpAddr, second: IpAddr) -> bool
     ensures { IsTrue result ↔ ((ip_address first).family ≡ (ip_address second).family)
         × ((ip_address first).number ≤ (ip_address second).number) }
 {

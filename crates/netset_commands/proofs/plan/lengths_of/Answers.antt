@@ -14,7 +14,7 @@ loop-word-preserved c =
     → AreLengths words (all ++ rest) in
     subst P (sym pushed)
     (next_value IsLengthText words c.loop-word.word-index c.in-Some.length c.loop-word.lengths.items _
-    c.loop-word-test.true ((c.read_length.ensures c.in-Some.length).0 c.in-Some.is) c.loop-word.invariant)
+    c.loop-word-test.true c.in-Some.ensures c.loop-word.invariant)
 
 pub returns-clause-lengths : goal.returns-clause-lengths
 returns-clause-lengths c =

@@ -1,0 +1,179 @@
+//! The command `select`: its arguments, and its run.
+ghost use Rattle.std.specs.Prelude.{◌≡◌, ◌≤◌, IfOk, IfErr, OnErr};
+ghost use Rattle.netset_commands.specs.SelectOptions.{IsLengthGiven, IsSelectRequest, bounds_of};
+
+use crate::arguments::{
+    ANY_LISTS, ArgumentFailure, FIRST, SHARED, flags_of, is_set, reads_input_twice,
+    report_argument_failure,
+};
+use crate::listing::length_or_report;
+use crate::table::{ARGUMENT, Argument, Form, Subcommand};
+use clap::ArgMatches;
+use ipnet_lists::ReadFailure;
+use netset_entries::{EntryChoice, LengthBounds, SelectRequest, Selection};
+use netset_files::{ListReader, STANDARD_INPUT, Writers, fill};
+use netset_lib::{families, run_text};
+use std::io::Read;
+
+/// The name of the command.
+pub const SELECT: &str = "select";
+
+/// The ids and the names of the options.
+const LONGER: &str = "longer";
+
+const SHORTER: &str = "shorter";
+
+const SORT: &str = "sort";
+
+const UNIQUE: &str = "unique";
+
+/// The options for the entries.
+const SELECT_ARGUMENTS: &[Argument] = &[
+    Argument {
+        id: "ipv4",
+        form: Form::Flag("ipv4"),
+        letter: Some('4'),
+        help: "Print only IPv4 entries",
+        ..ARGUMENT
+    },
+    Argument {
+        id: "ipv6",
+        form: Form::Flag("ipv6"),
+        letter: Some('6'),
+        help: "Print only IPv6 entries",
+        ..ARGUMENT
+    },
+    Argument {
+        id: LONGER,
+        form: Form::Value(LONGER, "LEN"),
+        help: "Print only entries with at least this prefix length; an address has the length 32 or 128",
+        ..ARGUMENT
+    },
+    Argument {
+        id: SHORTER,
+        form: Form::Value(SHORTER, "LEN"),
+        help: "Print only entries with at most this prefix length; ranges that are not a network have none",
+        ..ARGUMENT
+    },
+    Argument {
+        id: SORT,
+        form: Form::Flag(SORT),
+        help: "Sort the entries: IPv4 first, then by first address, then the larger entry first",
+        ..ARGUMENT
+    },
+    Argument {
+        id: UNIQUE,
+        form: Form::Flag(UNIQUE),
+        help: "Leave out an entry if an entry before it has exactly its addresses",
+        ..ARGUMENT
+    },
+];
+
+/// The command `select`.
+pub const SELECT_COMMAND: Subcommand = Subcommand {
+    name: SELECT,
+    about: "The entries of the lists, as written, chosen by family and prefix length; status 1 if there are none",
+    arguments: &[SHARED, SELECT_ARGUMENTS, &[ANY_LISTS]],
+};
+
+/// A selection that reads the lists of a command.
+#[derive(Drop)]
+struct SelectedLists {
+    selection: Selection,
+}
+
+impl ListReader for SelectedLists {
+    ghost use Rattle.netset_entries.specs.SelectSteps.{has_entry, refused_count, IsBroken};
+
+    ghost refused = { λ lists. refused_count lists.selection };
+
+    ghost holds = { λ lists. has_entry lists.selection };
+
+    fn read<R: Read>(&mut self, input: &mut R) -> Result<(), ReadFailure>
+        ensures { OnErr result (IsBroken self.new.selection) }
+    {
+        self.selection.read(input)
+    }
+
+    fn refused_count(&self) -> usize {
+        self.selection.refused_count()
+    }
+
+    fn has_entry(&self) -> bool {
+        self.selection.has_entry()
+    }
+}
+
+/// Reads the prefix length of the option, or `None` if it is omitted. If the word is not one, it is reported, and the
+/// error is the exit status.
+fn length_of(rt: &HostRuntime, matches: &ArgMatches, id: &str) -> Result<Option<u8>, u8>
+    ensures length { IfOk result (IsLengthGiven matches.now id.now) }
+    ensures failed { IfErr result (λ status. status ≡ 2) }
+{
+    match matches.get_str(id) {
+        Some(word) => match length_or_report(rt, word) {
+            Some(length) => Ok(Some(length)),
+            None => Err(2),
+        },
+        None => Ok(None),
+    }
+}
+
+/// The bounds of the prefix lengths, if one of them is given.
+fn bounds_of(longer: Option<u8>, shorter: Option<u8>) -> Option<LengthBounds>
+    ensures { result ≡ bounds_of longer shorter }
+{
+    match (longer, shorter) {
+        (None, None) => None,
+        (Some(least), None) => Some(LengthBounds { least, most: 128 }),
+        (None, Some(most)) => Some(LengthBounds { least: 0, most }),
+        (Some(least), Some(most)) => Some(LengthBounds { least, most }),
+    }
+}
+
+/// Reads the options. If a word is not a prefix length, it is reported, and the error is the exit status.
+fn request_of(rt: &HostRuntime, matches: &ArgMatches) -> Result<SelectRequest, u8>
+    ensures request { IfOk result (IsSelectRequest matches.now) }
+    ensures failed { IfErr result (λ status. status ≡ 2) }
+{
+    let flags = flags_of(matches);
+    let longer = length_of(rt, matches, LONGER)?;
+    let shorter = length_of(rt, matches, SHORTER)?;
+    let choice = EntryChoice {
+        families: families(flags.ipv4, flags.ipv6),
+        lengths: bounds_of(longer, shorter),
+    };
+    Ok(SelectRequest {
+        grammar: flags.grammar(),
+        choice,
+        sort: is_set(matches, SORT),
+        unique: is_set(matches, UNIQUE),
+    })
+}
+
+/// Reads the arguments and the lists, prints the entries that are selected, and returns the exit status.
+#[inline(never)]
+pub fn select_entries(rt: &HostRuntime, matches: &ArgMatches, writers: &mut Writers<'_>) -> u8
+    ensures { result ≤ 2 }
+{
+    let names = matches.get_strs(FIRST).unwrap_or(&[STANDARD_INPUT]);
+    if reads_input_twice(names) {
+        return report_argument_failure(rt, ArgumentFailure::InputTwice);
+    }
+    let request = match request_of(rt, matches) {
+        Ok(request) => request,
+        Err(status) => return status,
+    };
+    let Ok(selection) = Selection::new(rt.alloc(), request) else {
+        return report_argument_failure(rt, ArgumentFailure::Memory);
+    };
+    let mut lists = SelectedLists { selection };
+    match fill(rt, &mut lists, names, writers.reports) {
+        Ok(()) => {
+            let SelectedLists { selection } = lists;
+            let (out, faults) = (&mut writers.answer, &mut writers.faults);
+            run_text(selection, names, out, faults)
+        }
+        Err(status) => status,
+    }
+}
