@@ -10,6 +10,7 @@ use crate::arguments::{ANY_LISTS, FIRST_LIST, NO_EMPTY, ONE_LIST, OTHER_LIST, OT
 use crate::bar::BAR_COMMAND;
 use crate::changes::CHANGES_COMMAND;
 use crate::entries::{OVERLAPS_COMMAND, REDUNDANT_COMMAND, SUPERNET_COMMAND};
+use crate::entry_options::{ENTRY, ENTRY_OPTION, ENTRY_OR_FIRST, ENTRY_OR_OTHER};
 use crate::extract::EXTRACT_COMMAND;
 use crate::find::FIND_COMMAND;
 use crate::fit::FIT_COMMAND;
@@ -24,7 +25,7 @@ use crate::rules::{PERMITTED_COMMAND, UNREACHED_COMMAND};
 use crate::shorten::SHORTEN_COMMAND;
 use crate::table::{ARGUMENT, Argument, Form, Subcommand, command_of};
 use crate::texts::TEXT_FLAG;
-use crate::whole_lines::LINE_FLAGS;
+use crate::whole_lines::{LINE_FLAGS, LINES};
 use clap::{ArgMatches, Command, Error};
 use std::alloc::{AllocError, Global};
 
@@ -56,8 +57,11 @@ const TWO_AND_MORE: &[&[Argument]] = &[
         Argument {
             form: Form::Words("FILE"),
             help: "The other lists",
+            is_required: false,
+            unless: &[ENTRY],
             ..OTHER_LIST
         },
+        ENTRY_OPTION,
     ],
 ];
 
@@ -76,12 +80,16 @@ const COMPLEMENT_ARGUMENTS: &[Argument] = &[
         ..ARGUMENT
     },
     ONE_LIST,
+    ENTRY_OR_FIRST,
 ];
+
+/// The name of the flag by which the answers are written while the list is read.
+const STREAM: &str = "stream";
 
 /// The flag by which the answers are written while the list is read.
 const STREAM_FLAG: Argument = Argument {
-    id: "stream",
-    form: Form::Flag("stream"),
+    id: STREAM,
+    form: Form::Flag(STREAM),
     help: "Print each line as soon as it is known; a bad line is reported and left out, with status 2",
     conflicts: &[NO_EMPTY],
     ..ARGUMENT
@@ -107,6 +115,10 @@ const FILTER_ARGUMENTS: &[Argument] = &[
         help: "The list to filter; standard input if it is omitted",
         ..ARGUMENT
     },
+    Argument {
+        conflicts: &[OTHERS, STREAM, LINES],
+        ..ENTRY_OPTION
+    },
 ];
 
 /// The stream of a route, its texts, and its lists.
@@ -124,6 +136,10 @@ const ROUTE_ARGUMENTS: &[Argument] = &[
         help: "The list of entries to look up; standard input if it is omitted",
         ..ARGUMENT
     },
+    Argument {
+        conflicts: &[OTHERS, STREAM],
+        ..ENTRY_OPTION
+    },
 ];
 
 /// The commands that combine lists into a set.
@@ -131,7 +147,7 @@ const OPERATIONS: &[Subcommand] = &[
     Subcommand {
         name: UNION,
         about: "The addresses of all lists",
-        arguments: &[SHARED, ANSWER_FORM, &[ANY_LISTS]],
+        arguments: &[SHARED, ANSWER_FORM, &[ANY_LISTS, ENTRY_OPTION]],
     },
     Subcommand {
         name: INTERSECTION,
@@ -146,7 +162,11 @@ const OPERATIONS: &[Subcommand] = &[
     Subcommand {
         name: SYMMETRIC_DIFFERENCE,
         about: "The addresses that are in exactly one of two lists",
-        arguments: &[SHARED, ANSWER_FORM, &[FIRST_LIST, OTHER_LIST]],
+        arguments: &[
+            SHARED,
+            ANSWER_FORM,
+            &[FIRST_LIST, OTHER_LIST, ENTRY_OR_OTHER],
+        ],
     },
     Subcommand {
         name: COMPLEMENT,
@@ -160,12 +180,12 @@ const QUERIES: &[Subcommand] = &[
     Subcommand {
         name: COUNT,
         about: "For each list its name, and how many IPv4 and IPv6 addresses it has, with tabs between; then the total",
-        arguments: &[SHARED, &[ANY_LISTS]],
+        arguments: &[SHARED, &[ANY_LISTS, ENTRY_OPTION]],
     },
     Subcommand {
         name: COMPARE,
         about: "The number of addresses that are in only one of two lists; status 1 if there are any",
-        arguments: &[SHARED, &[FIRST_LIST, OTHER_LIST]],
+        arguments: &[SHARED, &[FIRST_LIST, OTHER_LIST, ENTRY_OR_OTHER]],
     },
     CHANGES_COMMAND,
     APPLY_COMMAND,

@@ -25,7 +25,7 @@ use crate::map::{MAP, draw_map};
 use crate::origins::{ORIGINS, validate_origins};
 use crate::plan::{PLAN, plan_networks};
 use crate::prefixes::{PREFIX_LIST, judge_networks};
-use crate::reading::session_of;
+use crate::reading::{session_of, session_with_entries};
 use crate::rules::{PERMITTED, UNREACHED, print_permitted, print_unreached};
 use crate::shorten::{SHORTEN, shorten_table};
 use crate::texts::{has_text_flag, route_with_text};
@@ -174,7 +174,7 @@ fn run_call(rt: &HostRuntime, name: &str, matches: &ArgMatches, writers: &mut Wr
     };
     match call.work {
         Work::Combine(_) => run_operation(rt, matches, call, writers),
-        Work::Ask(_, _) => run_query(rt, call, writers),
+        Work::Ask(_, _) => run_query(rt, matches, call, writers),
     }
 }
 
@@ -193,7 +193,7 @@ fn run_operation(
         Err(status) => return status,
     };
     let names = call.names.as_slice();
-    match session_of(rt, call.work, names, writers.reports) {
+    match session_with_entries(rt, matches, call.work, names, writers.reports) {
         Ok(session) => {
             let (out, faults) = (&mut writers.answer, &mut writers.faults);
             netset_lib::run(FormCommand { session, form }, names, out, faults)
@@ -204,7 +204,12 @@ fn run_operation(
 
 /// Reads the lists, prints the answer to the query, and returns the status.
 #[inline(never)]
-fn run_query(rt: &HostRuntime, call: Call<'_>, writers: &mut Writers<'_>) -> u8
+fn run_query(
+    rt: &HostRuntime,
+    matches: &ArgMatches,
+    call: Call<'_>,
+    writers: &mut Writers<'_>,
+) -> u8
     ensures { result ≤ 2 }
 {
     let work = call.work;
@@ -214,7 +219,7 @@ fn run_query(rt: &HostRuntime, call: Call<'_>, writers: &mut Writers<'_>) -> u8
             Ok(session) => stream_list(rt, session, names, name, writers),
             Err(status) => status,
         },
-        _ => match session_of(rt, work, names, writers.reports) {
+        _ => match session_with_entries(rt, matches, work, names, writers.reports) {
             Ok(session) => {
                 let (out, faults) = (&mut writers.answer, &mut writers.faults);
                 run_text(AnswerCommand { session, names }, names, out, faults)

@@ -3,6 +3,7 @@ ghost use Rattle.std.specs.Prelude.{◌≤◌, codes};
 ghost use Rattle.netset_commands.specs.Arguments.{IsFlag};
 
 use crate::arguments::{flags_of, two_or_report};
+use crate::reading::last_bytes;
 use crate::table::{ARGUMENT, Argument, Form};
 use clap::ArgMatches;
 use netset_files::{Writers, bytes_of};
@@ -37,7 +38,7 @@ pub fn route_with_text(rt: &HostRuntime, matches: &ArgMatches, writers: &mut Wri
         Ok(bytes) => bytes,
         Err(status) => return status,
     };
-    let list = match bytes_of(rt, names[1], "entries", writers.reports) {
+    let list = match last_bytes(rt, matches, names[1], writers.reports) {
         Ok(list) => list,
         Err(status) => return status,
     };
