@@ -24,7 +24,7 @@ use crate::prefixes::PREFIX_COMMAND;
 use crate::rules::{PERMITTED_COMMAND, UNREACHED_COMMAND};
 use crate::shorten::SHORTEN_COMMAND;
 use crate::table::{ARGUMENT, Argument, Form, Subcommand, command_of};
-use crate::texts::TEXT_FLAG;
+use crate::texts::{ALL_FLAG, TEXT_FLAG};
 use crate::whole_lines::{LINE_FLAGS, LINES};
 use clap::{ArgMatches, Command, Error};
 use std::alloc::{AllocError, Global};
@@ -125,6 +125,7 @@ const FILTER_ARGUMENTS: &[Argument] = &[
 const ROUTE_ARGUMENTS: &[Argument] = &[
     STREAM_FLAG,
     TEXT_FLAG,
+    ALL_FLAG,
     Argument {
         form: Form::Word("TABLE"),
         help: "The list of networks to choose from",

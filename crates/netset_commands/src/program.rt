@@ -28,7 +28,7 @@ use crate::prefixes::{PREFIX_LIST, judge_networks};
 use crate::reading::{session_of, session_with_entries};
 use crate::rules::{PERMITTED, UNREACHED, print_permitted, print_unreached};
 use crate::shorten::{SHORTEN, shorten_table};
-use crate::texts::{has_text_flag, route_with_text};
+use crate::texts::{has_all_flag, has_text_flag, route_all, route_with_text};
 use crate::whole_lines::{LINES, filter_lines};
 use clap::ArgMatches;
 use netset_files::{CLOSED, Ends, Writers, stream_list};
@@ -151,12 +151,15 @@ fn run_filter(rt: &HostRuntime, matches: &ArgMatches, writers: &mut Writers<'_>)
     }
 }
 
-/// Prints the routes of entries, with the texts of the table if they are asked for, and returns the status.
+/// Prints the routes of entries, all or the longest, with the texts of the table if they are asked for, and returns the
+/// status.
 #[inline(never)]
 fn run_route(rt: &HostRuntime, matches: &ArgMatches, writers: &mut Writers<'_>) -> u8
     ensures { result ≤ 2 }
 {
-    if has_text_flag(matches) {
+    if has_all_flag(matches) {
+        route_all(rt, matches, writers)
+    } else if has_text_flag(matches) {
         route_with_text(rt, matches, writers)
     } else {
         run_call(rt, ROUTE, matches, writers)
