@@ -21,7 +21,8 @@ IsEntryText entries None = entries ≡ []
 IsEntryText entries (Some text) =
     (0 < length entries) × All IsOneLine entries × (string_bytes text ≡ entry_lines entries)
 
--- Why there is no such list: the entry with this number, from 1, is not one line. When memory runs out is not specified.
+-- Why there is no such list: the entry with this number, from 1, is not one line. When memory runs out is not
+-- specified.
 abbrev pub IsEntryFailure : List (List ℕ) → ArgumentFailure → Type 0
 IsEntryFailure entries (LineBreak number) =
     (index : ℕ) × (number ≡ index + 1) × (index < length entries) × Has 10 (slice_index_or entries index [])

@@ -298,8 +298,8 @@ fn most_before_input(work: Work) -> usize
     }
 }
 
-/// The names of the lists, in order. The list of entries is the last. Without entries, if at most `most` lists are named,
-/// standard input is the last.
+/// The names of the lists, in order. The list of entries is the last. Without entries, if at most `most` lists are
+/// named, standard input is the last.
 pub fn names_of<'a>(
     alloc: Global,
     matches: &ArgMatches<'a>,

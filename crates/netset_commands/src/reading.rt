@@ -25,7 +25,7 @@ pub fn comparing_work(matches: &ArgMatches) -> Work
     netset_lib::ListCommand::Compare.work(flags_of(matches))
 }
 
-/// Reads the lists of these names as `fill_with_entries` does. If there are entries, the last list is the list of entries.
+/// Reads the lists of these names as `fill_with_entries` does. If there are entries, they are the last list.
 pub fn fill_lists<L: ListReader>(
     rt: &HostRuntime,
     matches: &ArgMatches,

@@ -143,8 +143,8 @@ fn is_allowed<L: ListReader>(
     !is_empty || reports.report_empty(rt, name, "entries")
 }
 
-/// Reads the entries of the command line, a line each, as one list. Fails if memory runs out. Returns whether they may be
-/// as they are, as `read_lists` does, and reports the number of their bytes as it does.
+/// Reads the entries of the command line, a line each, as one list. Fails if memory runs out. Returns whether they may
+/// be as they are, as `read_lists` does, and reports the number of their bytes as it does.
 pub fn read_entries<L: ListReader>(
     rt: &HostRuntime,
     lists: &mut L,

@@ -41,7 +41,8 @@ fn file_names<'a>(names: &'a [&'a str], has_entries: bool) -> &'a [&'a str]
     }
 }
 
-/// Reads the lists of these names as `fill` does. If there are `entries`, the last list is not a file: it has these lines.
+/// Reads the lists of these names as `fill` does. If there are `entries`, the last list is not a file: it has these
+/// lines.
 ///
 /// ```text
 /// the names "a", "-e", and the entries "10.0.0.0/8\n": the file a is read, and then the list of 10.0.0.0/8

@@ -38,7 +38,7 @@ LongerFirst r s = s.0.prefix_len < r.0.prefix_len
 
 -- ---- the walk over the routes that contain the first address
 
--- The kept routes are those of the walk whose networks have the property, the longest first.
+-- The kept routes are the routes of the walk whose networks have the property, the longest first.
 pub record HasKept (Has : Network → Type 0) (walked kept : List (Route Text)) : Type 0 where
   pub longest_first : AllPairs LongerFirst kept
   pub members : (r : Route Text) → Contains kept r ↔ (Contains walked r × Has r.0)
@@ -64,7 +64,9 @@ module _ (Has : Network → Type 0) (walked kept : List (Route Text)) (next : Ro
   pub one_kept : Has next.0 → HasKept Has (walked ++ next ∷ []) (kept ++ next ∷ [])
   one_kept has = record {
     longest_first = all_pairs_push LongerFirst kept next h.longest_first
-        (λ k d l. all_longer (get_or kept k d) ((h.members (get_or kept k d)).0 (k, l, at_place kept k (get_or kept k d) d l)).0);
+        (λ k d l.
+        let here = (h.members (get_or kept k d)).0 (k, l, at_place kept k (get_or kept k d) d l) in
+        all_longer (get_or kept k d) here.0);
     members = λ r. (
       λ c. elim (Contains-push_cases kept next r c) [
         | inl old ↦

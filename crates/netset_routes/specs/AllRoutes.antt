@@ -50,8 +50,8 @@ AreEntryLines table e text = (holders : List (Route (Bor (List ℕ)))) × AreHol
 abbrev pub HasNoHolder : TextTable → ListEntry → Type 0
 HasNoHolder table e = (route : Route (Bor (List ℕ))) → Contains (routes_of table) route → ¬ (Holds e route.0)
 
--- No line of the list is refused, and the text has the lines of each entry of the list, in order. `missing` is whether an
--- entry has no route.
+-- No line of the list is refused, and the text has the lines of each entry of the list, in order. `missing` is whether
+-- an entry has no route.
 pub record IsAllRoutesAnswer (grammar : Grammar) (table : TextTable) (list : List ℕ) (missing : Bool) (text : List ℕ)
     : Type 0 where
   pub entries : List ListEntry

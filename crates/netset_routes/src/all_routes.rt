@@ -24,9 +24,9 @@ use std::alloc::{AllocError, Global};
 use std::io::Write;
 use std::str;
 
-/// For each entry of a list a line for each route of a table whose network contains the whole entry, the longest network
-/// first: the entry as it is written, the network, and the text of the network; or a line with the entry and "-" if no
-/// network contains it.
+/// For each entry of a list a line for each route of a table whose network contains the whole entry, the longest
+/// network first: the entry as it is written, the network, and the text of the network; or a line with the entry and
+/// "-" if no network contains it.
 ///
 /// The names: the table, and then the list.
 ///
@@ -246,8 +246,8 @@ fn check_entries(alloc: Global, bytes: &[u8], grammar: Grammar) -> Result<(), Li
 }
 
 /// Returns the table of the networks of the entries of a list. Each has an empty text. If lines are refused, or memory
-/// runs out, reports it on `faults` as `AllRoutesCommand` does for its list, and returns `None`. `name` is the name of the
-/// list.
+/// runs out, reports it on `faults` as `AllRoutesCommand` does for its list, and returns `None`. `name` is the name of
+/// the list.
 ///
 /// ```text
 /// "10.0.0.0/8\n10.1.0.0-10.1.255.255 # lab\n": 10.0.0.0/8 and 10.1.0.0/16, each with ""
