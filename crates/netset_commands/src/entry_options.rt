@@ -81,9 +81,9 @@ fn entry_lines(alloc: Global, entries: &[&str]) -> Result<String, ArgumentFailur
         if has_byte(entry.as_bytes(), b'\n') {
             return Err(ArgumentFailure::LineBreak(index + 1));
         }
-        if push_line(&mut text, entry).is_err() {
+        let Ok(()) = push_line(&mut text, entry) else {
             return Err(ArgumentFailure::Memory);
-        }
+        };
     }
     Ok(text)
 }
