@@ -1,11 +1,13 @@
 -- The lines of entries of the command line, one after another.
 use Rattle.std.proofs.Common.{◌≡◌, ◌∙◌, ◌<◌, ◌+◌, ◌++◌, ◌∷◌, [], ℕ, List, All, ap, sym, subst, take, length, get_or}
-use Rattle.std.proofs.Common.{map, string_bytes}
-use Rattle.std.proofs.lemmas.List.{flat_map_more, map-append, take_more}
+use Rattle.std.proofs.Common.{arith, map, refl}
+use Rattle.std.proofs.lemmas.List.{flat_map_more, get_or-map, length-map, map-append, take_more}
 use Rattle.std.proofs.lemmas.List.Elements.{All-push}
 use Rattle.std.specs.Borrow.{Bor}
+use Rattle.ipnet_lists.specs.Causes.{Has}
 use Rattle.ipnet_lists.specs.Names.{Names}
-use Rattle.netset_commands.specs.EntryOptions.{IsOneLine, entry_lines}
+use Rattle.netset_commands.specs.EntryOptions.{IsEntryFailure, IsOneLine, entry_lines}
+use Rattle.netset_commands.specs.declared.arguments.ArgumentFailure.TheVariants.{LineBreak}
 
 -- the entries as text
 abbrev pub texts_of : Names → List (List ℕ)
@@ -33,3 +35,15 @@ pub one_line_more : (entries : Names) (i : ℕ) (e : Bor (List ℕ)) → i < len
 one_line_more entries i e within is h one =
     subst (All IsOneLine) (sym (one_more entries i e within is))
     (All-push IsOneLine (texts_of (take i entries)) e.now h one)
+
+-- it is not one line
+pub broken_at : (entries : Names) (i : ℕ) (e : Bor (List ℕ)) → i < length entries → e ≡ get_or entries i e
+    → Has 10 e.now → IsEntryFailure (texts_of entries) (LineBreak (i + 1))
+broken_at entries i e within is has =
+    let spelled : get_or (texts_of entries) i [] ≡ e.now =
+    get_or-map (λ (x : Bor (List ℕ)). x.now) entries i e [] within ∙ ap (λ x. x.now) (sym is) in (
+      i,
+      refl,
+      omega (arith, within, length-map entries (λ (x : Bor (List ℕ)). x.now)),
+      subst (Has 10) (sym spelled) has,
+    )

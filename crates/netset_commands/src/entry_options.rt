@@ -76,14 +76,15 @@ fn entry_lines(alloc: Global, entries: &[&str]) -> Result<String, ArgumentFailur
     ensures failed { IfErr result (IsEntryFailure (map (λ entry. entry.now) entries.now)) }
 {
     let mut text = String::new(alloc);
-    for index in 0..entries.len() {
-        let entry = entries[index];
+    let mut number: usize = 0;
+    for entry in entries {
         if has_byte(entry.as_bytes(), b'\n') {
-            return Err(ArgumentFailure::LineBreak(index + 1));
+            return Err(ArgumentFailure::LineBreak(number + 1));
         }
         let Ok(()) = push_line(&mut text, entry) else {
             return Err(ArgumentFailure::Memory);
         };
+        number += 1;
     }
     Ok(text)
 }

@@ -36,7 +36,6 @@ pub fn fill_lists<L: ListReader>(
     ensures { IfErr result (λ status. status ≡ 2) }
 {
     let entries = entries_or_report(rt, matches)?;
-    let entries = entries.as_ref().map(|text| text.as_str());
     fill_with_entries(rt, lists, names, entries, reports)
 }
 

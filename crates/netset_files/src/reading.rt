@@ -1,5 +1,5 @@
 //! Lists that are read with a report if that fails.
-ghost use Rattle.std.specs.Prelude.{◌≡◌, ◌-◌, Bool, true, false, String, Some, take, length, string_bytes};
+ghost use Rattle.std.specs.Prelude.{◌≡◌, ◌-◌, true, false, String, Some, take, length, string_bytes};
 ghost use Rattle.std.specs.Prelude.{IfOk, IfErr};
 
 use crate::input::{ENTRY_LIST, report_unread};
@@ -30,7 +30,7 @@ pub fn fill<L: ListReader>(
 
 /// Returns the names of files, and of standard input, of these names of lists: all of them, or, if the last list is the
 /// list of entries, those before it.
-fn file_names<'a>(names: &'a [&'a str], has_entries: bool) -> &'a [&'a str]
+fn file_names<'n, 'a>(names: &'n [&'a str], has_entries: bool) -> &'n [&'a str]
     ensures all { has_entries ≡ false → result.now ≡ names.now }
     ensures front { has_entries ≡ true → result.now ≡ take (length names.now - 1) names.now }
 {
@@ -52,7 +52,7 @@ pub fn fill_with_entries<L: ListReader>(
     rt: &HostRuntime,
     lists: &mut L,
     names: &[&str],
-    entries: Option<&str>,
+    entries: Option<String>,
     reports: Reports,
 ) -> Result<(), u8>
     ensures { IfErr result (λ status. status ≡ 2) }
@@ -61,7 +61,7 @@ pub fn fill_with_entries<L: ListReader>(
     let Some(entries) = entries else {
         return Ok(());
     };
-    match read_entries(rt, lists, entries, reports) {
+    match read_entries(rt, lists, entries.as_str(), reports) {
         Ok(true) => Ok(()),
         Ok(false) => Err(2),
         Err(unread) => Err(report_unread(rt, ENTRY_LIST, &unread)),

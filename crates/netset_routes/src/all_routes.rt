@@ -1,7 +1,6 @@
 //! The command `route --all` of the program: all routes of each entry of a list.
 ghost use Rattle.std.specs.Prelude.{◌≡◌, ◌++◌, [], ⊤, not, List, ℕ, IfErr, IfOk, IfSome, OnOk, string_bytes};
 ghost use Rattle.std.specs.Io.KnownBytes.{Keeps};
-ghost use Rattle.std.specs.Str.{IsUtf8};
 ghost use Rattle.ipnet_lists.specs.EntryOf.{entry_range};
 ghost use Rattle.ipnet_lists.specs.FoundEntry.{entry_of};
 ghost use Rattle.ipnet_lists.specs.ListTexts.{IsMadeList};
@@ -146,22 +145,14 @@ fn push_entry(
     push_holders(&mut made.text, written, routes.as_slice())
 }
 
-/// The text of an entry.
-fn entry_text(text: &[u8]) -> &str
-    requires { IsUtf8 text.now }
-    ensures { result.now ≡ text.now }
-{
-    match str::from_utf8(text) {
-        Ok(text) => text,
-        Err(_) => unreachable!(),
-    }
-}
-
 impl<'a> Collector<EntryRoutes> for HolderTable<'a> {
     ghost is_made = { λ t. AreRoutesBy t.table };
 
     fn push(&self, made: &mut EntryRoutes, text: &[u8], entry: Entry) -> Result<(), AllocError> {
-        push_entry(made, self, entry_text(text), entry)
+        match str::from_utf8(text) {
+            Ok(written) => push_entry(made, self, written, entry),
+            Err(_) => unreachable!(),
+        }
     }
 }
 

@@ -4,8 +4,9 @@ use Rattle.netset_commands.specs.EntryOptions.{IsOneLine, entry_lines}
 use Rattle.netset_commands.proofs.EntryLaws.{texts_of}
 use Rattle.netset_commands.proofs.entry_options.entry_lines.Given as goal
 
-abbrev pub invariant-loop-index : goal.invariant-loop-index
-invariant-loop-index l = record {
-  one_line : All IsOneLine (texts_of (take l.index l.entries));
-  lines : string_bytes l.text ≡ entry_lines (texts_of (take l.index l.entries));
+abbrev pub invariant-loop-entry : goal.invariant-loop-entry
+invariant-loop-entry l = record {
+  count : l.number ≡ l.entry-index;
+  one_line : All IsOneLine (texts_of (take l.entry-index l.entries));
+  lines : string_bytes l.text ≡ entry_lines (texts_of (take l.entry-index l.entries));
 }
