@@ -1,5 +1,6 @@
 -- The options `-e`: entries on the command line, which are one list.
 use Rattle.std.specs.Prelude.{◌≡◌, ◌+◌, ◌<◌, ◌∷◌, ◌++◌, ℕ, List, [], Option, Some, None, All, length, slice_index_or}
+use Rattle.std.specs.Global.{Global}
 use Rattle.std.specs.Prelude.{String, flat_map, string_bytes}
 use Rattle.ipnet_lists.specs.Causes.{Has}
 use Rattle.netset_commands.specs.declared.arguments.ArgumentFailure.{ArgumentFailure}
@@ -16,7 +17,7 @@ abbrev pub IsOneLine : List ℕ → Type 0
 IsOneLine entry = ¬ (Has 10 entry)
 
 -- The text of the list of entries. There is none if there are no entries.
-abbrev pub IsEntryText : List (List ℕ) → Option String → Type 0
+abbrev pub IsEntryText : List (List ℕ) → Option (String Global) → Type 0
 IsEntryText entries None = entries ≡ []
 IsEntryText entries (Some text) =
     (0 < length entries) × All IsOneLine entries × (string_bytes text ≡ entry_lines entries)

@@ -1,6 +1,5 @@
 //! Lists that are read with a report if that fails.
-ghost use Rattle.std.specs.Prelude.{◌≡◌, ◌-◌, true, false, String, Some, take, length, string_bytes};
-ghost use Rattle.std.specs.Prelude.{IfOk, IfErr};
+ghost use Rattle.std.specs.Prelude.{◌≡◌, ◌-◌, true, false, take, length, string_bytes, IfSome, IfOk, IfErr};
 
 use crate::input::{ENTRY_LIST, report_unread};
 use crate::lists::{ListReader, Reports, read_entries, read_lists, read_whole};
@@ -109,7 +108,7 @@ pub fn bytes_with_entries(
     entries: Option<String>,
     reports: Reports,
 ) -> Result<Vec<u8>, u8>
-    ensures bytes { (text : String) → entries ≡ Some text → IfOk result (λ bytes. bytes.items ≡ string_bytes text) }
+    ensures bytes { IfSome entries (λ text. IfOk result (λ bytes. bytes.items ≡ string_bytes text)) }
     ensures failed { IfErr result (λ status. status ≡ 2) }
 {
     let Some(entries) = entries else {

@@ -2,7 +2,8 @@
 use Rattle.std.proofs.Common.{◌≡◌, ◌<◌, ◌+◌, ◌⊎◌, ◌↔◌, ◌∷◌, ◌++◌, [], ℕ, Bool, true, false, List, take, drop}
 use Rattle.std.proofs.Common.{length, map, get_or, Contains, AllPairs, inl, inr, refl, sym, ap, ◌∙◌, subst, arith}
 use Rattle.std.proofs.Common.{append-nil, append_assoc, string_bytes}
-use Rattle.std.proofs.lemmas.List.{flat_map_more, get_or-take, length-map, length-take, map-append, take_more}
+use Rattle.std.proofs.lemmas.List.{flat_map_more, get_or-take, get_or_append_left, get_or_push, length-take}
+use Rattle.std.proofs.lemmas.List.{length_push, map-append, take_more}
 use Rattle.std.proofs.lemmas.List.Elements.{Contains-append_left, Contains-push, Contains-push_cases}
 use Rattle.std.proofs.lemmas.List.Quantifiers.{all_pairs_push}
 use Rattle.std.specs.Borrow.{Bor}
@@ -16,14 +17,15 @@ use Rattle.ipnet.specs.declared.net.IpNet.{IpNet}
 use Rattle.ipnet.specs.declared.parser.Grammar.{Grammar}
 use Rattle.ipnet_lists.proofs.RefusalLaws.{none_refused, some_refused}
 use Rattle.ipnet_lists.specs.ListTexts.{IsMadeList}
-use Rattle.ipnet_lists.specs.Lists.{ListEntry, IsListRead}
-use Rattle.ipnet_lists.specs.RefusedLines.{RefusedLines}
+use Rattle.ipnet_lists.specs.Lists.{ListEntry, Refusal, IsListRead}
+use Rattle.ipnet_lists.specs.RefusedLines.{AreRefused, RefusedLines}
 use Rattle.ipnet_routes.specs.Routes.{AreMatches, Route, ip_route, ip_routes}
 use Rattle.ipnet_routes.specs.RoutesOf.{routes_of}
 use Rattle.netset_lib.proofs.EntryAnswerLaws.{answers_append, answers_same, found_none, found_push, found_same}
 use Rattle.netset_lib.proofs.RouteLaws.{HasSome, ends_hold, entries_some}
 use Rattle.netset_lib.specs.EntryAnswers.{AreAnswers}
 use Rattle.netset_lib.specs.Routing.{HasEnds, HoldsEnds}
+use Rattle.netset_lib.specs.TextTables.{HasRefusedEntries}
 use Rattle.netset_routes.specs.AllRouteSteps.{AddsRoutes, AreLinesBy, AreRoutesBy, IsMissingBy}
 use Rattle.netset_routes.specs.AllRoutes.{AreEntryLines, AreHolders, HasNoHolder, IsAllRoutesAnswer, TextTable}
 use Rattle.netset_routes.specs.AllRoutes.{holder_line, holder_lines}
@@ -54,11 +56,12 @@ module _ (Has : Network → Type 0) (walked kept : List (Route Text)) (next : Ro
   -- the routes of the walk so far are longer than the next one
   all_longer : (r : Route Text) → Contains walked r → LongerFirst r next
   all_longer r (i, l, e) =
-      let at_i : get_or (walked ++ next ∷ []) i next ≡ r = grind (arith, e, l) in
-      let at_end : get_or (walked ++ next ∷ []) (length walked) next ≡ next = grind arith in
-      let pair = longest i (length walked) next l (grind arith) in
+      let at_i : get_or (walked ++ next ∷ []) i r ≡ r = get_or_append_left walked (next ∷ []) r i l ∙ e in
+      let at_end : get_or (walked ++ next ∷ []) (length walked) r ≡ next =
+      get_or_push walked next r (length walked) refl in
+      let pair = longest i (length walked) r l (omega (arith, length_push walked next)) in
       subst (λ s. LongerFirst s next) at_i
-      (subst (LongerFirst (get_or (walked ++ next ∷ []) i next)) at_end pair)
+      (subst (LongerFirst (get_or (walked ++ next ∷ []) i r)) at_end pair)
 
   -- the next one is kept
   pub one_kept : Has next.0 → HasKept Has (walked ++ next ∷ []) (kept ++ next ∷ [])
@@ -109,7 +112,7 @@ pub walk_pairs : (all walked : List (Route Text)) (next : Route Text) → AllPai
 walk_pairs all walked next pairs so_far inside is =
     front_pairs all (walked ++ next ∷ []) (length walked + 1) pairs
     (ap (λ z. z ++ next ∷ []) so_far ∙ ap (λ z. take (length walked) all ++ z ∷ []) is
-    ∙ sym (take_more (length walked) all next inside))
+    ∙ sym (take_more all (length walked) next inside))
 
 -- after the walk
 pub all_kept : (table : TextTable) (range : AddressRange) (walked kept : List (Route Text))
@@ -121,8 +124,8 @@ all_kept table range walked kept matches h = record {
     λ c.
         let (there, last) = (h.members r).0 c in
         let (old, first) = (matches.members r).0 there in
-        (old, first, last),
-    λ (c, first, last). (h.members r).1 ((matches.members r).1 (c, first), last),
+        (old, (first, last)),
+    λ (c, (first, last)). (h.members r).1 ((matches.members r).1 (c, first), last),
   );
 }
 
@@ -216,3 +219,22 @@ routes_answer grammar table list made refused h none =
       is_missing = found_same (IsMissingBy table) (HasNoHolder table) HasSome (missing_same table) made.missing
           h.entries some h.made.missing;
     }
+
+-- ---- refused lines
+
+-- the refused lines of a list
+pub refused_entries : (grammar : Grammar) (list : List ℕ) (IsMade : List ListEntry → Type 0) (refused : RefusedLines)
+    → IsMadeList grammar list IsMade refused → ¬ (refused.count ≡ 0)
+    → (refusals : List Refusal) × HasRefusedEntries grammar list refusals × AreRefused refused refusals
+refused_entries grammar list IsMade refused h some = (
+  h.refusals,
+  record { entries = h.entries; read = h.read; some = some_refused refused h.refusals h.kept some },
+  h.kept,
+)
+
+-- a list without refused lines
+pub only_entries : (grammar : Grammar) (list : List ℕ) (IsMade : List ListEntry → Type 0) (refused : RefusedLines)
+    → IsMadeList grammar list IsMade refused → refused.count ≡ 0
+    → (entries : List ListEntry) × IsListRead grammar 0 list entries []
+only_entries grammar list IsMade refused h none =
+    (h.entries, subst (IsListRead grammar 0 list h.entries) (none_refused refused h.refusals h.kept none) h.read)

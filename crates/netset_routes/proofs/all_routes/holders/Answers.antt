@@ -1,4 +1,6 @@
-use Rattle.std.proofs.Common.{◌≡◌, ◌∙◌, ◌++◌, ◌∷◌, [], ℕ, List, AllPairs, length, map, rules, sym, ap, subst}
+use Rattle.std.proofs.Common.{◌≡◌, ◌<◌, ◌∙◌, ◌++◌, ◌∷◌, [], ℕ, List, AllPairs, length, map, rules, sym, ap, subst}
+use Rattle.std.proofs.Common.{get_or, take}
+use Rattle.std.proofs.lemmas.Bool.{true≢false}
 use Rattle.std.proofs.lemmas.Iterator.Consumers.{YieldsList-from_first, YieldsList-turn, YieldsList-end}
 use Rattle.std.proofs.lemmas.Iterator.Consumers.{YieldsList-so_far}
 use Rattle.std.proofs.lemmas.List.{length-map, map-append}
@@ -79,7 +81,8 @@ loop-route-preserved c =
     (turn.1 ∙ ap (λ k. get_or all k (ip_route r)) (sym size)) in
     let kept = c.loop-route.holders.items in
     let lacks : ¬ (Has (ip_network r.now.0)) =
-    λ has. true≢false (sym (c.contains.ensures.1 (subst (InBlock (ip_network r.now.0)) (sym c.ends-first.ensures.last) has))
+    λ has. true≢false
+    (sym (c.contains.ensures.1 (subst (InBlock (ip_network r.now.0)) (sym c.ends-first.ensures.last) has))
     ∙ c.if-contains.false) in
     record {
       can_next = search rules;

@@ -11,6 +11,6 @@ abbrev pub invariant-loop-route : goal.invariant-loop-route
 invariant-loop-route l = record {
   can_next : (goal.iterator-loop-route).can_next l.route-iterator;
   is_finite : (goal.iterator-loop-route).is_finite l.route-iterator;
-  kept : HasKept (λ n. InBlock n (address_at (entry_range l.entry).family (entry_range l.entry).end))
+  kept : HasKept (λ n. InBlock n (address_at (entry_range l.fn.entry).family (entry_range l.fn.entry).end))
       (map ip_route l.yielded) (ip_routes l.holders.items);
 }

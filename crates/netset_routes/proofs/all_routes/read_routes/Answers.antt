@@ -1,3 +1,4 @@
+use Rattle.std.proofs.Common.{rules}
 use Rattle.ipnet_lists.proofs.ListTexts.{made_list}
 use Rattle.netset_routes.specs.AllRouteSteps.{AreRoutesBy}
 use Rattle.netset_routes.proofs.AllRouteLaws.{no_routes_made}
