@@ -1,5 +1,5 @@
 //! The command `route --all` of the program: all routes of each entry of a list.
-ghost use Rattle.std.specs.Prelude.{◌≡◌, ◌++◌, [], ⊤, not, List, ℕ, IfErr, IfOk, IfSome, OnOk, string_bytes};
+ghost use Rattle.std.specs.Prelude.{◌≡◌, ◌++◌, [], ⊤, false, not, List, ℕ, IfErr, IfOk, IfSome, OnOk, string_bytes};
 ghost use Rattle.std.specs.Io.KnownBytes.{Keeps};
 ghost use Rattle.ipnet_lists.specs.EntryOf.{entry_range};
 ghost use Rattle.ipnet_lists.specs.FoundEntry.{entry_of};
@@ -60,6 +60,19 @@ struct EntryRoutes {
     text: String,
     /// Whether an entry has no route.
     missing: bool,
+}
+
+impl EntryRoutes {
+    /// The lines of no entry.
+    fn new(alloc: Global) -> EntryRoutes
+        ensures text { string_bytes result.text ≡ [] }
+        ensures missing { result.missing ≡ false }
+    {
+        EntryRoutes {
+            text: String::new(alloc),
+            missing: false,
+        }
+    }
 }
 
 /// The routes of the table whose networks contain the first and the last address of the entry, the longest network
@@ -173,10 +186,7 @@ fn read_routes(
     ensures { IfOk result (λ r. IsMadeList grammar list.now (AreRoutesBy table.now.table r.routes) r.refused) }
 {
     let mut lines = LineReader::new(alloc, grammar);
-    let mut routes = EntryRoutes {
-        text: String::new(alloc),
-        missing: false,
-    };
+    let mut routes = EntryRoutes::new(alloc);
     lines.read(skip_mark(list), table, &mut routes)?;
     let LineReader { refused, .. } = lines;
     Ok(ReadRoutes { routes, refused })

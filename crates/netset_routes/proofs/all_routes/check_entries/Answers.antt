@@ -1,4 +1,4 @@
-use Rattle.std.proofs.Common.{⊤, tt}
+use Rattle.std.specs.Prelude.{⊤}
 use Rattle.ipnet_lists.proofs.ListTexts.{made_list}
 use Rattle.netset_routes.proofs.AllRouteLaws.{only_entries, refused_entries}
 use Rattle.netset_routes.proofs.all_routes.check_entries.Goals as goal
