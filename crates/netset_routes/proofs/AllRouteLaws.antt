@@ -1,7 +1,7 @@
 -- The routes of a table whose networks contain an entry, and the lines of the entries of a list.
-use Rattle.std.proofs.Common.{◌≡◌, ◌<◌, ◌+◌, ◌⊎◌, ◌↔◌, ◌∷◌, ◌++◌, [], ℕ, Bool, true, false, List, take, drop}
-use Rattle.std.proofs.Common.{length, map, get_or, Contains, AllPairs, inl, inr, refl, sym, ap, ◌∙◌, subst, arith}
-use Rattle.std.proofs.Common.{append-nil, append_assoc, string_bytes}
+use Rattle.std.proofs.Common.{◌≡◌, ◌<◌, ◌+◌, ◌↔◌, ◌∷◌, ◌++◌, [], ℕ, false, List, take}
+use Rattle.std.proofs.Common.{length, get_or, Contains, AllPairs, inl, inr, refl, sym, ap, ◌∙◌, subst, arith}
+use Rattle.std.proofs.Common.{append-nil, string_bytes}
 use Rattle.std.proofs.lemmas.List.{flat_map_more, get_or-take, get_or_append_left, get_or_push, length-take}
 use Rattle.std.proofs.lemmas.List.{length_push, map-append, take_more}
 use Rattle.std.proofs.lemmas.List.Elements.{Contains-append_left, Contains-push, Contains-push_cases}
@@ -9,7 +9,7 @@ use Rattle.std.proofs.lemmas.List.Quantifiers.{all_pairs_push}
 use Rattle.std.specs.Borrow.{Bor}
 use Rattle.std.specs.List.{flat_map}
 use Rattle.ipnet_base.proofs.ListLaws.{at_place, contains_nil}
-use Rattle.ipnet_base.specs.Address.{Address, address_at}
+use Rattle.ipnet_base.specs.Address.{address_at}
 use Rattle.ipnet_base.specs.Network.{InBlock, Network}
 use Rattle.ipnet_base.specs.Ranges.{AddressRange}
 use Rattle.ipnet.specs.NetworkOf.{ip_network}
@@ -19,7 +19,7 @@ use Rattle.ipnet_lists.proofs.RefusalLaws.{none_refused, some_refused}
 use Rattle.ipnet_lists.specs.ListTexts.{IsMadeList}
 use Rattle.ipnet_lists.specs.Lists.{ListEntry, Refusal, IsListRead}
 use Rattle.ipnet_lists.specs.RefusedLines.{AreRefused, RefusedLines}
-use Rattle.ipnet_routes.specs.Routes.{AreMatches, Route, ip_route, ip_routes}
+use Rattle.ipnet_routes.specs.Routes.{AreMatches, Route, ip_routes}
 use Rattle.ipnet_routes.specs.RoutesOf.{routes_of}
 use Rattle.netset_lib.proofs.EntryAnswerLaws.{answers_append, answers_same, found_none, found_push, found_same}
 use Rattle.netset_lib.proofs.RouteLaws.{HasSome, ends_hold, entries_some}

@@ -1,4 +1,4 @@
-use Rattle.std.proofs.Common.{◌∙◌, ◌==◌, ap, ◌++◌, append-nil, length, string_bytes, sym, take_all}
+use Rattle.std.proofs.Common.{◌∙◌, ◌==◌, ap, ◌++◌, append-nil, string_bytes, sym, take_all}
 use Rattle.std.proofs.lemmas.Bool.{true≢false}
 use Rattle.std.proofs.lemmas.List.{length-map}
 use Rattle.ipnet.specs.NetworkOf.{ip_network}
