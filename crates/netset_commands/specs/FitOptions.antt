@@ -50,8 +50,8 @@ never_names (Some name) = name ∷ []
 
 -- These are the names of the lists of `fit`: first the list to avoid, if there is one, and then the others.
 -- Example: `n`, `a`, `b` of `fit --never n a b`, `-` of `fit`, and `a`, `-e` of `fit a -e ::1`.
-pub record AreFitNames (matches : ArgMatches) (names : Names) : Type 0 where
+pub record AreFitNames (matches : ArgMatches) (all : Names) : Type 0 where
   pub lists : Names
   pub are : AreNamesOf matches 0 lists
-  pub names : map (λ name. name.now) names
+  pub names : map (λ name. name.now) all
       ≡ never_names (first_value (found_of matches) (codes "never")) ++ map (λ name. name.now) lists

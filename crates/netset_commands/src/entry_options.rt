@@ -35,18 +35,12 @@ pub const ENTRY_OR_OTHER: Argument = Argument {
     ..ENTRY_OPTION
 };
 
-/// The entries, in order.
-fn given_entries<'m, 'a>(matches: &'m ArgMatches<'a>) -> &'m [&'a str]
-    ensures { map (λ entry. entry.now) result.now ≡ entries_of matches.now }
-{
-    matches.get_strs(ENTRY).unwrap_or(&[])
-}
-
 /// Whether there are entries.
 pub fn has_entries(matches: &ArgMatches) -> bool
     ensures { IsTrue result ↔ (0 < length (entries_of matches.now)) }
 {
-    !given_entries(matches).is_empty()
+    let entries = matches.get_strs(ENTRY).unwrap_or(&[]);
+    !entries.is_empty()
 }
 
 /// The name of the last list, which has this id: "-e" if there are entries; or else the name that is given, or "-" for
@@ -94,7 +88,7 @@ fn entry_text(alloc: Global, matches: &ArgMatches) -> Result<Option<String>, Arg
     ensures text { IfOk result (IsEntryText (entries_of matches.now)) }
     ensures failed { IfErr result (IsEntryFailure (entries_of matches.now)) }
 {
-    let entries = given_entries(matches);
+    let entries = matches.get_strs(ENTRY).unwrap_or(&[]);
     if entries.is_empty() {
         return Ok(None);
     }

@@ -24,7 +24,8 @@ returns c =
       | then-is_empty w ↦ ap (λ m. string_bytes m.text) w.made-is
       | else-is_empty w ↦ ap (λ m. string_bytes m.text) w.made-is
     ] in
-    let missing : (IsMissingBy table e × (made.missing ≡ true)) ⊎ ((¬ (IsMissingBy table e)) × (made.missing ≡ old.missing)) =
+    let missing : (IsMissingBy table e × (made.missing ≡ true))
+    ⊎ ((¬ (IsMissingBy table e)) × (made.missing ≡ old.missing)) =
     elim c.if-is_empty.branch [
       | then-is_empty w ↦
           inl (none_missing table e (ip_routes routes) held (size ∙ search rules), ap (λ m. m.missing) w.made-is)
