@@ -3,3 +3,4 @@ pub mod CommandLaws
 pub mod MapLaws
 pub mod WordLaws
 pub mod OnceLaws
+pub mod EntryLaws

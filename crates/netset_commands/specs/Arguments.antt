@@ -1,4 +1,4 @@
--- The words of a command line: its flags, and the names of its lists.
+-- The words of a command line: its flags, the names of its lists, and the entries of `-e`.
 use Rattle.std.specs.Prelude.{◌≡◌, ◌≤◌, ◌<◌, ◌⊎◌, ◌↔◌, ℕ, Bool, true, false, List, [], ◌∷◌, ◌++◌, length, codes}
 use Rattle.std.specs.Prelude.{Some, None, option_map, unwrap_or, count_by}
 use Rattle.std.specs.Char.{is_ascii_control}
@@ -8,7 +8,7 @@ use Rattle.clap.specs.declared.parser.matches.ArgMatches.{ArgMatches}
 use Rattle.clap.specs.Matches.{found_of, first_value, matched_of, one_text, raw_values}
 use Rattle.ipnet_rules.specs.declared.rules.Action.{Action}
 use Rattle.ipnet_rules.specs.declared.rules.Action.TheVariants.{Permit}
-use Rattle.netset_files.specs.Files.{standard_input}
+use Rattle.netset_files.specs.Files.{entry_list, standard_input}
 use Rattle.netset_files.specs.declared.lists.Empties.{Empties}
 use Rattle.netset_files.specs.declared.lists.Empties.TheVariants.{Report, Allow, Refuse}
 use Rattle.ipnet_lists.specs.Names.{Names}
@@ -31,11 +31,6 @@ pub record IsFlag (matches : ArgMatches) (id : List ℕ) (flag : Bool) : Type 0 
 -- Example: of `changes a b` it is `a` for the id `first`, and `b` for the id `others`.
 abbrev pub list_name : ArgMatches → List ℕ → List ℕ
 list_name matches id = unwrap_or (first_value (found_of matches) id) standard_input
-
--- The names of any number of lists: those that are given, or `-` for standard input.
-abbrev pub any_names : ArgMatches → List (List ℕ)
-any_names matches =
-    unwrap_or (option_map raw_values (matched_of (found_of matches) (codes "first"))) (standard_input ∷ [])
 
 -- The choice for files without an entry, by the flags `--no-empty` and `--allow-empty`. Without a flag they are
 -- reported.
@@ -61,12 +56,24 @@ most_before_input (Ask Compare grammar) = 0
 most_before_input (Ask (Filter side) grammar) = 1
 most_before_input (Ask Route grammar) = 1
 
--- The names of the lists of a call: those that are given, and then `-` for a list that is not.
--- Example: `filter a` has the names `a`, `-`; `union` has `-`; `union a` has `a`.
-abbrev pub AreListNames : Work → List (List ℕ) → List (List ℕ) → Type 0
-AreListNames work given names =
-    ((length given ≤ most_before_input work) × (names ≡ given ++ standard_input ∷ []))
-    ⊎ ((most_before_input work < length given) × (names ≡ given))
+-- The entries that the options `-e` name, in order. Example: `10.1.2.3`, `::1` of `route t -e 10.1.2.3 -e ::1`.
+abbrev pub entries_of : ArgMatches → List (List ℕ)
+entries_of matches = values_of matches (codes "entry")
+
+-- The names of the lists of a command: those that are given, and then the list of entries. If there are no entries and
+-- at most `most` lists are given, standard input is the last list.
+-- Example: `filter a` has the names `a`, `-`; `filter a -e ::1` has `a`, `-e`; `union` has `-`; `union a` has `a`.
+abbrev pub AreListNames : ℕ → (given entries names : List (List ℕ)) → Type 0
+AreListNames most given entries names =
+    ((0 < length entries) × (names ≡ given ++ entry_list ∷ []))
+    ⊎ ((length entries ≡ 0) × (length given ≤ most) × (names ≡ given ++ standard_input ∷ []))
+    ⊎ ((length entries ≡ 0) × (most < length given) × (names ≡ given))
+
+-- The name of the last list of a command, which has this id: the list of entries; or else what is given, or `-` for
+-- standard input. Example: for the id `others`, `b` of `changes a b`, and `-e` of `changes a -e ::1`.
+abbrev pub IsLastName : ArgMatches → List ℕ → List ℕ → Type 0
+IsLastName matches id name = ((0 < length (entries_of matches)) × (name ≡ entry_list))
+    ⊎ ((length (entries_of matches) ≡ 0) × (name ≡ list_name matches id))
 
 -- The addresses that no rule matches are permitted if and only if the value of `--default` is `permit`.
 abbrev pub IsDefault : ArgMatches → Action → Type 0

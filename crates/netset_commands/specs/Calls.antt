@@ -1,10 +1,11 @@
 -- The operation or the query that a command line asks for, with its lists.
 use Rattle.std.specs.Prelude.{◌≡◌, ◌≢◌, ◌<◌, ◌++◌, ℕ, true, false, List, map, codes}
 use Rattle.clap.specs.declared.parser.matches.ArgMatches.{ArgMatches}
-use Rattle.netset_commands.specs.Arguments.{AreListNames, IsFlag, have_control, input_count, list_name, values_of}
+use Rattle.netset_commands.specs.Arguments.{AreListNames, IsFlag, IsLastName, entries_of, have_control, input_count}
+use Rattle.netset_commands.specs.Arguments.{list_name, most_before_input, values_of}
 use Rattle.netset_commands.specs.declared.arguments.ArgumentFailure.{ArgumentFailure}
 use Rattle.netset_commands.specs.declared.arguments.ArgumentFailure.TheVariants.{InputTwice, ControlCharacter}
-use Rattle.netset_commands.specs.declared.arguments.ArgumentFailure.TheVariants.{NoCommand, Memory}
+use Rattle.netset_commands.specs.declared.arguments.ArgumentFailure.TheVariants.{NoCommand, LineBreak, Memory}
 use Rattle.netset_commands.specs.declared.arguments.Call.{Call}
 use Rattle.netset_commands.specs.declared.arguments.TwoNames.{TwoNames}
 use Rattle.netset_lib.specs.Commands.{name_of, work_of}
@@ -50,23 +51,26 @@ abbrev pub IsNameFailure : Work → Names → ArgumentFailure → Type 0
 IsNameFailure work names InputTwice = 1 < input_count names
 IsNameFailure work names ControlCharacter = PrintsNames work × (have_control names ≡ true)
 IsNameFailure work names NoCommand = ⊥
+IsNameFailure work names (LineBreak number) = ⊥
 IsNameFailure work names Memory = ⊥
 
 -- These are the names of the first list of a command line, and of the other.
--- Example: `a` and `b` of `changes a b`.
+-- Example: `a` and `b` of `changes a b`, and `a` and `-e` of `changes a -e ::1`.
 pub record AreTwoNames (matches : ArgMatches) (names : TwoNames) : Type 0 where
   pub first : names.first.now ≡ list_name matches (codes "first")
-  pub other : names.other.now ≡ list_name matches (codes "others")
+  pub other : IsLastName matches (codes "others") names.other.now
 
--- These are the names of the lists of a command line that asks for this work.
-abbrev pub AreNamesOf : ArgMatches → Work → Names → Type 0
-AreNamesOf matches work names = AreListNames work
-    (values_of matches (codes "first") ++ values_of matches (codes "others")) (map (λ name. name.now) names)
+-- These are the names of the lists of a command line, which reads standard input if at most `most` lists are given, and
+-- no entries.
+abbrev pub AreNamesOf : ArgMatches → (most : ℕ) → Names → Type 0
+AreNamesOf matches most names = AreListNames most
+    (values_of matches (codes "first") ++ values_of matches (codes "others")) (entries_of matches)
+    (map (λ name. name.now) names)
 
 -- The call is what the command of this name asks for, under these arguments.
 pub record IsCall (name : List ℕ) (matches : ArgMatches) (call : Call) : Type 0 where
   pub work : IsWorkNamed name matches call.work
-  pub names : AreNamesOf matches call.work call.names.items
+  pub names : AreNamesOf matches (most_before_input call.work) call.names.items
   pub good : AreGoodNames call.work call.names.items
   pub streamed : IsFlag matches (codes "stream") call.is_streamed
 
@@ -75,7 +79,7 @@ pub record HaveBadNames (name : List ℕ) (matches : ArgMatches) (failure : Argu
   pub work : Work
   pub named : IsWorkNamed name matches work
   pub names : Names
-  pub are : AreNamesOf matches work names
+  pub are : AreNamesOf matches (most_before_input work) names
   pub bad : IsNameFailure work names failure
 
 -- Why there is no such call. When memory runs out is not specified.
@@ -83,4 +87,5 @@ abbrev pub IsCallFailure : List ℕ → ArgMatches → ArgumentFailure → Type 
 IsCallFailure name matches NoCommand = (command : ListCommand) → name ≢ name_of command
 IsCallFailure name matches InputTwice = HaveBadNames name matches InputTwice
 IsCallFailure name matches ControlCharacter = HaveBadNames name matches ControlCharacter
+IsCallFailure name matches (LineBreak number) = ⊥
 IsCallFailure name matches Memory = Unit {0}

@@ -1,11 +1,12 @@
 -- The options of `fit`: its limits, and its lists.
-use Rattle.std.specs.Prelude.{◌≡◌, ◌≢◌, ◌++◌, ◌∷◌, ◌↔◌, ℕ, List, [], Option, Some, None, codes, IsTrue}
+use Rattle.std.specs.Prelude.{◌≡◌, ◌≢◌, ◌++◌, ◌∷◌, ◌↔◌, ℕ, List, [], Option, Some, None, codes, map, IsTrue}
 use Rattle.std.specs.Prelude.{unwrap_or}
 use Rattle.clap.specs.declared.parser.matches.ArgMatches.{ArgMatches}
 use Rattle.clap.specs.Matches.{found_of, first_value}
 use Rattle.ipnet.specs.Numerals.{IsDecimal}
 use Rattle.ipnet.specs.declared.parser.Grammar.TheVariants.{Strict}
-use Rattle.netset_commands.specs.Arguments.{any_names}
+use Rattle.netset_commands.specs.Calls.{AreNamesOf}
+use Rattle.ipnet_lists.specs.Names.{Names}
 use Rattle.netset_entries.specs.declared.fit.FitLimit.{FitLimit}
 use Rattle.netset_entries.specs.declared.fit.FitLimit.TheVariants.{Networks, Spare}
 use Rattle.netset_entries.specs.declared.fit.FitRequest.{FitRequest}
@@ -47,7 +48,10 @@ abbrev pub never_names : Option (List ℕ) → List (List ℕ)
 never_names None = []
 never_names (Some name) = name ∷ []
 
--- The names of the lists of `fit`: first the list to avoid, if there is one, and then the others.
--- Example: `n`, `a`, `b` of `fit --never n a b`, and `-` of `fit`.
-abbrev pub fit_names : ArgMatches → List (List ℕ)
-fit_names matches = never_names (first_value (found_of matches) (codes "never")) ++ any_names matches
+-- These are the names of the lists of `fit`: first the list to avoid, if there is one, and then the others.
+-- Example: `n`, `a`, `b` of `fit --never n a b`, `-` of `fit`, and `a`, `-e` of `fit a -e ::1`.
+pub record AreFitNames (matches : ArgMatches) (all : Names) : Type 0 where
+  pub lists : Names
+  pub are : AreNamesOf matches 0 lists
+  pub names : map (λ name. name.now) all
+      ≡ never_names (first_value (found_of matches) (codes "never")) ++ map (λ name. name.now) lists

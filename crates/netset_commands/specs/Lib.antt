@@ -2,6 +2,7 @@
 pub mod Arguments
 pub mod Calls
 pub mod CommandLines
+pub mod EntryOptions
 pub mod FitOptions
 pub mod MapTitles
 pub mod Words

@@ -4,16 +4,17 @@ ghost use Rattle.std.specs.Prelude.{OnOk, IsOk, length};
 ghost use Rattle.std.specs.Char.{is_ascii_control};
 ghost use Rattle.std.specs.List.{list_any};
 ghost use Rattle.netset_commands.specs.Arguments.{values_of, list_name, IsFlag};
-ghost use Rattle.netset_commands.specs.Arguments.{AreListNames, empties_of, input_count, have_control};
+ghost use Rattle.netset_commands.specs.Arguments.{empties_of, entries_of, input_count, have_control};
 ghost use Rattle.netset_commands.specs.Arguments.{most_before_input};
-ghost use Rattle.netset_commands.specs.Calls.{IsCall, IsCallFailure, IsNameFailure, AreGoodNames, PrintsNames};
-ghost use Rattle.netset_commands.specs.Calls.{AreFlags, AreTwoNames};
+ghost use Rattle.netset_commands.specs.Calls.{IsCall, IsCallFailure, IsNameFailure, AreGoodNames, AreNamesOf};
+ghost use Rattle.netset_commands.specs.Calls.{AreFlags, AreTwoNames, PrintsNames};
 ghost use Rattle.netset_commands.specs.declared.arguments.ArgumentFailure.TheVariants.{InputTwice};
 ghost use Rattle.netset_files.specs.Files.{standard_input};
 
+use crate::entry_options::{has_entries, last_name};
 use crate::table::{ARGUMENT, Argument, Form};
 use clap::ArgMatches;
-use netset_files::{Empties, Reports, STANDARD_INPUT};
+use netset_files::{ENTRY_LIST, Empties, Reports, STANDARD_INPUT};
 use netset_lib::{Flags, ListCommand, Query, Work};
 use std::alloc::{AllocError, Global};
 use std::env;
@@ -127,7 +128,7 @@ const MOST_SHOWN: usize = 100;
 pub struct Call<'a> {
     /// The operation or the query.
     pub work: Work,
-    /// The names of the lists, in order. At most one of them is standard input.
+    /// The names of the lists, in order; the list of entries is the last. At most one of them is standard input.
     pub names: Vec<&'a str>,
     /// Whether the answers are written while the second list is read.
     pub is_streamed: bool,
@@ -142,6 +143,9 @@ pub enum ArgumentFailure {
     /// The name of a list has a control character, such as a tab, which would break a line of the answer.
     #[error("the name of a list has a control character")]
     ControlCharacter,
+    /// The entry with this number, from 1, has a line break.
+    #[error("-e: {0}: a line break in the entry")]
+    LineBreak(usize),
     /// No command has this name.
     #[error("no such command")]
     NoCommand,
@@ -283,33 +287,49 @@ fn push_values<'a>(
     }
 }
 
-/// Whether the work also reads standard input if this number of lists is named: if none is, and if only the first list
-/// of a filter or a route is.
-fn reads_more(work: Work, named: usize) -> bool
-    ensures { IsTrue result ↔ (named ≤ most_before_input work) }
+/// The greatest number of named lists with which the work also reads standard input: none, or the first list of a
+/// filter or a route.
+fn most_before_input(work: Work) -> usize
+    ensures { result ≡ most_before_input work }
 {
     match work {
-        Work::Ask(Query::Filter(_) | Query::Route, _) => named <= 1,
-        Work::Ask(Query::Count | Query::Compare, _) | Work::Combine(_) => named == 0,
+        Work::Ask(Query::Filter(_) | Query::Route, _) => 1,
+        Work::Ask(Query::Count | Query::Compare, _) | Work::Combine(_) => 0,
     }
 }
 
-/// The names of the lists, in order. Standard input is the list that is not named: the only one, or the second of
-/// `filter` and `route`.
-fn names_of<'a>(
+/// The names of the lists, in order. The list of entries is the last. Without entries, if at most `most` lists are
+/// named, standard input is the last.
+pub fn names_of<'a>(
     alloc: Global,
-    work: Work,
     matches: &ArgMatches<'a>,
+    most: usize,
 ) -> Result<Vec<&'a str>, AllocError>
-    ensures { IfOk result (λ names. AreListNames work
-        (values_of matches.now (codes "first") ++ values_of matches.now (codes "others"))
-        (map (λ name. name.now) names.items)) }
+    ensures { IfOk result (λ names. AreNamesOf matches.now most names.items) }
 {
     let mut names = Vec::new(alloc);
     push_values(&mut names, matches, FIRST)?;
     push_values(&mut names, matches, OTHERS)?;
-    if reads_more(work, names.len()) {
+    if has_entries(matches) {
+        names.push(ENTRY_LIST)?;
+    } else if names.len() <= most {
         names.push(STANDARD_INPUT)?;
+    }
+    Ok(names)
+}
+
+/// Returns the names of the lists of a command that reads standard input if no list is named, and there are no entries.
+/// If memory runs out, or if standard input is named twice, it is reported, and the error is the exit status.
+pub fn names_or_report<'a>(rt: &HostRuntime, matches: &ArgMatches<'a>) -> Result<Vec<&'a str>, u8>
+    ensures names { IfOk result (λ names. AreNamesOf matches.now 0 names.items) }
+    ensures once { IfOk result (λ names. ¬ (1 < input_count names.items)) }
+    ensures failed { IfErr result (λ status. status ≡ 2) }
+{
+    let Ok(names) = names_of(rt.alloc(), matches, 0) else {
+        return Err(report_argument_failure(rt, ArgumentFailure::Memory));
+    };
+    if reads_input_twice(names.as_slice()) {
+        return Err(report_argument_failure(rt, ArgumentFailure::InputTwice));
     }
     Ok(names)
 }
@@ -346,11 +366,11 @@ impl<'a> TwoNames<'a> {
 fn names_of_two<'a>(matches: &ArgMatches<'a>) -> Result<TwoNames<'a>, ArgumentFailure>
     ensures named { IfOk result (AreTwoNames matches.now) }
     ensures twice { IsErr result ↔ ((list_name matches.now (codes "first") ≡ standard_input)
-        × (list_name matches.now (codes "others") ≡ standard_input)) }
+        × (length (entries_of matches.now) ≡ 0) × (list_name matches.now (codes "others") ≡ standard_input)) }
     ensures failed { IfErr result (λ failure. failure ≡ InputTwice) }
 {
     let first = name_of_list(matches, FIRST);
-    let other = name_of_list(matches, OTHERS);
+    let other = last_name(matches, OTHERS);
     if first == STANDARD_INPUT && other == STANDARD_INPUT {
         return Err(ArgumentFailure::InputTwice);
     }
@@ -436,7 +456,7 @@ pub fn call_of<'a>(
         return Err(ArgumentFailure::NoCommand);
     };
     let work = command.work(flags_of(matches));
-    let Ok(names) = names_of(alloc, work, matches) else {
+    let Ok(names) = names_of(alloc, matches, most_before_input(work)) else {
         return Err(ArgumentFailure::Memory);
     };
     check_names(work, names.as_slice())?;

@@ -8,15 +8,16 @@ ghost use Rattle.netset_commands.specs.Words.{IsFrameOf, IsPicturedWork, mark_ch
 ghost use Rattle.netset_pictures.specs.BarAnswers.{width_text};
 
 use crate::arguments::{
-    ANY_LISTS, ArgumentFailure, FIRST, SHARED, flags_of, is_set, reads_input_twice,
+    ANY_LISTS, ArgumentFailure, SHARED, flags_of, is_set, names_or_report, reads_input_twice,
     report_argument_failure,
 };
+use crate::entry_options::ENTRY_OPTION;
 use crate::listing::network_or_report;
-use crate::reading::{comparing_work, reading_work, session_of};
+use crate::reading::{comparing_work, reading_work, session_with_entries};
 use crate::table::{ARGUMENT, Argument, Form, Subcommand};
 use clap::ArgMatches;
 use ipnet_bars::{BarForm, Frame, Marks, RowWidth};
-use netset_files::{Reports, STANDARD_INPUT, Writers};
+use netset_files::{Reports, Writers};
 use netset_lib::{Session, Work, run_text};
 use netset_pictures::{
     BarCommand, BarRequest, ComparisonBarCommand, LocaleValues, MarkChoice, chosen_marks,
@@ -124,7 +125,14 @@ pub const BAR_COMMAND: Subcommand = Subcommand {
     arguments: &[
         SHARED,
         FRAME,
-        &[ASCII_FLAG, UTF8_FLAG, WIDTH_OPTION, COMPARE_FLAG, ANY_LISTS],
+        &[
+            ASCII_FLAG,
+            UTF8_FLAG,
+            WIDTH_OPTION,
+            COMPARE_FLAG,
+            ANY_LISTS,
+            ENTRY_OPTION,
+        ],
     ],
 };
 
@@ -281,7 +289,7 @@ fn read_pictured(
     ensures { IfErr result (λ status. status ≡ 2) }
 {
     let work = pictured_work(rt, matches, names)?;
-    session_of(rt, work, names, reports)
+    session_with_entries(rt, matches, work, names, reports)
 }
 
 /// Reads the arguments and the lists, prints the bar, and returns the exit status.
@@ -293,7 +301,11 @@ pub fn draw_bar(rt: &HostRuntime, matches: &ArgMatches, writers: &mut Writers<'_
         Ok(request) => request,
         Err(status) => return status,
     };
-    let names = matches.get_strs(FIRST).unwrap_or(&[STANDARD_INPUT]);
+    let names = match names_or_report(rt, matches) {
+        Ok(names) => names,
+        Err(status) => return status,
+    };
+    let names = names.as_slice();
     let session = match read_pictured(rt, matches, names, writers.reports) {
         Ok(session) => session,
         Err(status) => return status,

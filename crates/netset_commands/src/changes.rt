@@ -2,7 +2,8 @@
 ghost use Rattle.std.specs.Prelude.{◌≤◌};
 
 use crate::arguments::{FIRST_LIST, OTHER_LIST, SHARED, two_or_report};
-use crate::reading::{comparing_work, session_of};
+use crate::entry_options::ENTRY_OR_OTHER;
+use crate::reading::{comparing_work, session_with_entries};
 use crate::table::{Argument, Form, Subcommand};
 use clap::ArgMatches;
 use netset_files::Writers;
@@ -28,6 +29,7 @@ pub const CHANGES_COMMAND: Subcommand = Subcommand {
                 help: "The list after",
                 ..OTHER_LIST
             },
+            ENTRY_OR_OTHER,
         ],
     ],
 };
@@ -41,7 +43,13 @@ pub fn print_changes(rt: &HostRuntime, matches: &ArgMatches, writers: &mut Write
         Ok(names) => names.in_order(),
         Err(status) => return status,
     };
-    match session_of(rt, comparing_work(matches), &names, writers.reports) {
+    match session_with_entries(
+        rt,
+        matches,
+        comparing_work(matches),
+        &names,
+        writers.reports,
+    ) {
         Ok(session) => {
             let (out, faults) = (&mut writers.answer, &mut writers.faults);
             run_text(ChangesCommand { session }, &names, out, faults)

@@ -10,6 +10,7 @@ use crate::arguments::{ANY_LISTS, FIRST_LIST, NO_EMPTY, ONE_LIST, OTHER_LIST, OT
 use crate::bar::BAR_COMMAND;
 use crate::changes::CHANGES_COMMAND;
 use crate::entries::{OVERLAPS_COMMAND, REDUNDANT_COMMAND, SUPERNET_COMMAND};
+use crate::entry_options::{ENTRY, ENTRY_OPTION, ENTRY_OR_FIRST, ENTRY_OR_OTHER};
 use crate::extract::EXTRACT_COMMAND;
 use crate::find::FIND_COMMAND;
 use crate::fit::FIT_COMMAND;
@@ -25,8 +26,8 @@ use crate::rules::{PERMITTED_COMMAND, UNREACHED_COMMAND};
 use crate::select::SELECT_COMMAND;
 use crate::shorten::SHORTEN_COMMAND;
 use crate::table::{ARGUMENT, Argument, Form, Subcommand, command_of};
-use crate::texts::TEXT_FLAG;
-use crate::whole_lines::LINE_FLAGS;
+use crate::texts::{ALL_FLAG, TEXT_FLAG};
+use crate::whole_lines::{LINE_FLAGS, LINES};
 use clap::{ArgMatches, Command, Error};
 use std::alloc::{AllocError, Global};
 
@@ -55,8 +56,11 @@ const TWO_LISTS_AND_MORE: &[Argument] = &[
     Argument {
         form: Form::Words("FILE"),
         help: "The other lists",
+        is_required: false,
+        unless: &[ENTRY],
         ..OTHER_LIST
     },
+    ENTRY_OPTION,
 ];
 
 /// The arguments of an operation on at least two lists.
@@ -77,12 +81,16 @@ const COMPLEMENT_ARGUMENTS: &[Argument] = &[
         ..ARGUMENT
     },
     ONE_LIST,
+    ENTRY_OR_FIRST,
 ];
+
+/// The name of the flag by which the answers are written while the list is read.
+const STREAM: &str = "stream";
 
 /// The flag by which the answers are written while the list is read.
 const STREAM_FLAG: Argument = Argument {
-    id: "stream",
-    form: Form::Flag("stream"),
+    id: STREAM,
+    form: Form::Flag(STREAM),
     help: "Print each line as soon as it is known; a bad line is reported and left out, with status 2",
     conflicts: &[NO_EMPTY],
     ..ARGUMENT
@@ -108,12 +116,17 @@ const FILTER_ARGUMENTS: &[Argument] = &[
         help: "The list to filter; standard input if it is omitted",
         ..ARGUMENT
     },
+    Argument {
+        conflicts: &[OTHERS, STREAM, LINES],
+        ..ENTRY_OPTION
+    },
 ];
 
 /// The stream of a route, its texts, and its lists.
 const ROUTE_ARGUMENTS: &[Argument] = &[
     STREAM_FLAG,
     TEXT_FLAG,
+    ALL_FLAG,
     Argument {
         form: Form::Word("TABLE"),
         help: "The list of networks to choose from",
@@ -125,6 +138,10 @@ const ROUTE_ARGUMENTS: &[Argument] = &[
         help: "The list of entries to look up; standard input if it is omitted",
         ..ARGUMENT
     },
+    Argument {
+        conflicts: &[OTHERS, STREAM],
+        ..ENTRY_OPTION
+    },
 ];
 
 /// The commands that combine lists into a set.
@@ -132,7 +149,7 @@ const OPERATIONS: &[Subcommand] = &[
     Subcommand {
         name: UNION,
         about: "The addresses of all lists",
-        arguments: &[SHARED, ANSWER_FORM, &[ANY_LISTS]],
+        arguments: &[SHARED, ANSWER_FORM, &[ANY_LISTS, ENTRY_OPTION]],
     },
     Subcommand {
         name: INTERSECTION,
@@ -147,7 +164,11 @@ const OPERATIONS: &[Subcommand] = &[
     Subcommand {
         name: SYMMETRIC_DIFFERENCE,
         about: "The addresses that are in exactly one of two lists",
-        arguments: &[SHARED, ANSWER_FORM, &[FIRST_LIST, OTHER_LIST]],
+        arguments: &[
+            SHARED,
+            ANSWER_FORM,
+            &[FIRST_LIST, OTHER_LIST, ENTRY_OR_OTHER],
+        ],
     },
     Subcommand {
         name: COMPLEMENT,
@@ -161,7 +182,7 @@ const QUERIES: &[Subcommand] = &[
     Subcommand {
         name: COUNT,
         about: "For each list its name, and how many IPv4 and IPv6 addresses it has, with tabs between; then the total",
-        arguments: &[SHARED, &[LENGTHS_FLAG, ANY_LISTS]],
+        arguments: &[SHARED, &[LENGTHS_FLAG, ANY_LISTS, ENTRY_OPTION]],
     },
     Subcommand {
         name: COMPARE,

@@ -1,10 +1,11 @@
 //! The commands about the entries of lists: their arguments, and their runs.
-ghost use Rattle.std.specs.Prelude.{◌≤◌};
+ghost use Rattle.std.specs.Prelude.{◌≢◌, ◌≤◌, ◌<◌, ◌⊎◌, ◌↔◌, None, codes, length, IsTrue};
+ghost use Rattle.clap.specs.Matches.{found_of, first_value};
+ghost use Rattle.netset_commands.specs.Arguments.{entries_of};
 
-use crate::arguments::{
-    FIRST, ONE_LIST, OTHER_LIST, OTHERS, SHARED, flags_of, name_of_list, two_or_report,
-};
-use crate::reading::{reading_work, session_of};
+use crate::arguments::{FIRST, ONE_LIST, OTHER_LIST, OTHERS, SHARED, flags_of, two_or_report};
+use crate::entry_options::{ENTRY_OR_FIRST, ENTRY_OR_OTHER, has_entries, last_name};
+use crate::reading::{last_bytes, reading_work, session_with_entries};
 use crate::table::{Argument, Subcommand};
 use clap::ArgMatches;
 use netset_entries::{OverlapsCommand, RedundantCommand, SupernetCommand};
@@ -22,14 +23,14 @@ pub const OVERLAPS: &str = "overlaps";
 pub const SUPERNET_COMMAND: Subcommand = Subcommand {
     name: SUPERNET,
     about: "The smallest network that contains all addresses of the list, for each address family that occurs in it",
-    arguments: &[SHARED, &[ONE_LIST]],
+    arguments: &[SHARED, &[ONE_LIST, ENTRY_OR_FIRST]],
 };
 
 /// The command `redundant`.
 pub const REDUNDANT_COMMAND: Subcommand = Subcommand {
     name: REDUNDANT,
     about: "The entries that the others make unnecessary, and the fewest that cover each; status 1 if there are any",
-    arguments: &[SHARED, &[ONE_LIST]],
+    arguments: &[SHARED, &[ONE_LIST, ENTRY_OR_FIRST]],
 };
 
 /// The command `overlaps`.
@@ -45,6 +46,7 @@ pub const OVERLAPS_COMMAND: Subcommand = Subcommand {
                 is_required: false,
                 ..OTHER_LIST
             },
+            ENTRY_OR_OTHER,
         ],
     ],
 };
@@ -54,8 +56,8 @@ pub const OVERLAPS_COMMAND: Subcommand = Subcommand {
 pub fn print_supernet(rt: &HostRuntime, matches: &ArgMatches, writers: &mut Writers<'_>) -> u8
     ensures { result ≤ 2 }
 {
-    let names = [name_of_list(matches, FIRST)];
-    match session_of(rt, reading_work(matches), &names, writers.reports) {
+    let names = [last_name(matches, FIRST)];
+    match session_with_entries(rt, matches, reading_work(matches), &names, writers.reports) {
         Ok(session) => {
             let (out, faults) = (&mut writers.answer, &mut writers.faults);
             run_text(SupernetCommand { session }, &names, out, faults)
@@ -69,8 +71,8 @@ pub fn print_supernet(rt: &HostRuntime, matches: &ArgMatches, writers: &mut Writ
 pub fn print_redundant(rt: &HostRuntime, matches: &ArgMatches, writers: &mut Writers<'_>) -> u8
     ensures { result ≤ 2 }
 {
-    let name = name_of_list(matches, FIRST);
-    match bytes_of(rt, name, "entries", writers.reports) {
+    let name = last_name(matches, FIRST);
+    match last_bytes(rt, matches, name, writers.reports) {
         Ok(bytes) => {
             let command = RedundantCommand {
                 alloc: rt.alloc(),
@@ -95,7 +97,7 @@ fn print_overlaps_of_two(rt: &HostRuntime, matches: &ArgMatches, writers: &mut W
         Ok(bytes) => bytes,
         Err(status) => return status,
     };
-    let others = match bytes_of(rt, names[1], "entries", writers.reports) {
+    let others = match last_bytes(rt, matches, names[1], writers.reports) {
         Ok(bytes) => bytes,
         Err(status) => return status,
     };
@@ -109,16 +111,24 @@ fn print_overlaps_of_two(rt: &HostRuntime, matches: &ArgMatches, writers: &mut W
     run(command, &names, out, faults)
 }
 
+/// Whether two lists are named, or one and entries.
+fn are_two(matches: &ArgMatches) -> bool
+    ensures { IsTrue result ↔ ((first_value (found_of matches.now) (codes "others") ≢ None)
+        ⊎ ((first_value (found_of matches.now) (codes "first") ≢ None) × (0 < length (entries_of matches.now)))) }
+{
+    matches.get_str(OTHERS).is_some() || matches.get_str(FIRST).is_some() && has_entries(matches)
+}
+
 /// Reads the list, or two lists, and prints the pairs of entries that share addresses.
 #[inline(never)]
 pub fn print_overlaps(rt: &HostRuntime, matches: &ArgMatches, writers: &mut Writers<'_>) -> u8
     ensures { result ≤ 2 }
 {
-    if matches.get_str(OTHERS).is_some() {
+    if are_two(matches) {
         return print_overlaps_of_two(rt, matches, writers);
     }
-    let name = name_of_list(matches, FIRST);
-    match bytes_of(rt, name, "entries", writers.reports) {
+    let name = last_name(matches, FIRST);
+    match last_bytes(rt, matches, name, writers.reports) {
         Ok(bytes) => {
             let command = OverlapsCommand {
                 alloc: rt.alloc(),

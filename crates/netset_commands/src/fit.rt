@@ -1,15 +1,16 @@
 //! The command `fit`: its arguments, and its run.
-ghost use Rattle.std.specs.Prelude.{◌≡◌, ◌≤◌, map, codes, IfOk, IfErr};
-ghost use Rattle.netset_commands.specs.FitOptions.{fit_names, limit_of, IsFitRequest, IsNumberGiven};
+ghost use Rattle.std.specs.Prelude.{◌≡◌, ◌≤◌, codes, IfOk, IfErr};
+ghost use Rattle.netset_commands.specs.FitOptions.{AreFitNames, limit_of, IsFitRequest, IsNumberGiven};
 
 use crate::arguments::{
-    ANY_LISTS, ArgumentFailure, FIRST, SHARED, reads_input_twice, report_argument_failure,
+    ANY_LISTS, ArgumentFailure, SHARED, names_of, reads_input_twice, report_argument_failure,
 };
-use crate::reading::{reading_work, session_of};
+use crate::entry_options::ENTRY_OPTION;
+use crate::reading::{reading_work, session_with_entries};
 use crate::table::{ARGUMENT, Argument, Form, Subcommand};
 use clap::ArgMatches;
 use netset_entries::{FitCommand, FitLimit, FitRequest, run_fit};
-use netset_files::{STANDARD_INPUT, Writers};
+use netset_files::Writers;
 use netset_lib::read_number;
 use std::alloc::{AllocError, Global};
 use std::io::Write;
@@ -59,6 +60,7 @@ pub const FIT_COMMAND: Subcommand = Subcommand {
                 ..ARGUMENT
             },
             ANY_LISTS,
+            ENTRY_OPTION,
         ],
     ],
 };
@@ -119,17 +121,15 @@ fn request_of(rt: &HostRuntime, matches: &ArgMatches) -> Result<FitRequest, u8>
 }
 
 /// The names of the lists: first the list to avoid, if there is one, and then the others.
-fn names_of<'a>(alloc: Global, matches: &ArgMatches<'a>) -> Result<Vec<&'a str>, AllocError>
-    ensures { IfOk result (λ names. map (λ name. name.now) names.items ≡ fit_names matches.now) }
+fn fit_names<'a>(alloc: Global, matches: &ArgMatches<'a>) -> Result<Vec<&'a str>, AllocError>
+    ensures { IfOk result (λ names. AreFitNames matches.now names.items) }
 {
     let mut names = Vec::new(alloc);
     if let Some(never) = matches.get_str(NEVER) {
         names.push(never)?;
     }
-    match matches.get_strs(FIRST) {
-        Some(lists) => names.extend_from_slice(lists)?,
-        None => names.push(STANDARD_INPUT)?,
-    }
+    let lists = names_of(alloc, matches, 0)?;
+    names.extend_from_slice(lists.as_slice())?;
     Ok(names)
 }
 
@@ -142,14 +142,14 @@ pub fn fit_lists(rt: &HostRuntime, matches: &ArgMatches, writers: &mut Writers<'
         Ok(request) => request,
         Err(status) => return status,
     };
-    let Ok(names) = names_of(rt.alloc(), matches) else {
+    let Ok(names) = fit_names(rt.alloc(), matches) else {
         return report_argument_failure(rt, ArgumentFailure::Memory);
     };
     let names = names.as_slice();
     if reads_input_twice(names) {
         return report_argument_failure(rt, ArgumentFailure::InputTwice);
     }
-    match session_of(rt, reading_work(matches), names, writers.reports) {
+    match session_with_entries(rt, matches, reading_work(matches), names, writers.reports) {
         Ok(session) => {
             let (out, faults) = (&mut writers.answer, &mut writers.faults);
             run_fit(FitCommand { session, request }, names, out, faults).status

@@ -7,6 +7,7 @@ mod bar;
 mod changes;
 mod commands;
 mod entries;
+mod entry_options;
 mod extract;
 mod find;
 mod fit;

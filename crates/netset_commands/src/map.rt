@@ -8,17 +8,19 @@ ghost use Rattle.svg_maps.specs.declared.style.Theme.{Theme};
 ghost use Rattle.svg_maps.specs.declared.style.Theme.TheVariants.{Auto};
 
 use crate::arguments::{
-    ANY_LISTS, ArgumentFailure, FIRST, SHARED, flags_of, is_set, reads_input,
+    ANY_LISTS, ArgumentFailure, SHARED, flags_of, is_set, names_or_report, reads_input,
     report_argument_failure,
 };
 use crate::bar::{COMPARE, FRAME, frame_of, pictured_work};
+use crate::entry_options::ENTRY_OPTION;
 use crate::noted::{NotedSession, TitledEntries, entries_of};
+use crate::reading::fill_lists;
 use crate::table::{ARGUMENT, Argument, Form, Subcommand};
 use clap::ArgMatches;
 use ipnet_bars::Frame;
 use ipnet_routes::RouteTable;
 use netset_entries::EntryNotes;
-use netset_files::{Reports, STANDARD_INPUT, Writers, bytes_of, fill};
+use netset_files::{Reports, STANDARD_INPUT, Writers, bytes_of};
 use netset_lib::{Session, run_text, table_or_report};
 use netset_pictures::{ChangeMapCommand, MapCommand, MapRequest, SetsMapCommand, read_theme};
 use std::io::Write;
@@ -66,6 +68,7 @@ const MAP_ARGUMENTS: &[Argument] = &[
         ..ARGUMENT
     },
     ANY_LISTS,
+    ENTRY_OPTION,
 ];
 
 /// The command `map`.
@@ -155,7 +158,7 @@ fn read_noted(
         frame,
         notes: Vec::new(rt.alloc()),
     };
-    fill(rt, &mut noted, names, reports)?;
+    fill_lists(rt, matches, &mut noted, names, reports)?;
     let NotedSession { session, notes, .. } = noted;
     Ok((session, notes))
 }
@@ -235,8 +238,17 @@ fn draw_table(
             count: 0,
         },
     };
-    let names = matches.get_strs(FIRST).unwrap_or(&[STANDARD_INPUT]);
-    draw_lists(rt, matches, names, MapRequest { frame, look }, writers)
+    let names = match names_or_report(rt, matches) {
+        Ok(names) => names,
+        Err(status) => return status,
+    };
+    draw_lists(
+        rt,
+        matches,
+        names.as_slice(),
+        MapRequest { frame, look },
+        writers,
+    )
 }
 
 /// Reads the names of networks from these bytes, and the lists, prints the map, and returns the exit status.
@@ -268,7 +280,11 @@ pub fn draw_map(rt: &HostRuntime, matches: &ArgMatches, writers: &mut Writers<'_
         Ok(frame) => frame,
         Err(status) => return status,
     };
-    let names = matches.get_strs(FIRST).unwrap_or(&[STANDARD_INPUT]);
+    let names = match names_or_report(rt, matches) {
+        Ok(names) => names,
+        Err(status) => return status,
+    };
+    let names = names.as_slice();
     if are_too_many(rt, matches, names) {
         return 2;
     }

@@ -3,13 +3,13 @@ ghost use Rattle.std.specs.Prelude.{◌≤◌, codes};
 ghost use Rattle.netset_commands.specs.Arguments.{IsFlag};
 
 use crate::arguments::{
-    ArgumentFailure, FIRST, have_control, is_set, reads_input_twice, report_argument_failure,
+    ArgumentFailure, have_control, is_set, names_or_report, report_argument_failure,
 };
-use crate::reading::{reading_work, session_of};
+use crate::reading::{reading_work, session_with_entries};
 use crate::table::{ARGUMENT, Argument, Form};
 use clap::ArgMatches;
 use netset_entries::{LengthsCommand, PairsCommand};
-use netset_files::{STANDARD_INPUT, Writers};
+use netset_files::Writers;
 use netset_lib::run_text;
 
 /// The id and the name of the flag for prefix lengths.
@@ -35,11 +35,12 @@ pub fn has_lengths_flag(matches: &ArgMatches) -> bool
 pub fn print_lengths(rt: &HostRuntime, matches: &ArgMatches, writers: &mut Writers<'_>) -> u8
     ensures { result ≤ 2 }
 {
-    let names = matches.get_strs(FIRST).unwrap_or(&[STANDARD_INPUT]);
-    if reads_input_twice(names) {
-        return report_argument_failure(rt, ArgumentFailure::InputTwice);
-    }
-    match session_of(rt, reading_work(matches), names, writers.reports) {
+    let names = match names_or_report(rt, matches) {
+        Ok(names) => names,
+        Err(status) => return status,
+    };
+    let names = names.as_slice();
+    match session_with_entries(rt, matches, reading_work(matches), names, writers.reports) {
         Ok(session) => {
             let (out, faults) = (&mut writers.answer, &mut writers.faults);
             run_text(LengthsCommand { session }, names, out, faults)
@@ -61,7 +62,7 @@ pub fn compare_pairs(
     if have_control(names) {
         return report_argument_failure(rt, ArgumentFailure::ControlCharacter);
     }
-    match session_of(rt, reading_work(matches), names, writers.reports) {
+    match session_with_entries(rt, matches, reading_work(matches), names, writers.reports) {
         Ok(session) => {
             let (out, faults) = (&mut writers.answer, &mut writers.faults);
             run_text(PairsCommand { session, names }, names, out, faults)

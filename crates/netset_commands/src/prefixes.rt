@@ -2,6 +2,8 @@
 ghost use Rattle.std.specs.Prelude.{◌≤◌};
 
 use crate::arguments::{FIRST_LIST, OTHER_LIST, SHARED, flags_of, two_or_report};
+use crate::entry_options::ENTRY_OR_OTHER;
+use crate::reading::last_bytes;
 use crate::table::{Argument, Form, Subcommand};
 use clap::ArgMatches;
 use netset_files::{Writers, bytes_of};
@@ -27,6 +29,7 @@ pub const PREFIX_COMMAND: Subcommand = Subcommand {
                 is_required: false,
                 ..OTHER_LIST
             },
+            ENTRY_OR_OTHER,
         ],
     ],
 };
@@ -44,7 +47,7 @@ pub fn judge_networks(rt: &HostRuntime, matches: &ArgMatches, writers: &mut Writ
         Ok(bytes) => bytes,
         Err(status) => return status,
     };
-    let networks = match bytes_of(rt, names[1], "entries", writers.reports) {
+    let networks = match last_bytes(rt, matches, names[1], writers.reports) {
         Ok(bytes) => bytes,
         Err(status) => return status,
     };

@@ -26,11 +26,11 @@ use crate::origins::{ORIGINS, validate_origins};
 use crate::pairs::{compare_pairs, has_lengths_flag, print_lengths};
 use crate::plan::{PLAN, plan_networks};
 use crate::prefixes::{PREFIX_LIST, judge_networks};
-use crate::reading::session_of;
+use crate::reading::{session_of, session_with_entries};
 use crate::rules::{PERMITTED, UNREACHED, print_permitted, print_unreached};
 use crate::select::{SELECT, select_entries};
 use crate::shorten::{SHORTEN, shorten_table};
-use crate::texts::{has_text_flag, route_with_text};
+use crate::texts::{has_all_flag, has_text_flag, route_all, route_with_text};
 use crate::whole_lines::{LINES, filter_lines};
 use clap::ArgMatches;
 use netset_files::{CLOSED, Ends, Writers, stream_list};
@@ -155,12 +155,15 @@ fn run_filter(rt: &HostRuntime, matches: &ArgMatches, writers: &mut Writers<'_>)
     }
 }
 
-/// Prints the routes of entries, with the texts of the table if they are asked for, and returns the status.
+/// Prints the routes of entries, all or the longest, with the texts of the table if they are asked for, and returns the
+/// status.
 #[inline(never)]
 fn run_route(rt: &HostRuntime, matches: &ArgMatches, writers: &mut Writers<'_>) -> u8
     ensures { result ≤ 2 }
 {
-    if has_text_flag(matches) {
+    if has_all_flag(matches) {
+        route_all(rt, matches, writers)
+    } else if has_text_flag(matches) {
         route_with_text(rt, matches, writers)
     } else {
         run_call(rt, ROUTE, matches, writers)
@@ -181,7 +184,7 @@ fn run_call(rt: &HostRuntime, name: &str, matches: &ArgMatches, writers: &mut Wr
         Work::Ask(Query::Compare, _) if call.names.len() > 2 => {
             compare_pairs(rt, matches, call.names.as_slice(), writers)
         }
-        Work::Ask(_, _) => run_query(rt, call, writers),
+        Work::Ask(_, _) => run_query(rt, matches, call, writers),
     }
 }
 
@@ -200,7 +203,7 @@ fn run_operation(
         Err(status) => return status,
     };
     let names = call.names.as_slice();
-    match session_of(rt, call.work, names, writers.reports) {
+    match session_with_entries(rt, matches, call.work, names, writers.reports) {
         Ok(session) => {
             let (out, faults) = (&mut writers.answer, &mut writers.faults);
             netset_lib::run(FormCommand { session, form }, names, out, faults)
@@ -211,7 +214,12 @@ fn run_operation(
 
 /// Reads the lists, prints the answer to the query, and returns the status.
 #[inline(never)]
-fn run_query(rt: &HostRuntime, call: Call<'_>, writers: &mut Writers<'_>) -> u8
+fn run_query(
+    rt: &HostRuntime,
+    matches: &ArgMatches,
+    call: Call<'_>,
+    writers: &mut Writers<'_>,
+) -> u8
     ensures { result ≤ 2 }
 {
     let work = call.work;
@@ -221,7 +229,7 @@ fn run_query(rt: &HostRuntime, call: Call<'_>, writers: &mut Writers<'_>) -> u8
             Ok(session) => stream_list(rt, session, names, name, writers),
             Err(status) => status,
         },
-        _ => match session_of(rt, work, names, writers.reports) {
+        _ => match session_with_entries(rt, matches, work, names, writers.reports) {
             Ok(session) => {
                 let (out, faults) = (&mut writers.answer, &mut writers.faults);
                 run_text(AnswerCommand { session, names }, names, out, faults)

@@ -3,15 +3,16 @@ ghost use Rattle.std.specs.Prelude.{◌≡◌, ◌≤◌, IfOk, IfErr, OnErr};
 ghost use Rattle.netset_commands.specs.SelectOptions.{IsLengthGiven, IsSelectRequest, bounds_of};
 
 use crate::arguments::{
-    ANY_LISTS, ArgumentFailure, FIRST, SHARED, flags_of, is_set, reads_input_twice,
-    report_argument_failure,
+    ANY_LISTS, ArgumentFailure, SHARED, flags_of, is_set, names_or_report, report_argument_failure,
 };
+use crate::entry_options::ENTRY_OPTION;
 use crate::listing::length_or_report;
+use crate::reading::fill_lists;
 use crate::table::{ARGUMENT, Argument, Form, Subcommand};
 use clap::ArgMatches;
 use ipnet_lists::ReadFailure;
 use netset_entries::{EntryChoice, LengthBounds, SelectRequest, Selection};
-use netset_files::{ListReader, STANDARD_INPUT, Writers, fill};
+use netset_files::{ListReader, Writers};
 use netset_lib::{families, run_text};
 use std::io::Read;
 
@@ -73,7 +74,7 @@ const SELECT_ARGUMENTS: &[Argument] = &[
 pub const SELECT_COMMAND: Subcommand = Subcommand {
     name: SELECT,
     about: "The entries of the lists, as written, chosen by family and prefix length; status 1 if there are none",
-    arguments: &[SHARED, SELECT_ARGUMENTS, &[ANY_LISTS]],
+    arguments: &[SHARED, SELECT_ARGUMENTS, &[ANY_LISTS, ENTRY_OPTION]],
 };
 
 /// A selection that reads the lists of a command.
@@ -156,10 +157,11 @@ fn request_of(rt: &HostRuntime, matches: &ArgMatches) -> Result<SelectRequest, u
 pub fn select_entries(rt: &HostRuntime, matches: &ArgMatches, writers: &mut Writers<'_>) -> u8
     ensures { result ≤ 2 }
 {
-    let names = matches.get_strs(FIRST).unwrap_or(&[STANDARD_INPUT]);
-    if reads_input_twice(names) {
-        return report_argument_failure(rt, ArgumentFailure::InputTwice);
-    }
+    let names = match names_or_report(rt, matches) {
+        Ok(names) => names,
+        Err(status) => return status,
+    };
+    let names = names.as_slice();
     let request = match request_of(rt, matches) {
         Ok(request) => request,
         Err(status) => return status,
@@ -168,7 +170,7 @@ pub fn select_entries(rt: &HostRuntime, matches: &ArgMatches, writers: &mut Writ
         return report_argument_failure(rt, ArgumentFailure::Memory);
     };
     let mut lists = SelectedLists { selection };
-    match fill(rt, &mut lists, names, writers.reports) {
+    match fill_lists(rt, matches, &mut lists, names, writers.reports) {
         Ok(()) => {
             let SelectedLists { selection } = lists;
             let (out, faults) = (&mut writers.answer, &mut writers.faults);

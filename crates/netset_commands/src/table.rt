@@ -18,6 +18,8 @@ pub enum Form {
     Word(&'static str),
     /// As one word or more.
     Words(&'static str),
+    /// As its letter with a value, any number of times.
+    Repeated(&'static str),
 }
 
 /// An argument of a command.
@@ -31,6 +33,8 @@ pub struct Argument {
     pub help: &'static str,
     /// Whether it may not be omitted.
     pub is_required: bool,
+    /// The ids of the arguments without which it may not be omitted.
+    pub unless: &'static [&'static str],
     /// The letter after the dash, if it may be written so.
     pub letter: Option<char>,
     /// The value if it is omitted.
@@ -49,6 +53,7 @@ pub const ARGUMENT: Argument = Argument {
     form: Form::Word(""),
     help: "",
     is_required: false,
+    unless: &[],
     letter: None,
     default: None,
     may_have_dash: false,
@@ -80,6 +85,7 @@ fn with_form<'a>(arg: Arg<'a>, form: Form) -> Arg<'a>
             .value_name(value)
             .num_args(1..)
             .action(ArgAction::Append),
+        Form::Repeated(value) => arg.value_name(value).action(ArgAction::Append),
     }
 }
 
@@ -106,6 +112,7 @@ fn arg_of<'a>(alloc: Global, argument: &Argument) -> Result<Arg<'a>, AllocError>
         .help(argument.help)
         .required(argument.is_required)
         .allow_hyphen_values(argument.may_have_dash)
+        .required_unless_present_any(argument.unless)?
         .conflicts_with_all(argument.conflicts)?
         .requires_all(argument.needs)?;
     let arg = with_form(arg, argument.form);

@@ -1,12 +1,14 @@
-//! The command `route --with-text`: its flag, and its run.
+//! The commands `route --with-text` and `route --all`: their flags, and their runs.
 ghost use Rattle.std.specs.Prelude.{◌≤◌, codes};
 ghost use Rattle.netset_commands.specs.Arguments.{IsFlag};
 
 use crate::arguments::{flags_of, two_or_report};
+use crate::reading::last_bytes;
 use crate::table::{ARGUMENT, Argument, Form};
 use clap::ArgMatches;
 use netset_files::{Writers, bytes_of};
-use netset_lib::{TextRoutesCommand, run_text};
+use netset_lib::{TextRoutesCommand, run_text, table_or_report};
+use netset_routes::{AllRoutesCommand, plain_table_or_report};
 
 /// The flag by which the texts of the table are read and printed.
 pub const TEXT_FLAG: Argument = Argument {
@@ -16,6 +18,22 @@ pub const TEXT_FLAG: Argument = Argument {
     conflicts: &["stream"],
     ..ARGUMENT
 };
+
+/// The flag by which all networks that contain an entry are printed.
+pub const ALL_FLAG: Argument = Argument {
+    id: "all",
+    form: Form::Flag("all"),
+    help: "Print each network that contains the entry, the most specific first. Not with --stream",
+    conflicts: &["stream"],
+    ..ARGUMENT
+};
+
+/// Whether all networks that contain an entry are asked for.
+pub fn has_all_flag(matches: &ArgMatches) -> bool
+    ensures { IsFlag matches.now (codes "all") result }
+{
+    matches.get_flag("all")
+}
 
 /// Whether the texts of the table are asked for.
 pub fn has_text_flag(matches: &ArgMatches) -> bool
@@ -37,7 +55,7 @@ pub fn route_with_text(rt: &HostRuntime, matches: &ArgMatches, writers: &mut Wri
         Ok(bytes) => bytes,
         Err(status) => return status,
     };
-    let list = match bytes_of(rt, names[1], "entries", writers.reports) {
+    let list = match last_bytes(rt, matches, names[1], writers.reports) {
         Ok(list) => list,
         Err(status) => return status,
     };
@@ -48,5 +66,42 @@ pub fn route_with_text(rt: &HostRuntime, matches: &ArgMatches, writers: &mut Wri
         grammar: flags_of(matches).grammar(),
     };
     let (out, faults) = (&mut writers.answer, &mut writers.faults);
+    run_text(command, &names, out, faults)
+}
+
+/// Reads the arguments, the table and the list, prints all routes of each entry, and returns the exit status.
+#[inline(never)]
+pub fn route_all(rt: &HostRuntime, matches: &ArgMatches, writers: &mut Writers<'_>) -> u8
+    ensures { result ≤ 2 }
+{
+    let names = match two_or_report(rt, matches) {
+        Ok(names) => names.in_order(),
+        Err(status) => return status,
+    };
+    let bytes = match bytes_of(rt, names[0], "entries", writers.reports) {
+        Ok(bytes) => bytes,
+        Err(status) => return status,
+    };
+    let list = match last_bytes(rt, matches, names[1], writers.reports) {
+        Ok(list) => list,
+        Err(status) => return status,
+    };
+    let (alloc, grammar) = (rt.alloc(), flags_of(matches).grammar());
+    let (bytes, list) = (bytes.as_slice(), list.as_slice());
+    let (out, faults) = (&mut writers.answer, &mut writers.faults);
+    let table = if has_text_flag(matches) {
+        table_or_report(alloc, bytes, grammar, names[0], faults)
+    } else {
+        plain_table_or_report(alloc, bytes, grammar, names[0], faults)
+    };
+    let Some(table) = table else {
+        return 2;
+    };
+    let command = AllRoutesCommand {
+        alloc,
+        table,
+        list,
+        grammar,
+    };
     run_text(command, &names, out, faults)
 }

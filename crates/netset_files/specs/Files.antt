@@ -1,4 +1,4 @@
--- The name of standard input, why a file was not opened, and the folder that it is in.
+-- The names of standard input and of the entries of `-e`, why a file was not opened, and the folder that it is in.
 use Rattle.std.specs.Prelude.{◌≡◌, ℕ, List, [], ◌∷◌, Option, Some, None, codes}
 use Rattle.std.specs.IoError.{error_kind}
 use Rattle.std.specs.declared.io.Error.{Error}
@@ -7,6 +7,10 @@ use Rattle.std.specs.declared.io.ErrorKind.TheVariants.{OutOfMemory}
 -- The name of standard input.
 abbrev pub standard_input : List ℕ
 standard_input = codes "-"
+
+-- The name of the list of the entries on the command line. A file may have this name too.
+abbrev pub entry_list : List ℕ
+entry_list = codes "-e"
 
 -- The system had no memory left.
 abbrev pub IsOutOfMemory : Error → Type 0

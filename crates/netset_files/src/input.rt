@@ -1,6 +1,6 @@
 //! The bytes of a list, from a file or from standard input.
-ghost use Rattle.std.specs.Prelude.{◌≡◌, ◌↔◌, ◌≤◌, ◌⊎◌, length, take, false, pos, Some, IsTrue, IsErr, IfErr};
-ghost use Rattle.std.specs.Prelude.{IsOkAnd};
+ghost use Rattle.std.specs.Prelude.{◌≡◌, ◌↔◌, ◌≤◌, ◌⊎◌, length, take, false, pos, Some, None, IsTrue, IsErr};
+ghost use Rattle.std.specs.Prelude.{IfErr, IsOkAnd};
 ghost use Rattle.std.specs.Fs.{IsDir, file_type};
 ghost use Rattle.std.specs.IoError.{raw_os_error};
 ghost use Rattle.netset_files.specs.Files.{IsOutOfMemory};
@@ -21,6 +21,9 @@ const IS_A_DIRECTORY: i32 = 21;
 /// The name of standard input.
 pub const STANDARD_INPUT: &str = "-";
 
+/// The name of the list of the entries on the command line.
+pub const ENTRY_LIST: &str = "-e";
+
 /// Why a list was not read, with the system's number of the error if there is one.
 #[derive(Clone, Copy, Debug, Drop)]
 pub struct Unread {
@@ -33,6 +36,19 @@ pub struct Unread {
 enum Source {
     Standard(Stdin),
     File(File),
+}
+
+impl Unread {
+    /// Why a list was not read that is not a file.
+    pub(crate) fn of_known_bytes(failure: ReadFailure) -> Unread
+        ensures failure { result.failure ≡ failure }
+        ensures code { result.code ≡ None }
+    {
+        Unread {
+            failure,
+            code: None,
+        }
+    }
 }
 
 /// A list that was opened. It counts the bytes that it returns, and keeps the number of the last error.
@@ -279,7 +295,7 @@ pub fn report_unread(rt: &HostRuntime, name: &str, unread: &Unread) -> u8
         _ if failure == ReadFailure::Memory => writeln!(rt.stderr(), "netset: {shown}: {failure}"),
         Some(_) if is_entry(name) => writeln!(
             rt.stderr(),
-            "netset: {shown} is an entry: write it to a file, or pipe it into -"
+            "netset: {shown} is an entry: use -e if the command has it, write it to a file, or pipe it into -"
         ),
         Some(code) => {
             let error = io::Error::from_raw_os_error(code);

@@ -9,9 +9,9 @@ mod reading;
 mod replacement;
 mod stream;
 
-pub use input::{Log, STANDARD_INPUT, Unread, open_log, report_unread};
+pub use input::{ENTRY_LIST, Log, STANDARD_INPUT, Unread, open_log, report_unread};
 pub use lists::{Empties, ListReader, Reports, read_rules};
 pub use output::{AnswerWriter, CLOSED, Ends, Faults, Writers};
-pub use reading::{bytes_of, fill, whole_of};
+pub use reading::{bytes_of, bytes_with_entries, fill, fill_with_entries, whole_of};
 pub use replacement::OutputFailure;
 pub use stream::stream_list;

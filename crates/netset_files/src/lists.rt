@@ -3,7 +3,7 @@ ghost use Rattle.std.specs.Prelude.{◌≡◌, ◌≢◌, ◌⊎◌, ◌↔◌, 
 ghost use Rattle.netset_files.specs.Files.{standard_input};
 ghost use Rattle.netset_files.specs.declared.lists.Empties.TheVariants.{Refuse};
 
-use crate::input::{STANDARD_INPUT, Unread, open_list};
+use crate::input::{ENTRY_LIST, STANDARD_INPUT, Unread, open_list};
 use ipnet::Grammar;
 use ipnet_lists::{ReadFailure, read_bytes};
 use netset_lib::{RuleList, Session};
@@ -106,7 +106,7 @@ pub struct Reports {
 impl Reports {
     /// Reports the number of bytes of a list: if the progress is to be reported, or to a terminal, once the lists have
     /// many bytes. `total` is the number of bytes of all lists up to this one.
-    fn report_bytes(self, rt: &HostRuntime, name: &str, count: usize, total: usize) {
+    pub(crate) fn report_bytes(self, rt: &HostRuntime, name: &str, count: usize, total: usize) {
         if self.progress || total >= MUCH && rt.stderr().is_terminal() {
             let shown = name.as_bytes().escape_ascii();
             let _ = writeln!(rt.stderr(), "netset: {shown}: {count} bytes read");
@@ -125,6 +125,41 @@ impl Reports {
         let _ = writeln!(rt.stderr(), "netset: {shown}: no {what}");
         self.empties != Empties::Refuse
     }
+}
+
+/// Whether the list of this name, which was read last, may be as it is: `false` if it has no entry and no refused line,
+/// and that is to be refused. `refused` is the number of refused lines of the lists before it. A list without an entry
+/// is reported.
+fn is_allowed<L: ListReader>(
+    rt: &HostRuntime,
+    lists: &L,
+    name: &str,
+    refused: usize,
+    reports: Reports,
+) -> bool
+    ensures { reports.empties ≢ Refuse → IsTrue result }
+{
+    let is_empty = !lists.has_entry() && lists.refused_count() == refused;
+    !is_empty || reports.report_empty(rt, name, "entries")
+}
+
+/// Reads the entries of the command line, a line each, as one list. Fails if memory runs out. Returns whether they may
+/// be as they are, as `read_lists` does, and reports the number of their bytes as it does.
+pub fn read_entries<L: ListReader>(
+    rt: &HostRuntime,
+    lists: &mut L,
+    entries: &str,
+    reports: Reports,
+) -> Result<bool, Unread>
+    ensures { IfOk result (λ allowed. reports.empties ≢ Refuse → IsTrue allowed) }
+{
+    let refused = lists.refused_count();
+    let mut input = entries.as_bytes();
+    if let Err(failure) = lists.read(&mut input) {
+        return Err(Unread::of_known_bytes(failure));
+    }
+    reports.report_bytes(rt, ENTRY_LIST, entries.len(), entries.len());
+    Ok(is_allowed(rt, lists, ENTRY_LIST, refused, reports))
 }
 
 /// Reads the lists of these names one after another. A file is opened when its turn comes, and then closed. Fails with
@@ -148,8 +183,7 @@ pub fn read_lists<'a, L: ListReader>(
         let count = read_list(rt, lists, name).map_err(|unread| (*name, unread))?;
         total = total.saturating_add(count);
         reports.report_bytes(rt, name, count, total);
-        let is_empty = !lists.has_entry() && lists.refused_count() == refused;
-        if is_empty && !reports.report_empty(rt, name, "entries") {
+        if !is_allowed(rt, lists, name, refused, reports) {
             allowed = false;
         }
     }

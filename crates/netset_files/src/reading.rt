@@ -1,8 +1,8 @@
 //! Lists that are read with a report if that fails.
-ghost use Rattle.std.specs.Prelude.{◌≡◌, IfErr};
+ghost use Rattle.std.specs.Prelude.{◌≡◌, ◌-◌, true, false, take, length, string_bytes, IfSome, IfOk, IfErr};
 
-use crate::input::report_unread;
-use crate::lists::{ListReader, Reports, read_lists, read_whole};
+use crate::input::{ENTRY_LIST, report_unread};
+use crate::lists::{ListReader, Reports, read_entries, read_lists, read_whole};
 use ipnet_lists::has_lines;
 
 /// Reads the lists of these names, `-` for standard input. If that fails, it is reported, and the error is the exit
@@ -24,6 +24,46 @@ pub fn fill<L: ListReader>(
         Ok(true) => Ok(()),
         Ok(false) => Err(2),
         Err((name, unread)) => Err(report_unread(rt, name, &unread)),
+    }
+}
+
+/// Returns the names of files, and of standard input, of these names of lists: all of them, or, if the last list is the
+/// list of entries, those before it.
+fn file_names<'n, 'a>(names: &'n [&'a str], has_entries: bool) -> &'n [&'a str]
+    ensures all { has_entries ≡ false → result.now ≡ names.now }
+    ensures front { has_entries ≡ true → result.now ≡ take (length names.now - 1) names.now }
+{
+    if has_entries && !names.is_empty() {
+        &names[..names.len() - 1]
+    } else {
+        names
+    }
+}
+
+/// Reads the lists of these names as `fill` does. If there are `entries`, the last list is not a file: it has these
+/// lines.
+///
+/// ```text
+/// the names "a", "-e", and the entries "10.0.0.0/8\n": the file a is read, and then the list of 10.0.0.0/8
+/// the names "-e", and no entries: the file -e is read
+/// ```
+pub fn fill_with_entries<L: ListReader>(
+    rt: &HostRuntime,
+    lists: &mut L,
+    names: &[&str],
+    entries: Option<String>,
+    reports: Reports,
+) -> Result<(), u8>
+    ensures { IfErr result (λ status. status ≡ 2) }
+{
+    fill(rt, lists, file_names(names, entries.is_some()), reports)?;
+    let Some(entries) = entries else {
+        return Ok(());
+    };
+    match read_entries(rt, lists, entries.as_str(), reports) {
+        Ok(true) => Ok(()),
+        Ok(false) => Err(2),
+        Err(unread) => Err(report_unread(rt, ENTRY_LIST, &unread)),
     }
 }
 
@@ -50,6 +90,33 @@ pub fn bytes_of(rt: &HostRuntime, name: &str, what: &str, reports: Reports) -> R
 {
     let bytes = whole_of(rt, name, reports)?;
     if !has_lines(bytes.as_slice()) && !reports.report_empty(rt, name, what) {
+        return Err(2);
+    }
+    Ok(bytes)
+}
+
+/// Returns the bytes of the entries of the command line, a line each, if there are `entries`. They are reported as
+/// `bytes_of` reports a list. If there are none, reads the bytes of the list of this name as `bytes_of` does.
+///
+/// ```text
+/// the entries "10.0.0.0/8\n": "10.0.0.0/8\n", whatever the name is
+/// no entries, and the name "a": the bytes of the file a
+/// ```
+pub fn bytes_with_entries(
+    rt: &HostRuntime,
+    name: &str,
+    entries: Option<String>,
+    reports: Reports,
+) -> Result<Vec<u8>, u8>
+    ensures bytes { IfSome entries (λ text. IfOk result (λ bytes. bytes.items ≡ string_bytes text)) }
+    ensures failed { IfErr result (λ status. status ≡ 2) }
+{
+    let Some(entries) = entries else {
+        return bytes_of(rt, name, "entries", reports);
+    };
+    let bytes = entries.into_bytes();
+    reports.report_bytes(rt, ENTRY_LIST, bytes.len(), bytes.len());
+    if !has_lines(bytes.as_slice()) && !reports.report_empty(rt, ENTRY_LIST, "entries") {
         return Err(2);
     }
     Ok(bytes)

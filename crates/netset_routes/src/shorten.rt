@@ -35,7 +35,7 @@ pub struct ShortenCommand<'a> {
 }
 
 /// Appends the line of a route.
-fn push_route(text: &mut String, network: &IpNet, value: &str) -> Result<(), AllocError>
+pub(crate) fn push_route(text: &mut String, network: &IpNet, value: &str) -> Result<(), AllocError>
     ensures { OnOk result (string_bytes text.new
         ≡ string_bytes text.old ++ route_line (ip_network network.now) value.now) }
 {

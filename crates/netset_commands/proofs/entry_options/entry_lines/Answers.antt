@@ -1,0 +1,36 @@
+use Rattle.std.proofs.Common.{◌≡◌, ◌∙◌, ◌+◌, All, ap, rules, string_bytes, subst, sym, take_all}
+use Rattle.netset_commands.specs.EntryOptions.{IsEntryFailure, IsOneLine, entry_lines}
+use Rattle.netset_commands.specs.declared.arguments.ArgumentFailure.TheVariants.{LineBreak}
+use Rattle.netset_commands.proofs.EntryLaws.{broken_at, line_more, one_line_more, texts_of}
+use Rattle.netset_commands.proofs.entry_options.entry_lines.Goals as goal
+
+pub loop-entry-preserved : goal.loop-entry-preserved
+loop-entry-preserved c =
+    let entries = c.args.entries.now in
+    let i = c.loop-entry.entry-index in
+    let e = c.entry-item.result in
+    record {
+      count = ap (λ k. k + 1) c.loop-entry.invariant.count;
+      one_line = one_line_more entries i e c.loop-entry-test.true c.entry-item.is c.loop-entry.invariant.one_line
+          (search rules);
+      lines = line_more entries i e (string_bytes c.loop-entry.text) (string_bytes c.push_line.new.text)
+          c.loop-entry-test.true c.entry-item.is c.loop-entry.invariant.lines (search rules);
+    }
+
+pub returns-then-has_byte-clause-failed : goal.returns-then-has_byte-clause-failed
+returns-then-has_byte-clause-failed c =
+    let entries = c.args.entries.now in
+    subst (λ k. IsEntryFailure (texts_of entries) (LineBreak (k + 1))) (sym c.loop-entry.invariant.count)
+    (broken_at entries c.loop-entry.entry-index c.entry-item.result c.loop-entry-test.true c.entry-item.is
+    (search rules))
+
+pub returns-clause-one_line : goal.returns-clause-one_line
+returns-clause-one_line c =
+    subst (λ z. All IsOneLine (texts_of z))
+    (take_all c.loop-entry.entry-index c.args.entries.now c.loop-entry-test.false) c.loop-entry.invariant.one_line
+
+pub returns-clause-lines : goal.returns-clause-lines
+returns-clause-lines c =
+    c.loop-entry.invariant.lines
+    ∙ ap (λ z. entry_lines (texts_of z))
+    (take_all c.loop-entry.entry-index c.args.entries.now c.loop-entry-test.false)
