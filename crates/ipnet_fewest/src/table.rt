@@ -1,8 +1,7 @@
 //! Tables with the fewest routes.
 ghost use Rattle.std.specs.Prelude.{IfOk};
 ghost use Rattle.ipnet_routes.specs.RoutesOf.{routes_of};
-ghost use Rattle.ipnet_fewest.specs.Shortest.{IsShortest};
-ghost use Rattle.ipnet_fewest.specs.Numbers.{AreEqualBy};
+ghost use Rattle.ipnet_fewest.specs.Shortest.{AreEqualBy, IsShortest};
 
 use crate::fewest::fewest_routes;
 use crate::numbers::{distinct_values, numbered, valued};

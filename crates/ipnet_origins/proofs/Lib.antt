@@ -5,4 +5,5 @@ pub mod LastLaws
 pub mod ValidityLaws
 pub mod ThoseLaws
 pub mod CoveringLaws
+pub mod SortedLaws
 pub mod WalkLaws

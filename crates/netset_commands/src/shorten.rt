@@ -5,7 +5,7 @@ use crate::arguments::{FIRST, ONE_LIST, SHARED, flags_of};
 use crate::table::{Argument, Form, Subcommand};
 use clap::ArgMatches;
 use netset_files::{STANDARD_INPUT, Writers, bytes_of};
-use netset_lib::{run_text, table_or_report};
+use netset_lib::run_text;
 use netset_routes::ShortenCommand;
 
 /// The name of the command.
@@ -37,8 +37,8 @@ pub fn shorten_table(rt: &HostRuntime, matches: &ArgMatches, writers: &mut Write
     };
     let (alloc, grammar) = (rt.alloc(), flags_of(matches).grammar());
     let (out, faults) = (&mut writers.answer, &mut writers.faults);
-    match table_or_report(alloc, bytes.as_slice(), grammar, name, faults) {
-        Some(table) => run_text(ShortenCommand { alloc, table }, &[name], out, faults),
+    match ShortenCommand::read(alloc, bytes.as_slice(), grammar, name, faults) {
+        Some(command) => run_text(command, &[name], out, faults),
         None => 2,
     }
 }

@@ -1,13 +1,12 @@
 -- The validity of the routes of a list, by a list of validated ROA payloads (VRPs).
 use Rattle.std.specs.Prelude.{◌≡◌, ◌≢◌, ◌⊎◌, ◌↔◌, ℕ, Bool, true, false, List, [], ◌∷◌, ◌++◌, codes, decimal, Any}
-use Rattle.std.specs.Prelude.{IsPermutation, IsTrue, Option, Some, None}
+use Rattle.std.specs.Prelude.{IsTrue, Option, Some, None}
 use Rattle.ipnet_base.specs.Network.{Network}
 use Rattle.ipnet.specs.CanonicalTexts.{canonical_text}
 use Rattle.ipnet.specs.NetworkOf.{ip_network}
 use Rattle.ipnet.specs.declared.parser.Grammar.{Grammar}
 use Rattle.ipnet_lists.specs.Lists.{RefusalFor}
 use Rattle.ipnet_lists.specs.RefusedLines.{AreRefused}
-use Rattle.ipnet_origins.specs.Groups.{AreInOrder, AreRanked}
 use Rattle.ipnet_origins.specs.Origins.{IsValidity, AreCovering}
 use Rattle.ipnet_origins.specs.declared.origins.Validity.{Validity}
 use Rattle.ipnet_origins.specs.declared.origins.Validity.TheVariants.{Valid, Invalid, NotFound}
@@ -21,7 +20,7 @@ use Rattle.netset_origins.specs.declared.answer.OriginsRequest.{OriginsRequest}
 use Rattle.netset_origins.specs.declared.route_line.RouteCause.{RouteCause}
 use Rattle.netset_origins.specs.declared.vrp_line.VrpCause.{VrpCause}
 
--- The word of a validity.
+-- The word of a validity. Example: `not-found`.
 abbrev pub validity_word : Validity → List ℕ
 validity_word Valid = codes "valid"
 validity_word Invalid = codes "invalid"
@@ -33,26 +32,20 @@ abbrev pub vrp_part : Payload → List ℕ
 vrp_part vrp = 9 ∷ canonical_text (ip_network vrp.network) ++ codes "-" ++ decimal vrp.max_len ++ codes " AS"
     ++ decimal vrp.asn
 
--- The VRPs, each after a TAB.
+-- The VRPs, each after a TAB. Example: TAB, `192.0.2.0/24-25 AS64496`.
 abbrev pub why_part : List Payload → List ℕ
 why_part [] = []
 why_part (vrp ∷ vrps) = vrp_part vrp ++ why_part vrps
 
--- The VRPs in the order of a table: by network, then by AS number, and then by greatest length. Each is there as often
--- as in the list.
-pub record IsSorted (vrps sorted : List Payload) : Type 0 where
-  pub same : IsPermutation vrps sorted
-  pub order : AreInOrder sorted
-  pub ranked : AreRanked sorted
-
 -- The text after the validity of a route: if `why`, the VRPs that cover it, the longest networks first, and VRPs of one
 -- network by AS number and greatest length; else nothing.
+-- Example: TAB, `192.0.2.0/24-25 AS64496`, TAB, `192.0.0.0/16-16 AS64497`.
 abbrev pub IsWhyPart : List Payload → Bool → Network → List ℕ → Type 0
-IsWhyPart vrps true n part = (sorted covering : List Payload) × IsSorted vrps sorted × AreCovering sorted n covering
-    × (part ≡ why_part covering)
+IsWhyPart vrps true n part = (covering : List Payload) × AreCovering vrps n covering × (part ≡ why_part covering)
 IsWhyPart vrps false n part = part ≡ []
 
--- A route of this validity is printed.
+-- A route of this validity is printed: any route, or only one of the wanted validity. Example: with `--only invalid`,
+-- an invalid route, and no valid one.
 abbrev pub IsShown : Option Validity → Validity → Type 0
 IsShown None v = Unit {0}
 IsShown (Some only) v = only ≡ v

@@ -7,14 +7,15 @@ use Rattle.serde_json.specs.Data.{Data, array}
 use Rattle.serde_json.specs.Find.{get, as_str, as_number, as_u64}
 use Rattle.serde_json.specs.Read.{read}
 use Rattle.serde_json.specs.View.{items_of}
-use Rattle.ipnet_base.specs.Network.{Network}
+use Rattle.ipnet_base.specs.Network.{Network, truncation}
+use Rattle.ipnet.specs.NetworkOf.{ip_network}
 use Rattle.ipnet.specs.declared.parser.Grammar.{Grammar}
 use Rattle.ipnet_lists.specs.Entries.{after_blanks, IsNetworkOrMasked}
 use Rattle.ipnet_lists.specs.Lists.{after_mark}
 use Rattle.ipnet_origins.specs.declared.payload.Payload.{Payload}
 use Rattle.netset_lib.specs.NetworkEntries.{IsArgumentCause}
 use Rattle.netset_origins.specs.Fields.{IsAsn}
-use Rattle.netset_origins.specs.VrpLines.{IsVrpOf, IsLengthCause}
+use Rattle.netset_origins.specs.VrpLines.{IsLengthCause}
 use Rattle.netset_origins.specs.declared.vrp_json.JsonFailure.{JsonFailure}
 use Rattle.netset_origins.specs.declared.vrp_json.JsonFailure.TheVariants as Failures
 use Rattle.netset_origins.specs.declared.vrp_json.JsonFault.{JsonFault}
@@ -47,11 +48,11 @@ IsAsnAt d asn = IsAsnFrom (text_at (codes "asn") d) (number_at (codes "asn") d) 
 abbrev pub IsMaxLenAt : Data → ℕ → Type 0
 IsMaxLenAt d n = (number_at (codes "maxLength") d ≡ Some n) × (n ≤ 4294967295)
 
--- The data is this VRP.
+-- The data is this VRP: it has the AS number, a network, which may have host bits, and the greatest length.
 -- Example: `{"asn": "AS64496", "prefix": "192.0.2.0/24", "maxLength": 25, "ta": "x"}`.
 pub record IsVrpData (grammar : Grammar) (d : Data) (vrp : Payload) : Type 0 where
   pub network : Network
-  pub is : IsVrpOf vrp.asn network vrp.max_len vrp
+  pub without_host_bits : ip_network vrp.network ≡ truncation network
   pub has_asn : IsAsnAt d vrp.asn
   pub has_network : IsNetworkOrMasked grammar (text_at (codes "prefix") d) network
   pub has_max_len : IsMaxLenAt d vrp.max_len

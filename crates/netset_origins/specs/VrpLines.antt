@@ -34,16 +34,16 @@ abbrev pub IsHeader : List ℕ → Type 0
 IsHeader text = (text ≡ codes "ASN,IP Prefix,Max Length,Trust Anchor")
     ⊎ (text ≡ codes "ASN,IP Prefix,Max Length,Trust Anchor,Expires")
 
--- The VRP has this AS number, this network without host bits, and this greatest prefix length.
-pub record IsVrpOf (asn : ℕ) (n : Network) (max_len : ℕ) (vrp : Payload) : Type 0 where
+-- The VRP has this AS number, and this network without host bits. Only private contracts use this.
+pub record IsVrpOf (asn : ℕ) (n : Network) (vrp : Payload) : Type 0 where
   pub of_asn : vrp.asn ≡ asn
   pub of_network : ip_network vrp.network ≡ truncation n
-  pub of_max_len : vrp.max_len ≡ max_len
 
--- The text is this VRP. Example: `AS64496,192.0.2.0/24,25,x` is 192.0.2.0/24 with greatest length 25 and AS 64496.
+-- The text is this VRP: its fields are the AS number, a network, which may have host bits, and the greatest length.
+-- Example: `AS64496,192.0.2.0/24,25,x` is 192.0.2.0/24 with greatest length 25 and AS 64496.
 pub record IsVrpText (grammar : Grammar) (text : List ℕ) (vrp : Payload) : Type 0 where
   pub network : Network
-  pub is : IsVrpOf vrp.asn network vrp.max_len vrp
+  pub without_host_bits : ip_network vrp.network ≡ truncation network
   pub writes_asn : IsAsn (first_field text) vrp.asn
   pub writes_network : IsNetworkOrMasked grammar (network_field text) network
   pub writes_max_len : IsNumber (length_field text) vrp.max_len
