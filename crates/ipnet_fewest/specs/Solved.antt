@@ -24,8 +24,8 @@ HasNoMatch routes x = (r : Route ℕ) → Contains routes r → InBlock r.0 x �
 abbrev pub IsRouted : List (Route ℕ) → ℕ → Address → ℕ → Type 0
 IsRouted routes other x v = HasValue IsSameNumber routes x v ⊎ (HasNoMatch routes x × (other ≡ v))
 
--- Each value that the first routes give an address of the block is given by the wanted routes too. The two values beside
--- the lists are those of addresses without a match.
+-- Each value that the first routes give an address of the block is given by the wanted routes too. An address without
+-- a match has the value beside the list.
 abbrev pub RoutesAs : Network → List (Route ℕ) → ℕ → List (Route ℕ) → ℕ → Type 0
 RoutesAs block routes other wanted value = (x : Address) → InBlock block x → (v : ℕ) → IsRouted routes other x v
     → IsRouted wanted value x v
@@ -97,15 +97,15 @@ pub record AreTableIn (around : Network) (networks : List Network) : Type 0 wher
 abbrev pub HaveValues : List (Route ℕ) → Type 0
 HaveValues routes = (r : Route ℕ) → Contains routes r → 0 < r.1
 
--- The first value of neither list is 0, and the values are those of both lists.
+-- The first value of neither list is 0, and the values are the values of both lists.
 pub record AreAllValues (first second values : List ℕ) : Type 0 where
   pub first_some : get_or first 0 0 ≢ 0
   pub second_some : get_or second 0 0 ≢ 0
   pub sorted : IsNonDecreasing values
   pub members : (v : ℕ) → Contains values v ↔ (Contains first v ⊎ Contains second v)
 
--- If the first value of one of the lists is 0, then 0 is the only value. Else, the values are those of both lists.
--- Example: of 1, 4 and 2 they are 1, 2, 4. Of 1 and 0 it is 0.
+-- If the first value of one of the lists is 0, then 0 is the only value. Else, the values are the values of both lists.
+-- Example: 1, 2, 4 for the lists 1, 4 and 2. It is 0 for the lists 1 and 0.
 abbrev pub AreValuesOfBoth : List ℕ → List ℕ → List ℕ → Type 0
 AreValuesOfBoth first second values =
     (((get_or first 0 0 ≡ 0) ⊎ (get_or second 0 0 ≡ 0)) × (values ≡ 0 ∷ [])) ⊎ AreAllValues first second values

@@ -22,6 +22,7 @@ pub(crate) fn distinct_values<V: Ord + Copy>(
     }
     values.sort_unstable();
     values.dedup();
+    values.shrink_to_fit();
     Ok(values)
 }
 

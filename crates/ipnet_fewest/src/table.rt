@@ -32,8 +32,9 @@ pub fn shortest_table<V: Ord + Copy + Drop>(
     }
     let values = distinct_values(alloc, routes)?;
     let numbers = numbered(alloc, routes, values.as_slice())?;
-    let fewest = fewest_routes(alloc, numbers.as_slice())?;
-    drop(numbers);
+    let fewest = fewest_routes(alloc, numbers)?;
     let list = valued(alloc, fewest.as_slice(), values.as_slice())?;
+    drop(fewest);
+    drop(values);
     RouteTable::from_routes(alloc, list)
 }

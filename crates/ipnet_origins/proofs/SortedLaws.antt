@@ -101,7 +101,7 @@ lower_others n k vrps here o low vrp c is =
       | inr (inr more) ↦ absurd (omega (arith, low vrp old is, more))
     ]
 
--- the payloads of one length, and then those of shorter ones
+-- the payloads of one length, and then the payloads of shorter lengths
 parted_more : (n : Network) (k : ℕ) (vrps here shorter covering : List Payload) → covering ≡ here ++ shorter
     → (o : HaveOthers n k vrps here) → IsParted o.others n shorter → IsParted vrps n covering
 parted_more n k vrps here shorter covering spelled o rest = record {

@@ -45,8 +45,8 @@ abbrev pub AreLongestFirst : List Payload → Type 0
 AreLongestFirst vrps =
     AllPairs (λ vrp later. (ip_network later.network).prefix_len ≤ (ip_network vrp.network).prefix_len) vrps
 
--- The first payload comes before the second in a list of payloads that cover a route: its network is longer. Or the
--- networks are as long, and its AS number is less; or the AS numbers are equal too, and its greatest length is not more.
+-- The first payload comes before the second in a list of payloads that cover a route: its network is longer. If the
+-- networks are as long, its AS number is less. If the AS numbers are equal too, its greatest length is not more.
 -- Example: 192.0.2.0/24 with AS 2 and 24, then 192.0.2.0/24 with AS 2 and 25, then 192.0.0.0/16 with AS 1 and 16.
 abbrev pub ComesBefore : Payload → Payload → Type 0
 ComesBefore vrp later = ((ip_network later.network).prefix_len < (ip_network vrp.network).prefix_len)

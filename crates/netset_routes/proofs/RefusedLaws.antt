@@ -10,7 +10,7 @@ use Rattle.netset_lib.specs.TextTables.{TextLine, IsTextLine, IsNoTextLine, HasR
 use Rattle.netset_lib.specs.declared.text_line.NotTextLine.{NotTextLine}
 use Rattle.std.specs.Borrow.{Bor}
 
--- if no line is refused, all lines are those of a table
+-- if all lines are lines of a table, no line is refused
 none_refused : (grammar : Grammar) (number : ℕ) (texts : List (List ℕ)) (lines others : List TextLine)
     (refused : List (RefusalFor NotTextLine))
     → AreItems (λ line. IsTextLine grammar line.text) (IsNoTextLine grammar) number texts lines []

@@ -38,8 +38,8 @@ pub record IsShortenedText (table : RouteTable (Bor (List ℕ))) (text : List �
   pub ascending : IsAscending (networks_of routes)
   pub is : text ≡ route_lines routes
 
--- The text is what `shorten` prints for the bytes of a table. Each line of the bytes is an entry, with or without a text
--- after it; blank lines and comments are skipped. The networks of an entry get its text. If several lines have a
+-- The text is what `shorten` prints for the bytes of a table. Each line of the bytes is an entry, or an entry and a
+-- text after it. Blank lines and comments are skipped. The networks of an entry get its text. If several lines have a
 -- network, the last line counts. The text has the fewest routes for the table of these networks.
 -- Example: for `10.0.0.0/8 a # x\n\n10.1.0.0/16 a\n`, it is `10.0.0.0/8 a\n`. For `10.0.0.0/33 a\n` there is none.
 pub record IsShortenAnswer (grammar : Grammar) (bytes text : List ℕ) : Type 0 where
