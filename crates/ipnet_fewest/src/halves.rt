@@ -30,18 +30,7 @@ pub(crate) fn count_before(routes: &[(IpNet, usize)], network: &IpNet) -> usize
     ensures { IsPlaceOf (ip_networks routes.now) (ip_network network.now) result }
 {
     ip_nets_compare_by_network();
-    let mut low = 0;
-    let mut high = routes.len();
-    while low < high {
-        let middle = low + (high - low) / 2;
-        let other = routes[middle].0;
-        if other < *network {
-            low = middle + 1;
-        } else {
-            high = middle;
-        }
-    }
-    low
+    routes.partition_point(|route| route.0 < *network)
 }
 
 /// Returns the network one bit shorter, and its other half.

@@ -9,12 +9,12 @@ use Rattle.ipnet_fewest.proofs.FamilyLaws.{front_in_ipv4, back_in_ipv6, ipv4_val
 use Rattle.ipnet_fewest.proofs.fewest.fewest_routes.Goals as goal
 
 pub count_before-requires : goal.count_before-requires
-count_before-requires c = subst (λ z. IsTable (ip_networks z)) (sym c.as_slice.ensures.value) c.requires.table
+count_before-requires c = subst (λ z. IsTable (ip_networks z)) (sym c.as_slice-list.ensures.value) c.requires.table
 
-pub solve-ipv6_routes-requires-clause-table : goal.solve-ipv6_routes-requires-clause-table
-solve-ipv6_routes-requires-clause-table c =
-    let list = c.as_slice.result.now in
-    let is = c.as_slice.ensures.value in
+pub solve-requires-clause-table : goal.solve-requires-clause-table
+solve-requires-clause-table c =
+    let list = c.as_slice-list.result.now in
+    let is = c.as_slice-list.ensures.value in
     let four = c.whole-ipv4.result in
     let six = c.whole-ipv6.result in
     let w4 = c.whole-ipv4.ensures in
@@ -29,10 +29,10 @@ solve-ipv6_routes-requires-clause-table c =
     let of_back = c.split_at.ensures.back in
     back_in_ipv6 four six w4 w6 list table values count place front back of_front of_back
 
-pub solve-ipv6_routes-requires-clause-values : goal.solve-ipv6_routes-requires-clause-values
-solve-ipv6_routes-requires-clause-values c =
-    let list = c.as_slice.result.now in
-    let is = c.as_slice.ensures.value in
+pub solve-requires-clause-values : goal.solve-requires-clause-values
+solve-requires-clause-values c =
+    let list = c.as_slice-list.result.now in
+    let is = c.as_slice-list.ensures.value in
     let four = c.whole-ipv4.result in
     let six = c.whole-ipv6.result in
     let w4 = c.whole-ipv4.ensures in
@@ -47,10 +47,10 @@ solve-ipv6_routes-requires-clause-values c =
     let of_back = c.split_at.ensures.back in
     ipv6_values four six w4 w6 list table values count place front back of_front of_back
 
-pub solve-ipv4_routes-requires-clause-table : goal.solve-ipv4_routes-requires-clause-table
-solve-ipv4_routes-requires-clause-table c =
-    let list = c.as_slice.result.now in
-    let is = c.as_slice.ensures.value in
+pub solve-requires-2-clause-table : goal.solve-requires-2-clause-table
+solve-requires-2-clause-table c =
+    let list = c.as_slice-list.result.now in
+    let is = c.as_slice-list.ensures.value in
     let four = c.whole-ipv4.result in
     let six = c.whole-ipv6.result in
     let w4 = c.whole-ipv4.ensures in
@@ -65,10 +65,10 @@ solve-ipv4_routes-requires-clause-table c =
     let of_back = c.split_at.ensures.back in
     front_in_ipv4 four six w4 w6 list table values count place front back of_front of_back
 
-pub solve-ipv4_routes-requires-clause-values : goal.solve-ipv4_routes-requires-clause-values
-solve-ipv4_routes-requires-clause-values c =
-    let list = c.as_slice.result.now in
-    let is = c.as_slice.ensures.value in
+pub solve-requires-2-clause-values : goal.solve-requires-2-clause-values
+solve-requires-2-clause-values c =
+    let list = c.as_slice-list.result.now in
+    let is = c.as_slice-list.ensures.value in
     let four = c.whole-ipv4.result in
     let six = c.whole-ipv6.result in
     let w4 = c.whole-ipv4.ensures in
@@ -95,8 +95,8 @@ push_fewest-requires-2 c =
 
 pub returns : goal.returns
 returns c =
-    let list = c.as_slice.result.now in
-    let is = c.as_slice.ensures.value in
+    let list = c.as_slice-list.result.now in
+    let is = c.as_slice-list.ensures.value in
     let four = c.whole-ipv4.result in
     let six = c.whole-ipv6.result in
     let w4 = c.whole-ipv4.ensures in
