@@ -1,10 +1,11 @@
 //! The halves of a network, and the routes in each of them.
-ghost use Rattle.std.specs.Prelude.{◌<◌, length};
+ghost use Rattle.std.specs.Prelude.{◌≡◌, ◌<◌, length};
 ghost use Rattle.ipnet_base.specs.Address.{width};
 ghost use Rattle.ipnet_base.specs.Network.{IsTruncated};
 ghost use Rattle.ipnet.specs.NetworkOf.{ip_network};
 ghost use Rattle.ipnet_routes.specs.Routes.{ip_networks};
 ghost use Rattle.ipnet_routes.specs.RouteSteps.{IsTable, IsPlaceOf};
+ghost use Rattle.ipnet_fewest.specs.Plans.{sibling};
 ghost use Rattle.ipnet_fewest.specs.Solved.{AreHalvesOf, AreTableIn, IsAroundAll};
 
 use ipnet::IpNet;
@@ -48,6 +49,15 @@ pub(crate) fn parent_and_sibling(network: &IpNet) -> (IpNet, IpNet)
         return (parent, second);
     }
     (parent, first)
+}
+
+/// Returns the other half of the network one bit shorter.
+pub(crate) fn sibling(network: &IpNet) -> IpNet
+    requires truncated { IsTruncated (ip_network network.now) }
+    requires longer { 0 < (ip_network network.now).prefix_len }
+    ensures { ip_network result ≡ sibling (ip_network network.now) }
+{
+    parent_and_sibling(network).1
 }
 
 /// Returns the smallest network around the first and the last of the routes, which is around all of them.

@@ -7,7 +7,7 @@ use Rattle.ipnet.specs.NetworkOf.{ip_network}
 use Rattle.ipnet_routes.specs.Routes.{Route}
 use Rattle.ipnet_origins.specs.declared.payload.Payload.{Payload}
 
--- the network of a payload
+-- The network of a payload. Example: 192.0.2.0/24, of 192.0.2.0/24 with greatest length 26 and AS 64496.
 abbrev pub network_of : Payload → Network
 network_of vrp = ip_network vrp.network
 
@@ -18,6 +18,7 @@ AreInOrder vrps = (i j : ℕ) (d : Payload) → i ≤ j → j < length vrps
     → ¬ (IsBefore (network_of (get_or vrps j d)) (network_of (get_or vrps i d)))
 
 -- The rank of a payload: payloads of one network are sorted by AS number, and then by greatest length.
+-- Example: 536 for AS 2 with greatest length 24, and 537 for AS 2 with 25.
 abbrev pub rank_of : Payload → ℕ
 rank_of vrp = vrp.asn * 256 + vrp.max_len
 

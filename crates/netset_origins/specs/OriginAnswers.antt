@@ -59,23 +59,27 @@ IsRouteLine vrps request r line = (v : Validity) × IsValidity vrps r.network r.
     × (line ≡ r.text ++ 9 ∷ validity_word v ++ part ++ 10 ∷ []))
     ⊎ ((¬ (IsShown request.only v)) × (line ≡ [])))
 
--- The text has the lines of the routes, in order.
+-- The text has the lines of the routes, in order. Example: two lines for two routes, if all routes are printed.
 abbrev pub AreRouteLines : List Payload → OriginsRequest → List ListRoute → List ℕ → Type 0
 AreRouteLines vrps request [] text = text ≡ []
 AreRouteLines vrps request (r ∷ routes) text = (line : List ℕ) × (rest : List ℕ) × IsRouteLine vrps request r line
     × (text ≡ line ++ rest) × AreRouteLines vrps request routes rest
 
 -- One of the routes is invalid.
+-- Example: 192.0.2.0/25 of AS 64496, by 192.0.2.0/24 with greatest length 24 and AS 64496.
 abbrev pub IsOneInvalid : List Payload → List ListRoute → Type 0
 IsOneInvalid vrps routes = Any (λ r. IsValidity vrps r.network r.origin Invalid) routes
 
 -- The bytes are these VRPs, as JSON or as lines of which none is refused.
+-- Example: no VRPs for `{"roas": []}`, and for `ASN,IP Prefix,Max Length,Trust Anchor`.
 abbrev pub AreVrpsOf : Grammar → List ℕ → List Payload → Type 0
 AreVrpsOf grammar bytes vrps = (BeginsObject bytes × IsVrpJson grammar bytes vrps)
     ⊎ ((¬ (BeginsObject bytes)) × IsVrpList grammar bytes vrps [])
 
 -- The VRPs are read, no line of the routes is refused, and the text has the lines of the routes. `invalid` says whether
 -- a route is invalid, printed or not.
+-- Example: for `AS64496,192.0.2.0/24,24` and `192.0.2.0/25 64496`, the text is `192.0.2.0/25 64496`, TAB, `invalid`.
+-- A route is invalid.
 pub record IsOriginAnswer (request : OriginsRequest) (vrp_bytes route_bytes : List ℕ) (invalid : Bool) (text : List ℕ)
     : Type 0 where
   pub vrps : List Payload
