@@ -379,8 +379,8 @@ module _ (old now : List Choice) (routes : List (Route ℕ)) (value : ℕ) (arou
     abbrev plan : Plan
     plan = Then Nothing b.best.plan Nothing beside
 
-    halves : AreHalvesOf (ip_network inner.network) (second_network beside) (ip_network parent)
-    halves = subst (λ z. AreHalvesOf (ip_network inner.network) z (ip_network parent))
+    own_halves : AreHalvesOf (ip_network inner.network) (second_network beside) (ip_network parent)
+    own_halves = subst (λ z. AreHalvesOf (ip_network inner.network) z (ip_network parent))
         (sym (sibling_is (ip_network inner.network) (ip_network sibling) (ip_network parent) h)) h
 
     up : IsSubnetOf (ip_network parent) (ip_network around)
@@ -403,11 +403,11 @@ module _ (old now : List Choice) (routes : List (Route ℕ)) (value : ℕ) (arou
         → AreValuesBeside is_half (items_of inner.values) value values
         → IsSolved routes value (ip_network around) values plan
     solved_beside values true half larger v = subst (λ n. IsSolved routes value n values plan) (same_parent (half refl))
-        (aside_both beside routes value (ip_network parent) halves inside b.best.plan b.best.solved refl out values
+        (aside_both beside routes value (ip_network parent) own_halves inside b.best.plan b.best.solved refl out values
         (v.half refl))
     solved_beside values false half larger v = subst (λ vs. IsSolved routes value (ip_network around) vs plan)
         (sym (v.larger refl))
-        (aside_around beside routes value (ip_network parent) halves inside b.best.plan b.best.solved refl out
+        (aside_around beside routes value (ip_network parent) own_halves inside b.best.plan b.best.solved refl out
         (ip_network around) (ip_valid around) up (larger refl))
 
     sorted_beside : (values : List ℕ) (is_half : Bool) → AreValuesBeside is_half (items_of inner.values) value values
