@@ -52,6 +52,7 @@ impl<'a> ShortenCommand<'a> {
     /// "10.0.0.0/33 x\n", named a: None, and faults gets
     ///     "a:1: not an entry, with or without text: 10.0.0.0/33 x (the prefix length is above 32)\n"
     /// ```
+    #[tactic(auto, using(crate::proofs::RefusedLaws::not_both))]
     pub fn read<X: Write>(
         alloc: Global,
         bytes: &'a [u8],
