@@ -1,5 +1,5 @@
 -- Lists that are made from routes one by one: their values, the numbers of these, and the values of numbers.
-use Rattle.std.proofs.Common.{◌≡◌, ℕ, ◌+◌, ◌-◌, ◌<◌, ◌≤◌, List, [], ◌∷◌, ◌++◌, length, map, take, get_or, min, Contains}
+use Rattle.std.proofs.Common.{◌≡◌, ℕ, ◌+◌, ◌-◌, ◌<◌, ◌≤◌, List, [], ◌∷◌, ◌++◌, length, take, get_or, min, Contains}
 use Rattle.std.proofs.Common.{Ordering, Less, Equal, Greater, Bool, true, false, refl, sym, ap, ap₂, ◌∙◌, subst}
 use Rattle.std.proofs.Common.{subst₂, arith, inl, inr}
 use Rattle.std.proofs.Math.Seq.{get_or-append_seam}
@@ -18,7 +18,6 @@ use Rattle.ipnet_base.proofs.ListLaws.{at_place}
 use Rattle.ipnet.specs.declared.net.IpNet.{IpNet}
 use Rattle.ipnet.specs.NetworkOf.{ip_network}
 use Rattle.ipnet_routes.specs.Routes.{Route, networks_of, ip_routes}
-use Rattle.ipnet_routes.proofs.LastPassing.{element_at}
 use Rattle.ipnet_fewest.specs.Numbers.{IsRank, HasEqual, HasValuesOf, AreNumbered, AreValued}
 use Rattle.ipnet_fewest.proofs.LeftLaws.{routes_push}
 

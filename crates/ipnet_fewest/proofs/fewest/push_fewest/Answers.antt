@@ -8,7 +8,7 @@ use Rattle.ipnet_routes.specs.Routes.{Route, ip_routes}
 use Rattle.ipnet_fewest.specs.ItemsOf.{items_of}
 use Rattle.ipnet_fewest.specs.FewestRoutes.{AreFewestAdded}
 use Rattle.ipnet_fewest.specs.Solved.{IsSolved}
-use Rattle.ipnet_fewest.specs.Plans.{choices_of, routes_for}
+use Rattle.ipnet_fewest.specs.Plans.{routes_for}
 use Rattle.ipnet_fewest.proofs.NumberLaws.{first_number}
 use Rattle.ipnet_fewest.proofs.FewestLaws.{fewest_without, fewest_with}
 use Rattle.ipnet_fewest.proofs.LeftLaws.{routes_push}

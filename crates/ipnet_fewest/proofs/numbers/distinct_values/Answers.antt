@@ -1,5 +1,5 @@
 -- The values of the routes, sorted, and each once.
-use Rattle.std.proofs.Common.{arith, sym, subst, take_all}
+use Rattle.std.proofs.Common.{[], ◌∷◌, ◌++◌, arith, sym, ap, ◌∙◌, subst, take_all}
 use Rattle.std.specs.List.Sorted.{IsSorted}
 use Rattle.ipnet_base.proofs.ListLaws.{contains_nil}
 use Rattle.ipnet_routes.specs.Routes.{ip_routes}
@@ -13,8 +13,10 @@ loop-index-init g c r in_none = absurd (contains_nil r in_none)
 pub loop-index-preserved : goal.loop-index-preserved
 loop-index-preserved g c =
     has_push c.args.routes.now c.loop-index.index c.index-routes-index.result c.loop-index-test.true
-    c.index-routes-index.is g.V.Ord.cmp g.met.V.Ord.total c.with_room.new.values.items c.push.new.self.items
-    (λ r in_front. c.with_room.ensures r.1 (c.loop-index.invariant r in_front)) c.in_ok-push.ensures.items
+    c.index-routes-index.is g.V.Ord.cmp g.met.V.Ord.total c.with_room-limit.new.values.items c.push.new.self.items
+    (λ r in_front. c.with_room-limit.ensures r.1 (c.loop-index.invariant r in_front))
+    (c.in_ok-push.ensures.items
+    ∙ ap (λ r. c.with_room-limit.new.values.items ++ r.1 ∷ []) (sym c.index-routes-index.is))
 
 pub returns-clause-sorted : goal.returns-clause-sorted
 returns-clause-sorted g c =

@@ -8,7 +8,7 @@ use Rattle.ipnet_sets.proofs.InsideLaws.{some_from_empty}
 use Rattle.ipnet_routes.specs.Routes.{ip_routes}
 use Rattle.ipnet_routes.specs.RoutesOf.{routes_of}
 use Rattle.ipnet_fewest.specs.Shortest.{AreEqualBy, IsShortest}
-use Rattle.ipnet_fewest.specs.Numbers.{HasValuesOf, AreNumbered, AreValued}
+use Rattle.ipnet_fewest.specs.Numbers.{HasValuesOf, AreValued}
 use Rattle.ipnet_fewest.proofs.ShortestLaws.{given_table, numbers_table, numbers_values, are_shortest, shortest_of_none}
 use Rattle.ipnet_fewest.proofs.ShortestLaws.{some_values}
 use Rattle.ipnet_fewest.proofs.table.shortest_table.Goals as goal
