@@ -1,5 +1,5 @@
 -- A table of which lines are refused has no routes.
-use Rattle.std.proofs.Common.{◌≡◌, ◌≢◌, ℕ, ◌+◌, List, [], ◌∷◌, Option, Some, None, IfSome, IsNone, refl, sym, subst}
+use Rattle.std.proofs.Common.{◌≡◌, ◌≢◌, ℕ, ◌+◌, List, [], ◌∷◌, sym, subst, inl, inr}
 use Rattle.ipnet.specs.Lines.{lines_of}
 use Rattle.ipnet.specs.declared.parser.Grammar.{Grammar}
 use Rattle.ipnet_lists.specs.ContentLines.{AreItems}

@@ -3,4 +3,4 @@
 
 mod shorten;
 
-pub use shorten::ShortenCommand;
+pub use shorten::{ShortenCommand, ShortenRequest};
