@@ -229,11 +229,12 @@ class Programs:
         return in_python("radix", "radix_routes.py")
 
 
-def run(command, source=os.devnull, sink=subprocess.PIPE, status=0):
-    """(time and memory, output to a pipe) of one run of a program, which must end with this status."""
+def run(command, source=os.devnull, sink=subprocess.PIPE, status=0, quiet=False):
+    """(time and memory, output to a pipe) of one run of a program, which must end with this status. Its reports are
+    discarded if `quiet`, or if the status is not 0."""
     with open(source, "rb") as given, tempfile.NamedTemporaryFile("r") as report:
         launched = [os.path.join(CACHE, "launch"), report.name] + command
-        errors = subprocess.DEVNULL if status else None
+        errors = subprocess.DEVNULL if status or quiet else None
         ended = subprocess.run(launched, stdin=given, stdout=sink, stderr=errors)
         if ended.returncode != status:
             sys.exit("bench/run: %s < %s ended with status %d" % (" ".join(command), source, ended.returncode))

@@ -11,6 +11,7 @@ use Rattle.ipnet_routes.specs.Routes.{Route}
 use Rattle.ipnet_fewest.specs.ItemsOf.{items_of}
 use Rattle.ipnet_fewest.specs.declared.choice.Choice.{Choice}
 use Rattle.ipnet_fewest.specs.Plans.{Plan, Nothing, Then}
+use Rattle.ipnet_fewest.specs.Plans.{second_network}
 use Rattle.ipnet_fewest.specs.Solved.{IsSolved, AreHalvesOf, AreValuesOfBoth}
 use Rattle.ipnet_fewest.proofs.InsideLaws.{nested_by_len}
 use Rattle.ipnet_fewest.proofs.NumberLaws.{first_number, one_number}
@@ -67,7 +68,7 @@ parent_in n parent around w sub longer u len up =
 -- ---- the half beside a solved block has no routes
 
 module _ (choice : Choice) (wanted : List (Route ℕ)) (value : ℕ) (parent : Network)
-    (h : AreHalvesOf (ip_network choice.first) (ip_network choice.second) parent)
+    (h : AreHalvesOf (ip_network choice.first) (second_network choice) parent)
     (inside : (x : Route ℕ) → Contains wanted x → IsSubnetOf x.0 (ip_network choice.first)) (p : Plan)
     (s : IsSolved wanted value (ip_network choice.first) (items_of choice.first_values) p)
     (is_value : choice.second_value ≡ value) (out : Contains (items_of choice.first_values) value → ⊥) where
@@ -77,10 +78,10 @@ module _ (choice : Choice) (wanted : List (Route ℕ)) (value : ℕ) (parent : N
   abbrev plan : Plan
   plan = Then Nothing p Nothing choice
 
-  t : IsSolved [] value (ip_network choice.second) (value ∷ []) Nothing
-  t = solved_none value (ip_network choice.second)
+  t : IsSolved [] value (second_network choice) (value ∷ []) Nothing
+  t = solved_none value (second_network choice)
 
-  in_none : (x : Route ℕ) → Contains [] x → IsSubnetOf x.0 (ip_network choice.second)
+  in_none : (x : Route ℕ) → Contains [] x → IsSubnetOf x.0 (second_network choice)
   in_none x c = absurd (contains_nil x c)
 
   in_second : Contains (value ∷ []) choice.second_value

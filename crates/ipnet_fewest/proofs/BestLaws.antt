@@ -18,7 +18,7 @@ use Rattle.ipnet_routes.proofs.RouteLaws.{network_of_route, all_valid}
 use Rattle.ipnet_fewest.specs.ItemsOf.{items_of}
 use Rattle.ipnet_fewest.specs.declared.block.Block.{Block}
 use Rattle.ipnet_fewest.specs.declared.choice.Choice.{Choice}
-use Rattle.ipnet_fewest.specs.Plans.{Plan, Nothing, Then, choices_of}
+use Rattle.ipnet_fewest.specs.Plans.{Plan, Nothing, Then, choices_of, second_network}
 use Rattle.ipnet_fewest.specs.Solved.{IsSolved, AreHalvesOf, AreTableIn, HaveValues, AreValuesOfBoth}
 use Rattle.ipnet_fewest.specs.Solved.{AreValuesBeside}
 use Rattle.ipnet_fewest.specs.SolvedBlocks.{AreBestValues, IsBlock, AreHalfBlocks}
@@ -28,6 +28,7 @@ use Rattle.ipnet_fewest.proofs.SolvedLaws.{solved_common, solved_zero, solved_al
 use Rattle.ipnet_fewest.proofs.StepLaws.{solved_none, solved_under, one_sorted}
 use Rattle.ipnet_fewest.proofs.InsideLaws.{nested_by_len}
 use Rattle.ipnet_fewest.proofs.AsideLaws.{aside_both, aside_around, parent_in}
+use Rattle.ipnet_fewest.proofs.SiblingLaws.{sibling_is}
 use Rattle.ipnet_fewest.proofs.WideLaws.{solved_wider}
 use Rattle.ipnet_fewest.proofs.TableLaws.{rest_table, rest_longer, all_longer, front_table, back_table}
 
@@ -73,7 +74,6 @@ module _ (old now : List Choice) (front back : List (Route ℕ)) (value : ℕ) (
     abbrev choice : Choice
     choice = record {
       first = first.network;
-      second = second.network;
       first_values = first.values;
       second_value = w;
       first_size = first.size;
@@ -86,6 +86,18 @@ module _ (old now : List Choice) (front back : List (Route ℕ)) (value : ℕ) (
     abbrev twos : List ℕ
     twos = (items_of second.values)
 
+    other : second_network choice ≡ ip_network second.network
+    other = sibling_is (ip_network first.network) (ip_network second.network) around h.halves
+
+    halves : AreHalvesOf (ip_network first.network) (second_network choice) around
+    halves = subst (λ z. AreHalvesOf (ip_network first.network) z around) (sym other) h.halves
+
+    in_other : (x : Route ℕ) → Contains back x → IsSubnetOf x.0 (second_network choice)
+    in_other x c = subst (IsSubnetOf x.0) (sym other) (h.in_second x c)
+
+    solved_other : IsSolved back value (second_network choice) twos q
+    solved_other = subst (λ z. IsSolved back value z twos q) (sym other) h.of_second.best.solved
+
     zero_first : get_or ones 0 0 ≡ 0 → Contains ones 0
     zero_first e = subst (Contains ones) e (first_number ones h.of_first.best.solved.some)
 
@@ -96,14 +108,14 @@ module _ (old now : List Choice) (front back : List (Route ℕ)) (value : ℕ) (
         → IsSolved (front ++ back) value around values (Then Nothing p q choice)
     solved_both values (inl (z, e)) =
         subst (λ vs. IsSolved (front ++ back) value around vs (Then Nothing p q choice)) (sym e)
-        (solved_zero choice front back value around h.halves h.in_first h.in_second twos p q
-        h.of_first.best.solved h.of_second.best.solved of_second apart
+        (solved_zero choice front back value around halves h.in_first in_other twos p q
+        h.of_first.best.solved solved_other of_second apart
         (elim z [ inl a ↦ inl (zero_first a) | inr b ↦ inr (zero_second b) ]))
     solved_both values (inr a) =
         let has : Contains values (get_or ones 0 0) =
         (a.members (get_or ones 0 0)).1 (inl (first_number ones h.of_first.best.solved.some)) in
-        solved_all choice front back value around h.halves h.in_first h.in_second twos p q
-        h.of_first.best.solved h.of_second.best.solved of_second apart values (omega (arith, has.1))
+        solved_all choice front back value around halves h.in_first in_other twos p q
+        h.of_first.best.solved solved_other of_second apart values (omega (arith, has.1))
         a.members
         (λ c. a.first_some (h.of_first.best.solved.zero_is_only c (get_or ones 0 0)
         (first_number ones h.of_first.best.solved.some)))
@@ -124,6 +136,8 @@ module _ (old now : List Choice) (front back : List (Route ℕ)) (value : ℕ) (
         h.of_first.best.sized,
         h.of_second.best.sized,
         record {
+          truncated = h.halves.first_truncated;
+          longer = omega (arith, h.halves.first_len);
           some = h.of_first.best.solved.some;
           first_is = h.of_first.size;
           second_is = h.of_second.size;
@@ -356,7 +370,6 @@ module _ (old now : List Choice) (routes : List (Route ℕ)) (value : ℕ) (arou
     abbrev beside : Choice
     beside = record {
       first = inner.network;
-      second = sibling;
       first_values = inner.values;
       second_value = value;
       first_size = inner.size;
@@ -365,6 +378,10 @@ module _ (old now : List Choice) (routes : List (Route ℕ)) (value : ℕ) (arou
 
     abbrev plan : Plan
     plan = Then Nothing b.best.plan Nothing beside
+
+    own_halves : AreHalvesOf (ip_network inner.network) (second_network beside) (ip_network parent)
+    own_halves = subst (λ z. AreHalvesOf (ip_network inner.network) z (ip_network parent))
+        (sym (sibling_is (ip_network inner.network) (ip_network sibling) (ip_network parent) h)) h
 
     up : IsSubnetOf (ip_network parent) (ip_network around)
     up = parent_in (ip_network inner.network) (ip_network parent) (ip_network around) (ip_valid around) sub longer
@@ -386,11 +403,11 @@ module _ (old now : List Choice) (routes : List (Route ℕ)) (value : ℕ) (arou
         → AreValuesBeside is_half (items_of inner.values) value values
         → IsSolved routes value (ip_network around) values plan
     solved_beside values true half larger v = subst (λ n. IsSolved routes value n values plan) (same_parent (half refl))
-        (aside_both beside routes value (ip_network parent) h inside b.best.plan b.best.solved refl out values
+        (aside_both beside routes value (ip_network parent) own_halves inside b.best.plan b.best.solved refl out values
         (v.half refl))
     solved_beside values false half larger v = subst (λ vs. IsSolved routes value (ip_network around) vs plan)
         (sym (v.larger refl))
-        (aside_around beside routes value (ip_network parent) h inside b.best.plan b.best.solved refl out
+        (aside_around beside routes value (ip_network parent) own_halves inside b.best.plan b.best.solved refl out
         (ip_network around) (ip_valid around) up (larger refl))
 
     sorted_beside : (values : List ℕ) (is_half : Bool) → AreValuesBeside is_half (items_of inner.values) value values
@@ -410,7 +427,18 @@ module _ (old now : List Choice) (routes : List (Route ℕ)) (value : ℕ) (arou
     wider_choice new e values is_half half larger v = record {
       sorted = sorted_beside values is_half v;
       plan = plan;
-      sized = (tt, b.best.sized, tt, record { some = b.best.solved.some; first_is = b.size; second_is = refl });
+      sized = (
+        tt,
+        b.best.sized,
+        tt,
+        record {
+          truncated = h.first_truncated;
+          longer = omega (arith, h.first_len);
+          some = b.best.solved.some;
+          first_is = b.size;
+          second_is = refl;
+        },
+      );
       added =
           e ∙ ap (λ z. z ++ beside ∷ []) b.best.added
           ∙ append_assoc old (choices_of b.best.plan) (beside ∷ []);

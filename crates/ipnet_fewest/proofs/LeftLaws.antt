@@ -3,12 +3,14 @@ use Rattle.std.proofs.Common.{◌≡◌, ℕ, ◌-◌, ◌<◌, ◌≤◌, List,
 use Rattle.std.proofs.Common.{refl}
 use Rattle.std.proofs.Common.{sym, ap, ◌∙◌, arith, append_assoc, if◌then◌else◌, get_or}
 use Rattle.std.proofs.lemmas.List.{length-append, map-append}
+use Rattle.ipnet_base.specs.Network.{IsTruncated}
 use Rattle.ipnet.specs.declared.net.IpNet.{IpNet}
 use Rattle.ipnet.specs.NetworkOf.{ip_network}
 use Rattle.ipnet_routes.specs.Routes.{Route, ip_routes}
 use Rattle.ipnet_fewest.specs.ItemsOf.{items_of}
 use Rattle.ipnet_fewest.specs.declared.choice.Choice.{Choice}
 use Rattle.ipnet_fewest.specs.Plans.{Plan, Nothing, Then, choices_of, routes_for, IsSized, HasPlan, is_first}
+use Rattle.ipnet_fewest.specs.Plans.{second_network}
 use Rattle.ipnet_fewest.proofs.PlanLaws.{append_nil}
 use Rattle.ipnet_fewest.proofs.ChoiceLaws.{IsLastOf, last_of_plan, fits_second, rest_is, second_is, fits_first}
 use Rattle.ipnet_fewest.proofs.ChoiceLaws.{before_is, first_is}
@@ -56,7 +58,7 @@ left_end choices left start so_far value none h plan sized e =
 abbrev shape : Plan → Plan → Plan → Choice → ℕ → Bool → List (Route ℕ)
 shape before first second choice value b =
     ((routes_for second (if b then choice.second_value else value)
-    ++ (if b then ((ip_network choice.second, choice.second_value) ∷ []) else []))
+    ++ (if b then ((second_network choice, choice.second_value) ∷ []) else []))
     ++ (routes_for first (if b then value else get_or (items_of choice.first_values) 0 0)
     ++ (if b then [] else ((ip_network choice.first, get_or (items_of choice.first_values) 0 0) ∷ []))))
     ++ routes_for before value
@@ -71,6 +73,12 @@ module _ (choices left earlier : List Choice) (choice : Choice) (start so_far : 
 
   pub some_first : 0 < length (items_of choice.first_values)
   some_first = known.sized.3.some
+
+  pub cut_first : IsTruncated (ip_network choice.first)
+  cut_first = known.sized.3.truncated
+
+  pub longer_first : 0 < (ip_network choice.first).prefix_len
+  longer_first = known.sized.3.longer
 
   pub shorter : length earlier < length left
   shorter = omega (arith, ap length last, length-append earlier (choice ∷ []))
@@ -134,12 +142,12 @@ module _ (choices left earlier : List Choice) (choice : Choice) (start so_far : 
 
       pub left_first : (r1 r2 r3 : List (Route ℕ)) → is_first choice value ≡ true
           → ((q : Plan) → IsSized q → choices_of q ≡ second → r1 ≡ so_far ++ routes_for q choice.second_value)
-          → r2 ≡ r1 ++ (ip_network choice.second, choice.second_value) ∷ []
+          → r2 ≡ r1 ++ (second_network choice, choice.second_value) ∷ []
           → ((p : Plan) → IsSized p → choices_of p ≡ first → r3 ≡ r2 ++ routes_for p value)
           → AreLeft choices rest start r3 value
       left_first r1 r2 r3 is_best of_q of_r of_p = step r3 (λ p q sp sq b.
           let one = routes_for q choice.second_value in
-          let top = (ip_network choice.second, choice.second_value) ∷ [] in
+          let top = (second_network choice, choice.second_value) ∷ [] in
           let two = routes_for p value in
           let end = routes_for b value in
           let all : r3 ≡ so_far ++ ((one ++ top) ++ two) =

@@ -26,3 +26,4 @@ pub mod ValuedLaws
 pub mod ShortLaws
 pub mod ShortestLaws
 pub mod AlikeLaws
+pub mod SiblingLaws

@@ -1,12 +1,12 @@
 -- Lists that are made from routes one by one: their values, the numbers of these, and the values of numbers.
-use Rattle.std.proofs.Common.{◌≡◌, ℕ, ◌+◌, ◌-◌, ◌<◌, ◌≤◌, List, [], ◌∷◌, ◌++◌, length, map, take, get_or, min, Contains}
+use Rattle.std.proofs.Common.{◌≡◌, ℕ, ◌+◌, ◌-◌, ◌<◌, ◌≤◌, List, [], ◌∷◌, ◌++◌, length, take, get_or, min, Contains}
 use Rattle.std.proofs.Common.{Ordering, Less, Equal, Greater, Bool, true, false, refl, sym, ap, ap₂, ◌∙◌, subst}
 use Rattle.std.proofs.Common.{subst₂, arith, inl, inr}
 use Rattle.std.proofs.Math.Seq.{get_or-append_seam}
 use Rattle.std.proofs.lemmas.Bool.{cases_lt}
 use Rattle.std.proofs.lemmas.List.{length-map, get_or-map, get_or_append_left, length_push, map-append, take_more}
-use Rattle.std.proofs.lemmas.List.{take_all}
-use Rattle.std.proofs.lemmas.Cmp.{tied_back}
+use Rattle.std.proofs.lemmas.Cmp.{tied_back, tied_itself, alike_right}
+use Rattle.std.proofs.lemmas.List.Elements.{Contains-push_cases, Contains-push, Contains-append_left}
 use Rattle.std.proofs.lemmas.List.Kept.{Any-dedup, IsStrictlySortedBy-dedup}
 use Rattle.std.proofs.lemmas.List.Sorted.{Contains-permutation}
 use Rattle.std.proofs.lemmas.Map.Keys.{Less-from_sorted}
@@ -18,16 +18,12 @@ use Rattle.ipnet_base.proofs.ListLaws.{at_place}
 use Rattle.ipnet.specs.declared.net.IpNet.{IpNet}
 use Rattle.ipnet.specs.NetworkOf.{ip_network}
 use Rattle.ipnet_routes.specs.Routes.{Route, networks_of, ip_routes}
-use Rattle.ipnet_routes.proofs.LastPassing.{element_at}
-use Rattle.ipnet_fewest.specs.Numbers.{IsRank, HasValuesOf, AreNumbered, AreValued}
+use Rattle.ipnet_fewest.specs.Numbers.{IsRank, HasEqual, HasValuesOf, AreNumbered, AreValued}
 use Rattle.ipnet_fewest.proofs.LeftLaws.{routes_push}
 
 -- ---- the values of the routes
 
 module _ {V : Type 0} where
-  abbrev value : IpNet × V → V
-  value r = r.1
-
   abbrev route : IpNet × V → Route V
   route r = (ip_network r.0, r.1)
 
@@ -35,25 +31,7 @@ module _ {V : Type 0} where
       → get_or (ip_routes routes) i (route x) ≡ route x
   read_route routes i x lt is = get_or-map route routes i x (route x) lt ∙ ap route (sym is)
 
-  value_in : (routes : List (IpNet × V)) (r : Route V) → Contains (ip_routes routes) r
-      → Contains (map value routes) r.1
-  value_in routes r c =
-      let lt : c.0 < length routes = omega (arith, c.1, length-map routes route) in
-      let (x, at) = element_at routes c.0 lt in
-      let same : r ≡ route x = sym c.2 ∙ get_or-map route routes c.0 x r lt ∙ ap route (at x) in (
-        c.0,
-        omega (arith, lt, length-map routes value),
-        get_or-map value routes c.0 x r.1 lt ∙ ap value (at x) ∙ sym (ap (λ (z : Route V). z.1) same),
-      )
-
-  pub values_more : (routes : List (IpNet × V)) (i : ℕ) (x : IpNet × V) (values new : List V) → i < length routes
-      → x ≡ get_or routes i x → values ≡ map value (take i routes) → new ≡ values ++ x.1 ∷ []
-      → new ≡ map value (take (i + 1) routes)
-  values_more routes i x values new lt is h e =
-      e ∙ ap (λ z. z ++ x.1 ∷ []) h ∙ sym (map-append value (take i routes) (x ∷ []))
-      ∙ ap (map value) (ap (λ z. take i routes ++ z ∷ []) is ∙ sym (take_more routes i x lt))
-
-  -- each value has one in the sorted list without the repeated values
+  -- each value has an equal one in the sorted list without the repeated values
   module _ (cmp : V → V → Ordering) (o : IsTotalOrder cmp) (same : V → V → Bool) (e : IsEquivalence same)
       (ties : (x y : V) → same x y ≡ eq_by_cmp cmp x y) where
     equal_from_test : (x y : V) → same x y ≡ true → cmp y x ≡ Equal
@@ -64,18 +42,15 @@ module _ {V : Type 0} where
         go Equal h = refl
         go Greater h = absurd (cc)
 
-    pub values_end : (routes : List (IpNet × V)) (i : ℕ) (values sorted distinct : List V) → length routes ≤ i
-        → values ≡ map value (take i routes) → IsPermutation values sorted → distinct ≡ dedup same sorted
-        → HasValuesOf cmp (ip_routes routes) distinct
-    values_end routes i values sorted distinct le h moved kept r c =
-        let all : values ≡ map value routes = h ∙ ap (map value) (take_all i routes le) in
-        let in_sorted : Contains sorted r.1 = Contains-permutation values sorted r.1 moved
-        (subst (λ z. Contains z r.1) (sym all) (value_in routes r c)) in
-        let (k, v, lt, at, t) = Any-dedup e sorted r.1 in_sorted in
+    pub has_kept : (values sorted distinct : List V) → IsPermutation values sorted → distinct ≡ dedup same sorted
+        → (v : V) → HasEqual cmp values v → HasEqual cmp distinct v
+    has_kept values sorted distinct moved kept v h =
+        let in_sorted : Contains sorted h.found = Contains-permutation values sorted h.found moved h.member in
+        let (k, w, lt, at, t) = Any-dedup e sorted h.found in_sorted in
         record {
-          found = v;
-          member = subst (λ z. Contains z v) (sym kept) (k, lt, at);
-          equal = equal_from_test r.1 v t;
+          found = w;
+          member = subst (λ z. Contains z w) (sym kept) (k, lt, at);
+          equal = sym (alike_right o h.found v w h.equal) ∙ equal_from_test h.found w t;
         }
 
     pub values_sorted : (sorted distinct : List V) → IsSorted cmp sorted → distinct ≡ dedup same sorted
@@ -126,6 +101,29 @@ module _ {V : Type 0} (routes : List (IpNet × V)) (i : ℕ) (x : IpNet × V) (l
   front_more : ip_routes (take (i + 1) routes) ≡ ip_routes (take i routes) ++ (ip_network x.0, x.1) ∷ []
   front_more = routes_push (take i routes) (take (i + 1) routes) x
       (take_more routes i x lt ∙ ap (λ z. take i routes ++ z ∷ []) (sym is))
+
+  -- ---- the value of one route more
+
+  pub has_push : (cmp : V → V → Ordering) → IsTotalOrder cmp → (values new : List V)
+      → HasValuesOf cmp (ip_routes (take i routes)) values → new ≡ values ++ x.1 ∷ []
+      → HasValuesOf cmp (ip_routes (take (i + 1) routes)) new
+  has_push cmp o values new h e r c =
+      elim (Contains-push_cases (ip_routes (take i routes)) (ip_network x.0, x.1) r
+      (subst (λ z. Contains z r) front_more c)) [
+        | inl before ↦
+            let old = h r before in
+            record {
+              found = old.found;
+              member = subst (λ z. Contains z old.found) (sym e)
+                  (Contains-append_left values (x.1 ∷ []) old.found old.member);
+              equal = old.equal;
+            }
+        | inr last ↦ record {
+          found = x.1;
+          member = subst (λ z. Contains z x.1) (sym e) (Contains-push values x.1);
+          equal = subst (λ (z : Route V). cmp x.1 z.1 ≡ Equal) last (tied_itself o x.1);
+        }
+      ]
 
   -- ---- the number of one route more
 

@@ -1,63 +1,69 @@
--- The search for the place of a network in a table.
-use Rattle.std.proofs.Common.{◌≡◌, ℕ, ◌+◌, ◌<◌, ◌≤◌, List, length, Contains, subst, arith, inl, inr}
-use Rattle.std.proofs.lemmas.Bool.{cases_order}
+-- The place of a network in a table: the first network that is not before it.
+use Rattle.std.proofs.Common.{◌≡◌, ℕ, ◌<◌, ◌≤◌, Bool, true, false, Option, List, length, get_or, Ordering, Contains}
+use Rattle.std.proofs.Common.{sym, ap, ◌∙◌, subst, arith, inl, inr}
+use Rattle.std.specs.List.Sorted.{IsPartitionedBy, IsPartitionPoint}
+use Rattle.std.specs.Ordering.{partial_lt}
+use Rattle.std.proofs.lemmas.Bool.{cases_eq, true_from_ne_false}
+use Rattle.std.proofs.lemmas.List.{length-map, get_or-map}
 use Rattle.ipnet_base.specs.Network.{Network, IsBefore}
 use Rattle.ipnet_base.specs.Stack.{IsBeforeOrEqual}
-use Rattle.ipnet_base.proofs.ListLaws.{pair_at, one_place}
-use Rattle.ipnet_base.proofs.OrderLaws.{IsBefore-transitive, IsBeforeOrEqual-transitive}
+use Rattle.ipnet_base.specs.Values.{ComparesBy}
+use Rattle.ipnet_base.proofs.ListLaws.{pair_at}
+use Rattle.ipnet_base.proofs.OrderLaws.{IsBefore-transitive}
+use Rattle.ipnet.specs.declared.net.IpNet.{IpNet}
+use Rattle.ipnet.specs.NetworkOf.{ip_network}
+use Rattle.ipnet_routes.specs.Routes.{ip_networks}
 use Rattle.ipnet_routes.specs.RouteSteps.{IsTable, IsPlaceOf}
-use Rattle.ipnet_routes.proofs.RouteLaws.{ascending_of}
+use Rattle.ipnet_routes.proofs.LastPassing.{element_at}
+use Rattle.ipnet_routes.proofs.RouteLaws.{not_back, ascending_of, value_at, less_gives, not_less_gives}
 
--- The networks before `low` come before the network, and those from `high` on do not.
-pub record IsPlaceWithin (networks : List Network) (n : Network) (low high : ℕ) : Type 0 where
-  pub ordered : low ≤ high
-  pub within : high ≤ length networks
-  pub before : (k : Network) (c : Contains networks k) → c.0 < low → IsBefore k n
-  pub from : (k : Network) (c : Contains networks k) → high ≤ c.0 → IsBeforeOrEqual n k
+module _ (eq : IpNet → IpNet → Bool) (cmp : IpNet → IpNet → Ordering) (partial_cmp : IpNet → IpNet → Option Ordering)
+    (compare : (a b : IpNet) → ComparesBy ip_network IsBefore eq cmp partial_cmp a b) where
+  -- the route's network is before the network
+  abbrev pub is_before : IpNet → IpNet × ℕ → Bool
+  is_before n r = partial_lt partial_cmp r.0 n
 
-pub within_start : (networks : List Network) (n : Network) (high : ℕ) → high ≡ length networks
-    → IsPlaceWithin networks n 0 high
-within_start networks n high e = record {
-  ordered = omega arith;
-  within = omega (arith, e);
-  before = λ k c l. absurd (omega (arith, l));
-  from = λ k c l. absurd (omega (arith, l, c.1, e));
-}
+  before_gives : (a b : IpNet) → IsBefore (ip_network a) (ip_network b) → partial_lt partial_cmp a b ≡ true
+  before_gives a b h = true_from_ne_false (partial_lt partial_cmp a b)
+      (λ e. not_back (ip_network a) (ip_network b) h (not_less_gives a b (compare a b) e))
 
-pub within_down : (networks : List Network) → IsTable networks → (n : Network) (low high : ℕ) (m : Network)
-    (e : Contains networks m) → low ≤ e.0 → e.0 < high → IsBeforeOrEqual n m
-    → IsPlaceWithin networks n low high → IsPlaceWithin networks n low e.0
-within_down networks table n low high m e ge lt after h = record {
-  ordered = ge;
-  within = omega (arith, lt, h.within);
-  before = h.before;
-  from = λ k c l. elim (cases_order e.0 c.0) [
-    | inl same ↦ subst (IsBeforeOrEqual n) (one_place networks m k e c same) after
-    | inr (inl more) ↦ IsBeforeOrEqual-transitive n m k after
-        (inr (pair_at IsBefore networks (ascending_of networks table) m k e c more))
-    | inr (inr less) ↦ absurd (omega (arith, less, l))
-  ];
-}
+  -- the networks before it come first
+  pub are_parted : (routes : List (IpNet × ℕ)) → IsTable (ip_networks routes) → (n : IpNet)
+      → IsPartitionedBy (is_before n) routes
+  are_parted routes table n i j d le l less = elim (cases_eq i j) [
+    | inl same ↦ subst (λ k. is_before n (get_or routes k d) ≡ true) (sym same) less
+    | inr other ↦
+        let first = (get_or routes i d).0 in
+        let later = (get_or routes j d).0 in
+        before_gives first n
+        (IsBefore-transitive (ip_network first) (ip_network later) (ip_network n)
+        (pair_at IsBefore (ip_networks routes) (ascending_of (ip_networks routes) table) (ip_network first)
+        (ip_network later) (value_at (λ r. ip_network r.0) routes i d (omega (arith, le, l)))
+        (value_at (λ r. ip_network r.0) routes j d l) (omega (arith, le, other)))
+        (less_gives later n (compare later n) less))
+  ]
 
-pub within_up : (networks : List Network) → IsTable networks → (n : Network) (low high : ℕ) (m : Network)
-    (e : Contains networks m) → e.0 < high → IsBefore m n
-    → IsPlaceWithin networks n low high → IsPlaceWithin networks n (e.0 + 1) high
-within_up networks table n low high m e lt is_before h = record {
-  ordered = omega (arith, lt);
-  within = h.within;
-  before = λ k c l. elim (cases_order e.0 c.0) [
-    | inl same ↦ subst (λ z. IsBefore z n) (one_place networks m k e c same) is_before
-    | inr (inl more) ↦ absurd (omega (arith, more, l))
-    | inr (inr less) ↦ IsBefore-transitive k m n
-        (pair_at IsBefore networks (ascending_of networks table) k m c e less) is_before
-  ];
-  from = h.from;
-}
-
-pub within_end : (networks : List Network) (n : Network) (low high : ℕ) → high ≤ low
-    → IsPlaceWithin networks n low high → IsPlaceOf networks n low
-within_end networks n low high le h = record {
-  within = omega (arith, h.within, h.ordered);
-  before = h.before;
-  from = λ k c l. h.from k c (omega (arith, le, l));
-}
+  -- the place from which on no network is before it
+  pub place_from : (routes : List (IpNet × ℕ)) (n : IpNet) (place : ℕ) → place ≤ length routes
+      → IsPartitionPoint (λ r. is_before n r ≡ true) (λ r. is_before n r ≡ false) routes place
+      → IsPlaceOf (ip_networks routes) (ip_network n) place
+  place_from routes n place within point = record {
+    within = omega (arith, within, length-map routes (λ r. ip_network r.0));
+    before = λ k c low.
+        let inside : c.0 < length routes = omega (arith, c.1, length-map routes (λ r. ip_network r.0)) in
+        let (r, at) = element_at routes c.0 inside in
+        subst (λ z. IsBefore z (ip_network n)) (of_route k c r (at r) inside)
+        (less_gives r.0 n (compare r.0 n)
+        (subst (λ z. is_before n z ≡ true) (at r) (point.0 c.0 r (omega arith) low)));
+    from = λ k c high.
+        let inside : c.0 < length routes = omega (arith, c.1, length-map routes (λ r. ip_network r.0)) in
+        let (r, at) = element_at routes c.0 inside in
+        subst (IsBeforeOrEqual (ip_network n)) (of_route k c r (at r) inside)
+        (not_less_gives r.0 n (compare r.0 n)
+        (subst (λ z. is_before n z ≡ false) (at r) (point.1 c.0 r high inside)));
+  }
+    where
+      of_route : (k : Network) (c : Contains (ip_networks routes) k) (r : IpNet × ℕ) → get_or routes c.0 r ≡ r
+          → c.0 < length routes → ip_network r.0 ≡ k
+      of_route k c r is inside =
+          ap (λ z. ip_network z.0) (sym is) ∙ sym (get_or-map (λ z. ip_network z.0) routes c.0 r k inside) ∙ c.2

@@ -12,8 +12,7 @@ use Rattle.ipnet_base.proofs.ListLaws.{partners_no_more}
 use Rattle.ipnet_base.proofs.NetworkLaws.{truncation_of_truncated}
 use Rattle.ipnet_base.proofs.OrderLaws.{IsBefore-asymmetric, order_total}
 use Rattle.ipnet_routes.specs.Routes.{Route, without_host_bits, IsLatest, IsTableOf, IsLongestMatch}
-use Rattle.ipnet_fewest.specs.Shortest.{HasValue, RouteAlike}
-use Rattle.ipnet_fewest.specs.Numbers.{AreEqualBy}
+use Rattle.ipnet_fewest.specs.Shortest.{AreEqualBy, HasValue, RouteAlike}
 use Rattle.ipnet_fewest.proofs.MatchLaws.{longest_or_none}
 
 not_before_itself : (n k : Network) → n ≡ k → IsBefore n k → ⊥

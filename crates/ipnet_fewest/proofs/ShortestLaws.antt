@@ -12,8 +12,8 @@ use Rattle.ipnet_routes.specs.Routes.{Route, networks_of, ip_routes, ip_networks
 use Rattle.ipnet_routes.specs.RouteSteps.{IsTable}
 use Rattle.ipnet_routes.proofs.LastPassing.{element_at}
 use Rattle.ipnet_routes.proofs.RouteLaws.{one_match, same_networks, table_of}
-use Rattle.ipnet_fewest.specs.Shortest.{IsShortest}
-use Rattle.ipnet_fewest.specs.Numbers.{AreEqualBy, IsRank, HasValuesOf, AreNumbered, AreValued}
+use Rattle.ipnet_fewest.specs.Shortest.{AreEqualBy, IsShortest}
+use Rattle.ipnet_fewest.specs.Numbers.{IsRank, HasValuesOf, AreNumbered, AreValued}
 use Rattle.ipnet_fewest.specs.Solved.{HaveValues}
 use Rattle.ipnet_fewest.specs.FewestRoutes.{AreFewest}
 use Rattle.ipnet_fewest.proofs.ValuedLaws.{by_places, of_values, list_alike, made_at_least}

@@ -10,6 +10,7 @@ use Rattle.ipnet_routes.specs.Routes.{Route}
 use Rattle.ipnet_fewest.specs.ItemsOf.{items_of}
 use Rattle.ipnet_fewest.specs.declared.choice.Choice.{Choice}
 use Rattle.ipnet_fewest.specs.Plans.{Plan, Nothing, Then, choices_of, routes_for}
+use Rattle.ipnet_fewest.specs.Plans.{second_network}
 use Rattle.ipnet_fewest.specs.Solved.{RoutesAs, AreRoutesIn, AreMade, AreHalvesOf, HasUnmatched, IsSolved}
 use Rattle.ipnet_fewest.proofs.NumberLaws.{number_decided, first_number, one_number}
 use Rattle.ipnet_fewest.proofs.PlanLaws.{joined_plan, joined_choices, joined_routes, append_nil}
@@ -148,17 +149,17 @@ module _ (front back : List (Route ℕ)) (value : ℕ) (l r block : Network) (h 
 -- ---- the halves have no best value in common
 
 module _ (choice : Choice) (front back : List (Route ℕ)) (value : ℕ) (block : Network)
-    (h : AreHalvesOf (ip_network choice.first) (ip_network choice.second) block)
+    (h : AreHalvesOf (ip_network choice.first) (second_network choice) block)
     (in_l : (x : Route ℕ) → Contains front x → IsSubnetOf x.0 (ip_network choice.first))
-    (in_r : (x : Route ℕ) → Contains back x → IsSubnetOf x.0 (ip_network choice.second)) (twos : List ℕ) (p q : Plan)
+    (in_r : (x : Route ℕ) → Contains back x → IsSubnetOf x.0 (second_network choice)) (twos : List ℕ) (p q : Plan)
     (s : IsSolved front value (ip_network choice.first) (items_of choice.first_values) p)
-    (t : IsSolved back value (ip_network choice.second) twos q) (in_second : Contains twos choice.second_value)
+    (t : IsSolved back value (second_network choice) twos q) (in_second : Contains twos choice.second_value)
     (apart : (v : ℕ) → Contains (items_of choice.first_values) v → Contains twos v → ⊥) where
   abbrev l : Network
   l = ip_network choice.first
 
   abbrev r : Network
-  r = ip_network choice.second
+  r = second_network choice
 
   abbrev ones : List ℕ
   ones = (items_of choice.first_values)
@@ -177,7 +178,7 @@ module _ (choice : Choice) (front back : List (Route ℕ)) (value : ℕ) (block 
   abbrev shape : ℕ → Bool → List (Route ℕ)
   shape v b =
       ((routes_for q (if b then choice.second_value else v)
-      ++ (if b then ((ip_network choice.second, choice.second_value) ∷ []) else []))
+      ++ (if b then ((second_network choice, choice.second_value) ∷ []) else []))
       ++ (routes_for p (if b then v else get_or (items_of choice.first_values) 0 0)
       ++ (if b then [] else ((ip_network choice.first, get_or (items_of choice.first_values) 0 0) ∷ [])))) ++ []
 

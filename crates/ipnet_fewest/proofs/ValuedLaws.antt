@@ -9,8 +9,8 @@ use Rattle.ipnet_base.specs.Address.{Address}
 use Rattle.ipnet_base.specs.Network.{Network, IsNetwork, InBlock}
 use Rattle.ipnet_routes.specs.Routes.{Route, networks_of, IsLongestMatch}
 use Rattle.ipnet_routes.proofs.LastPassing.{element_at}
-use Rattle.ipnet_fewest.specs.Shortest.{HasValue, RouteAlike}
-use Rattle.ipnet_fewest.specs.Numbers.{AreEqualBy, IsRank, HasValuesOf, AreNumbered, AreValued}
+use Rattle.ipnet_fewest.specs.Shortest.{AreEqualBy, HasValue, RouteAlike}
+use Rattle.ipnet_fewest.specs.Numbers.{IsRank, HasValuesOf, AreNumbered, AreValued}
 use Rattle.ipnet_fewest.specs.Solved.{IsSameNumber}
 use Rattle.ipnet_fewest.specs.FewestRoutes.{AreFewest}
 use Rattle.ipnet_fewest.proofs.RankLaws.{count_less, rank_is_count, count_same, rank_below, value_at_rank}

@@ -6,7 +6,8 @@ use Rattle.ipnet_routes.specs.Routes.{Route}
 use Rattle.ipnet_fewest.specs.Shortest.{RouteAlike}
 use Rattle.ipnet_fewest.specs.Solved.{IsSameNumber, AreRoutesIn, RoutesAs, HaveValues}
 
--- Routes in a block that route it as wanted. No list of routes in the block that does so has fewer.
+-- Routes in a block give each address of it the value that the wanted routes give it. No list of routes in the block
+-- does so with fewer routes.
 pub record AreFewestIn (wanted : List (Route ℕ)) (block : Network) (made : List (Route ℕ)) : Type 0 where
   pub inside : AreRoutesIn block made
   pub truncated : (r : Route ℕ) → Contains made r → IsTruncated r.0
@@ -20,7 +21,8 @@ pub record AreFewestAdded (wanted : List (Route ℕ)) (block : Network) (old new
   pub added : new ≡ old ++ made
   pub fewest : AreFewestIn wanted block made
 
--- The lists route alike. Every list that routes alike has at least as many routes as the second.
+-- The routes that were made give each address the value that the wanted routes give it, and no list of routes does so
+-- with fewer routes.
 pub record AreFewest (wanted made : List (Route ℕ)) : Type 0 where
   pub valid : (r : Route ℕ) → Contains made r → IsNetwork r.0
   pub truncated : (r : Route ℕ) → Contains made r → IsTruncated r.0
@@ -29,7 +31,7 @@ pub record AreFewest (wanted made : List (Route ℕ)) : Type 0 where
   pub least : (others : List (Route ℕ)) → ((r : Route ℕ) → Contains others r → IsNetwork r.0) → HaveValues others
       → RouteAlike IsSameNumber wanted others → length made ≤ length others
 
--- The network of all addresses of the family.
+-- The network of all addresses of the family. Example: 0.0.0.0/0.
 pub record IsWhole (family : Family) (whole : Network) : Type 0 where
   pub network : IsNetwork whole
   pub truncated : IsTruncated whole

@@ -6,4 +6,4 @@ use Rattle.ipnet_fewest.specs.declared.values.Values.TheVariants.{One, Many}
 -- The values as a list.
 abbrev pub items_of : Values → List ℕ
 items_of (One value) = value ∷ []
-items_of (Many list) = list.items
+items_of (Many list) = list.value.items

@@ -1,7 +1,9 @@
 -- The routes that follow from a list of choices and a value. Only private contracts use these.
-use Rattle.std.specs.Prelude.{◌≡◌, ℕ, ⊤, ◌<◌, Bool, List, [], ◌∷◌, ◌++◌, length, get_or, nat_eq}
+use Rattle.std.specs.Prelude.{◌≡◌, ℕ, ⊤, ◌+◌, ◌-◌, ◌*◌, ◌/◌, ◌%◌, ◌^◌, ◌<◌, Bool}
+use Rattle.std.specs.Prelude.{List, [], ◌∷◌, ◌++◌, length, get_or, nat_eq}
 use Rattle.std.specs.Prelude.{if◌then◌else◌}
 use Rattle.std.specs.List.{list_any}
+use Rattle.ipnet_base.specs.Network.{Network, IsTruncated, host_bits}
 use Rattle.ipnet.specs.NetworkOf.{ip_network}
 use Rattle.ipnet_routes.specs.Routes.{Route}
 use Rattle.ipnet_fewest.specs.ItemsOf.{items_of}
@@ -19,8 +21,20 @@ choices_of Nothing = []
 choices_of (Then earlier first second choice) =
     choices_of earlier ++ (choices_of first ++ (choices_of second ++ choice ∷ []))
 
--- The choice has a best value of its first half, and says how many choices are in its halves.
+-- The other half of the network one bit shorter. Example: 10.0.0.0/9 for 10.128.0.0/9.
+abbrev pub sibling : Network → Network
+sibling n = record n {
+  number = (n.number / 2 ^ host_bits n + 1 - 2 * (n.number / 2 ^ host_bits n % 2)) * 2 ^ host_bits n;
+}
+
+-- The second half.
+abbrev pub second_network : Choice → Network
+second_network choice = sibling (ip_network choice.first)
+
+-- The choice has a half without host bits and a best value of this half, and says how many choices are in its halves.
 pub record HasSizes (choice : Choice) (first second : ℕ) : Type 0 where
+  pub truncated : IsTruncated (ip_network choice.first)
+  pub longer : 0 < (ip_network choice.first).prefix_len
   pub some : 0 < length (items_of choice.first_values)
   pub first_is : choice.first_size ≡ first
   pub second_is : choice.second_size ≡ second
@@ -51,7 +65,7 @@ second_value choice value = if is_first choice value then choice.second_value el
 -- The route of the second half, if it needs one.
 abbrev pub second_route : Choice → ℕ → List (Route ℕ)
 second_route choice value =
-    if is_first choice value then ((ip_network choice.second, choice.second_value) ∷ []) else []
+    if is_first choice value then ((second_network choice, choice.second_value) ∷ []) else []
 
 -- The routes in the block of a plan, if the block has this value.
 abbrev pub routes_for : Plan → ℕ → List (Route ℕ)

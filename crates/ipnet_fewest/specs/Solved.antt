@@ -24,7 +24,8 @@ HasNoMatch routes x = (r : Route ℕ) → Contains routes r → InBlock r.0 x �
 abbrev pub IsRouted : List (Route ℕ) → ℕ → Address → ℕ → Type 0
 IsRouted routes other x v = HasValue IsSameNumber routes x v ⊎ (HasNoMatch routes x × (other ≡ v))
 
--- Every value that the first routes give an address of the block, the second routes give it too.
+-- Each value that the first routes give an address of the block is given by the wanted routes too. An address without
+-- a match has the value beside the list.
 abbrev pub RoutesAs : Network → List (Route ℕ) → ℕ → List (Route ℕ) → ℕ → Type 0
 RoutesAs block routes other wanted value = (x : Address) → InBlock block x → (v : ℕ) → IsRouted routes other x v
     → IsRouted wanted value x v
@@ -54,8 +55,9 @@ pub record HasUnmatched (routes : List (Route ℕ)) (value : ℕ) (block : Netwo
   pub unmatched : (v : ℕ) → IsRouted routes value address v → v ≡ 0
 
 -- The values with which the block needs the fewest routes, and the choices from which these routes follow. There are as
--- many routes as choices for each of these values, and at least one more for each other value. If an address of the
--- block has no value, then 0 is the only one of the values.
+-- many routes as choices for each of these values, and at least one more for each other value. If 0 is one of the
+-- values, it is the only one: some address of the block has no value.
+-- Example: in 10.0.0.0/8, 10.0.0.0/9 is wanted with 2 and 10.128.0.0/9 with 3. The values are 2 and 3, with one choice.
 pub record IsSolved (wanted : List (Route ℕ)) (value : ℕ) (block : Network) (values : List ℕ) (plan : Plan) : Type 0
   where
     pub some : 0 < length values
@@ -95,13 +97,15 @@ pub record AreTableIn (around : Network) (networks : List Network) : Type 0 wher
 abbrev pub HaveValues : List (Route ℕ) → Type 0
 HaveValues routes = (r : Route ℕ) → Contains routes r → 0 < r.1
 
--- The first value of one of the lists is 0, and 0 is the only value; or else, the values are the values of both lists.
+-- The first value of neither list is 0, and the values are the values of both lists.
 pub record AreAllValues (first second values : List ℕ) : Type 0 where
   pub first_some : get_or first 0 0 ≢ 0
   pub second_some : get_or second 0 0 ≢ 0
   pub sorted : IsNonDecreasing values
   pub members : (v : ℕ) → Contains values v ↔ (Contains first v ⊎ Contains second v)
 
+-- If the first value of one of the lists is 0, then 0 is the only value. Else, the values are the values of both lists.
+-- Example: 1, 2, 4 for the lists 1, 4 and 2. It is 0 for the lists 1 and 0.
 abbrev pub AreValuesOfBoth : List ℕ → List ℕ → List ℕ → Type 0
 AreValuesOfBoth first second values =
     (((get_or first 0 0 ≡ 0) ⊎ (get_or second 0 0 ≡ 0)) × (values ≡ 0 ∷ [])) ⊎ AreAllValues first second values

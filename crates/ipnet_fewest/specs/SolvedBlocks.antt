@@ -1,7 +1,7 @@
 -- Blocks as the code has them. Only private contracts use these.
-use Rattle.std.specs.Prelude.{◌≡◌, ℕ, List, ◌++◌, length, Contains}
+use Rattle.std.specs.Prelude.{◌≡◌, ℕ, List, [], ◌++◌, length, Contains}
 use Rattle.std.specs.List.Sorted.{IsNonDecreasing}
-use Rattle.ipnet_base.specs.Network.{Network, IsSubnetOf}
+use Rattle.ipnet_base.specs.Network.{Network, IsSubnetOf, IsTruncated}
 use Rattle.ipnet.specs.NetworkOf.{ip_network}
 use Rattle.ipnet_routes.specs.Routes.{Route}
 use Rattle.ipnet_fewest.specs.ItemsOf.{items_of}
@@ -25,6 +25,12 @@ pub record IsBlock (old new : List Choice) (wanted : List (Route ℕ)) (value : 
   pub network : ip_network block.network ≡ around
   pub best : AreBestValues old new wanted value around (items_of block.values)
   pub size : block.size ≡ length (choices_of best.plan)
+
+-- The block is the whole network, and the choices are all choices in it. Addresses without a route have no value.
+pub record IsSolution (wanted : List (Route ℕ)) (around : Network) (block : Block) (choices : List Choice) : Type 0
+  where
+    pub truncated : IsTruncated around
+    pub of_block : IsBlock [] choices wanted 0 around block
 
 -- The halves of a network are solved, one after the other.
 pub record AreHalfBlocks (old new : List Choice) (front back : List (Route ℕ)) (value : ℕ) (around : Network)

@@ -56,13 +56,12 @@ fn joined(
 {
     let common = common_values(alloc, first.values.as_slice(), second.values.as_slice())?;
     if !common.is_empty() {
-        return Ok(Values::of(common));
+        return Values::of(alloc, common);
     }
     let values = values_of_both(alloc, first.values.as_slice(), second.values.as_slice())?;
     let second_value = second.values.as_slice()[0];
     choices.push(Choice {
         first: first.network,
-        second: second.network,
         first_values: first.values,
         second_value,
         first_size: first.size,
@@ -99,12 +98,11 @@ fn widened(
         });
     }
     let start = choices.len() - inner.size;
-    let (parent, sibling) = parent_and_sibling(&inner.network);
+    let (parent, _) = parent_and_sibling(&inner.network);
     let is_half = parent.prefix_len() == around.prefix_len();
     let values = values_beside(alloc, inner.values.as_slice(), value, is_half)?;
     choices.push(Choice {
         first: inner.network,
-        second: sibling,
         first_values: inner.values,
         second_value: value,
         first_size: inner.size,

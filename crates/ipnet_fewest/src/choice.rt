@@ -3,6 +3,7 @@ ghost use Rattle.std.specs.Prelude.{◌≡◌, ◌++◌, OnOk};
 ghost use Rattle.ipnet_routes.specs.Routes.{ip_routes};
 ghost use Rattle.ipnet_fewest.specs.Plans.{Plan, choices_of, routes_for, IsSized, HasPlan};
 
+use crate::halves::sibling;
 use crate::values::Values;
 use ipnet::IpNet;
 use std::alloc::AllocError;
@@ -11,9 +12,8 @@ use std::alloc::AllocError;
 /// best for the first half, the second half gets the route. Else the first half gets it.
 #[derive(Drop)]
 pub(crate) struct Choice {
-    /// The halves.
+    /// The first half. The second half is its sibling.
     pub(crate) first: IpNet,
-    pub(crate) second: IpNet,
     /// The best values of the first half.
     pub(crate) first_values: Values,
     /// One of the best values of the second half.
@@ -39,7 +39,7 @@ pub(crate) fn push_routes(
         let (rest, first) = rest.split_at(rest.len() - choice.first_size);
         if choice.first_values.as_slice().contains(&value) {
             push_routes(routes, second, choice.second_value)?;
-            routes.push((choice.second, choice.second_value))?;
+            routes.push((sibling(&choice.first), choice.second_value))?;
             push_routes(routes, first, value)?;
         } else {
             let first_value = choice.first_values.as_slice()[0];

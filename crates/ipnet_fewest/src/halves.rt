@@ -1,10 +1,11 @@
 //! The halves of a network, and the routes in each of them.
-ghost use Rattle.std.specs.Prelude.{◌<◌, length};
+ghost use Rattle.std.specs.Prelude.{◌≡◌, ◌<◌, length};
 ghost use Rattle.ipnet_base.specs.Address.{width};
 ghost use Rattle.ipnet_base.specs.Network.{IsTruncated};
 ghost use Rattle.ipnet.specs.NetworkOf.{ip_network};
 ghost use Rattle.ipnet_routes.specs.Routes.{ip_networks};
 ghost use Rattle.ipnet_routes.specs.RouteSteps.{IsTable, IsPlaceOf};
+ghost use Rattle.ipnet_fewest.specs.Plans.{sibling};
 ghost use Rattle.ipnet_fewest.specs.Solved.{AreHalvesOf, AreTableIn, IsAroundAll};
 
 use ipnet::IpNet;
@@ -30,18 +31,7 @@ pub(crate) fn count_before(routes: &[(IpNet, usize)], network: &IpNet) -> usize
     ensures { IsPlaceOf (ip_networks routes.now) (ip_network network.now) result }
 {
     ip_nets_compare_by_network();
-    let mut low = 0;
-    let mut high = routes.len();
-    while low < high {
-        let middle = low + (high - low) / 2;
-        let other = routes[middle].0;
-        if other < *network {
-            low = middle + 1;
-        } else {
-            high = middle;
-        }
-    }
-    low
+    routes.partition_point(|route| route.0 < *network)
 }
 
 /// Returns the network one bit shorter, and its other half.
@@ -59,6 +49,15 @@ pub(crate) fn parent_and_sibling(network: &IpNet) -> (IpNet, IpNet)
         return (parent, second);
     }
     (parent, first)
+}
+
+/// Returns the other half of the network one bit shorter.
+pub(crate) fn sibling(network: &IpNet) -> IpNet
+    requires truncated { IsTruncated (ip_network network.now) }
+    requires longer { 0 < (ip_network network.now).prefix_len }
+    ensures { ip_network result ≡ sibling (ip_network network.now) }
+{
+    parent_and_sibling(network).1
 }
 
 /// Returns the smallest network around the first and the last of the routes, which is around all of them.

@@ -3,11 +3,17 @@ ghost use Rattle.std.specs.Prelude.{◌≡◌, ℕ, List, All, length};
 ghost use Rattle.ipnet_base.specs.Network.{IsNetwork};
 ghost use Rattle.ipnet_routes.specs.Routes.{Route, networks_of};
 ghost use Rattle.ipnet_routes.specs.RoutesOf.{routes_of};
-ghost use Rattle.ipnet_fewest.specs.Numbers.{AreEqualBy};
-ghost use Rattle.ipnet_fewest.specs.Shortest.{RouteAlike, IsShortest};
+ghost use Rattle.ipnet_fewest.specs.Shortest.{AreEqualBy, RouteAlike, IsShortest};
 
 use ipnet_routes::RouteTable;
 use ipnet_routes::routes::laws::table_is_in_order;
+
+/// That values compare as equal is an equivalence, for each type of values.
+pub fn equality_of_values<V: Ord>()
+    ensures reflexive { (v : V) → AreEqualBy V.cmp v v }
+    ensures symmetric { (v w : V) → AreEqualBy V.cmp v w → AreEqualBy V.cmp w v }
+    ensures transitive { (u v w : V) → AreEqualBy V.cmp u v → AreEqualBy V.cmp v w → AreEqualBy V.cmp u w }
+{}
 
 /// A shortest list of a shortest list is as long. Lists that route alike have shortest lists of one length.
 pub fn shortest_lists_have_one_length<V: Ord>()

@@ -3,12 +3,36 @@ ghost use Rattle.std.specs.Prelude.{◌<◌, length, IfOk};
 ghost use Rattle.std.specs.List.Sorted.{IsSorted};
 ghost use Rattle.ipnet.specs.NetworkOf.{ip_network};
 ghost use Rattle.ipnet_routes.specs.Routes.{Route, ip_routes};
-ghost use Rattle.ipnet_fewest.specs.Numbers.{IsRank, HasValuesOf, AreNumbered, AreValued};
+ghost use Rattle.ipnet_fewest.specs.Numbers.{IsRank, HasEqual, HasValuesOf, AreNumbered, AreValued};
 
 use ipnet::IpNet;
 use std::alloc::{AllocError, Global};
 
-/// Returns the values of the routes in order, and values that compare as equal once.
+/// The fewest values that are collected before repeated values are dropped.
+const LEAST_LIMIT: usize = 1_024;
+
+/// Sorts the values, and drops repeated ones.
+fn drop_repeated<V: Ord + Copy>(values: &mut Vec<V>)
+    ensures sorted { IsSorted V.cmp values.new.items }
+    ensures kept { (v : V) → HasEqual V.cmp values.old.items v → HasEqual V.cmp values.new.items v }
+{
+    values.sort_unstable();
+    values.dedup();
+}
+
+/// Drops repeated values if the list is as long as the limit. Returns the limit for the values that come later.
+fn with_room<V: Ord + Copy>(values: &mut Vec<V>, limit: usize) -> usize
+    ensures { (v : V) → HasEqual V.cmp values.old.items v → HasEqual V.cmp values.new.items v }
+{
+    if values.len() < limit {
+        return limit;
+    }
+    drop_repeated(values);
+    values.len().saturating_mul(2).max(LEAST_LIMIT)
+}
+
+/// Returns the values of the routes in order, and values that compare as equal once. The list that is sorted is never
+/// longer than twice the number of different values, or the least limit.
 pub(crate) fn distinct_values<V: Ord + Copy>(
     alloc: Global,
     routes: &[(IpNet, V)],
@@ -16,12 +40,14 @@ pub(crate) fn distinct_values<V: Ord + Copy>(
     ensures sorted { IfOk result (λ values. IsSorted V.cmp values.items) }
     ensures all { IfOk result (λ values. HasValuesOf V.cmp (ip_routes routes.now) values.items) }
 {
-    let mut values = Vec::with_capacity(alloc, routes.len())?;
+    let mut values = Vec::new(alloc);
+    let mut limit = LEAST_LIMIT;
     for index in 0..routes.len() {
+        limit = with_room(&mut values, limit);
         values.push(routes[index].1)?;
     }
-    values.sort_unstable();
-    values.dedup();
+    drop_repeated(&mut values);
+    values.shrink_to_fit();
     Ok(values)
 }
 

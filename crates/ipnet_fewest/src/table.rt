@@ -1,8 +1,7 @@
 //! Tables with the fewest routes.
 ghost use Rattle.std.specs.Prelude.{IfOk};
 ghost use Rattle.ipnet_routes.specs.RoutesOf.{routes_of};
-ghost use Rattle.ipnet_fewest.specs.Shortest.{IsShortest};
-ghost use Rattle.ipnet_fewest.specs.Numbers.{AreEqualBy};
+ghost use Rattle.ipnet_fewest.specs.Shortest.{AreEqualBy, IsShortest};
 
 use crate::fewest::fewest_routes;
 use crate::numbers::{distinct_values, numbered, valued};
@@ -33,8 +32,9 @@ pub fn shortest_table<V: Ord + Copy + Drop>(
     }
     let values = distinct_values(alloc, routes)?;
     let numbers = numbered(alloc, routes, values.as_slice())?;
-    let fewest = fewest_routes(alloc, numbers.as_slice())?;
-    drop(numbers);
+    let fewest = fewest_routes(alloc, numbers)?;
     let list = valued(alloc, fewest.as_slice(), values.as_slice())?;
+    drop(fewest);
+    drop(values);
     RouteTable::from_routes(alloc, list)
 }

@@ -11,7 +11,7 @@ use std::slice;
 #[derive(Drop)]
 pub(crate) enum Values {
     One(usize),
-    Many(Vec<usize>),
+    Many(Box<Vec<usize>>),
 }
 
 impl Values {
@@ -26,13 +26,13 @@ impl Values {
     }
 
     /// Returns the values of the list.
-    pub(crate) fn of(list: Vec<usize>) -> Values
-        ensures { items_of result ≡ list.items }
+    pub(crate) fn of(alloc: Global, list: Vec<usize>) -> Result<Values, AllocError>
+        ensures { IfOk result (λ values. items_of values ≡ list.items) }
     {
         if list.len() == 1 {
-            return Values::One(list[0]);
+            return Ok(Values::One(list[0]));
         }
-        Values::Many(list)
+        Ok(Values::Many(Box::new(alloc, list)?))
     }
 }
 
@@ -106,7 +106,7 @@ pub(crate) fn values_of_both(
     if first[0] == 0 || second[0] == 0 {
         return Ok(Values::One(0));
     }
-    Ok(Values::of(all_values(alloc, first, second)?))
+    Values::of(alloc, all_values(alloc, first, second)?)
 }
 
 /// Returns the best values of a block if one half has these best values, and all addresses of the other half have the

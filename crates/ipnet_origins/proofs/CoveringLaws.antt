@@ -9,9 +9,22 @@ use Rattle.ipnet_base.proofs.ListLaws.{at_place, contains_nil, pairs_append}
 use Rattle.ipnet_base.proofs.NetworkLaws.{same_network, number_from_truncated}
 use Rattle.ipnet.specs.NetworkOf.{ip_network}
 use Rattle.ipnet_origins.specs.declared.payload.Payload.{Payload}
-use Rattle.ipnet_origins.specs.Groups.{network_of}
-use Rattle.ipnet_origins.specs.Origins.{IsCovered, IsCoveredAt, AreThose, AreCoveringBelow, AreLongestFirst}
+use Rattle.ipnet_origins.specs.Groups.{network_of, AreThose}
+use Rattle.ipnet_origins.specs.Origins.{IsCovered, AreLongestFirst}
 use Rattle.ipnet_origins.proofs.ThoseLaws.{those_none, those_members}
+
+-- the payload covers the route, and its network has this length
+pub record IsCoveredAt (route : Network) (length : ℕ) (vrp : Payload) : Type 0 where
+  pub covered : IsCovered route vrp
+  pub of_length : (network_of vrp).prefix_len ≡ length
+
+-- the payloads that cover the route and whose networks are shorter than the limit, length by length as the walk finds
+-- them
+abbrev pub AreCoveringBelow : List Payload → Network → ℕ → List Payload → Type 0
+AreCoveringBelow vrps route zero covering = covering ≡ []
+AreCoveringBelow vrps route (suc length) covering = (here shorter : List Payload)
+    × AreThose (IsCoveredAt route length) vrps here × AreCoveringBelow vrps route length shorter
+    × (covering ≡ here ++ shorter)
 
 -- networks of one length that contain an address are one network
 pub same_at : (x : Address) (m n : Network) → IsTruncated m → IsTruncated n → InBlock m x → InBlock n x

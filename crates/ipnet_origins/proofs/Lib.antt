@@ -5,5 +5,6 @@ pub mod LastLaws
 pub mod ValidityLaws
 pub mod ThoseLaws
 pub mod CoveringLaws
+pub mod SortedLaws
 pub mod WalkLaws
 pub mod RecordLaws

@@ -12,7 +12,7 @@ use Rattle.ipnet_origins.specs.Groups.{network_of, rank_of, AreOfOne}
 use Rattle.ipnet_origins.specs.Origins.{IsMatched}
 
 -- the greatest length is less than 256
-short : (vrp : Payload) → vrp.max_len < 256
+pub short : (vrp : Payload) → vrp.max_len < 256
 short vrp = go (network_of vrp).family vrp.at_most
   where
     go : (f : Family) → vrp.max_len ≤ width f → vrp.max_len < 256

@@ -3,7 +3,7 @@ use Rattle.std.proofs.Common.{◌≡◌, ◌↔◌, ℕ, zero, suc, ◌+◌, ◌
 use Rattle.std.proofs.Common.{get_or, Contains, refl, sym, subst, inl, inr, arith}
 use Rattle.ipnet_base.proofs.ListLaws.{contains_nil, contains_here, contains_there, contains_cases}
 use Rattle.ipnet_origins.specs.declared.payload.Payload.{Payload}
-use Rattle.ipnet_origins.specs.Origins.{AreThose}
+use Rattle.ipnet_origins.specs.Groups.{AreThose}
 
 -- no payload has it
 pub those_none : (Is : Payload → Type 0) (vrps : List Payload) → ((vrp : Payload) → Contains vrps vrp → ¬ (Is vrp))

@@ -15,9 +15,9 @@ use Rattle.ipnet.specs.NetworkOf.{ip_network}
 use Rattle.ipnet_routes.specs.Routes.{Route, ip_route, AreMatches}
 use Rattle.ipnet_routes.proofs.LastPassing.{element_at}
 use Rattle.ipnet_origins.specs.declared.payload.Payload.{Payload}
-use Rattle.ipnet_origins.specs.Groups.{network_of, AreLasts, IsGroup}
-use Rattle.ipnet_origins.specs.Origins.{IsCovered, IsMatched, IsCoveredAt, AreThose, AreCoveringBelow, AreCovering}
-use Rattle.ipnet_origins.proofs.CoveringLaws.{same_at, none_below, more_below}
+use Rattle.ipnet_origins.specs.Groups.{network_of, AreThose, AreLasts, IsGroup}
+use Rattle.ipnet_origins.specs.Origins.{IsCovered, IsMatched}
+use Rattle.ipnet_origins.proofs.CoveringLaws.{IsCoveredAt, AreCoveringBelow, same_at, none_below, more_below}
 use Rattle.ipnet_origins.proofs.LastLaws.{payload_at}
 use Rattle.ipnet_origins.proofs.ThoseLaws.{those_same, those_members}
 
@@ -37,7 +37,7 @@ pub record HasCovering (vrps : List Payload) (n : Network) (places : List Place)
   pub above : (b : Place) → Contains places b → (ip_network b.now.0).prefix_len ≤ n.prefix_len
       → limit ≤ (ip_network b.now.0).prefix_len
   pub whole : (shorter : List Payload) → AreCoveringBelow vrps n limit shorter
-      → AreCovering vrps n (found ++ shorter)
+      → AreCoveringBelow vrps n (n.prefix_len + 1) (found ++ shorter)
 
 -- the place that the walk comes to is a route of the table, and its network has the address
 pub turn_in : (routes all : List (Route ℕ)) (x : Address) → AreMatches routes x all → (k : ℕ) (q : Route ℕ)
@@ -180,7 +180,7 @@ covering_more vrps group found routes all lasts n matches places next has is the
         | inr e ↦ omega (arith, ap (λ z. (ip_network z.now.0).prefix_len) e)
       ];
       whole = λ rest below.
-          subst (AreCovering vrps n) (sym (append_assoc found group rest))
+          subst (AreCoveringBelow vrps n (n.prefix_len + 1)) (sym (append_assoc found group rest))
           (has.whole (group ++ rest) (more_below vrps group rest n m.prefix_len has.limit low those below gap));
     }
   where
@@ -258,9 +258,10 @@ covering_start vrps n = record {
 -- after the whole walk the list is whole
 pub covering_all : (vrps : List Payload) (routes : List (Route ℕ)) → AreLasts vrps routes → (n : Network)
     (places : List Place) → AreMatches routes (own n) (map ip_route places) → (found : List Payload)
-    → HasCovering vrps n places found → AreCovering vrps n found
+    → HasCovering vrps n places found → AreCoveringBelow vrps n (n.prefix_len + 1) found
 covering_all vrps routes lasts n places matches found has =
-    subst (AreCovering vrps n) (append-nil found) (has.whole [] (none_below vrps n has.limit none))
+    subst (AreCoveringBelow vrps n (n.prefix_len + 1)) (append-nil found)
+    (has.whole [] (none_below vrps n has.limit none))
   where
     none : (vrp : Payload) → Contains vrps vrp → IsCovered n vrp → has.limit ≤ (network_of vrp).prefix_len
     none vrp c covered = elim (cases_lt (network_of vrp).prefix_len has.limit) [

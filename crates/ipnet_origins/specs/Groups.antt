@@ -1,14 +1,13 @@
 -- Payloads in the order of their networks: the payloads of one network are neighbours, a group. A table promises
 -- `AreInOrder` and `AreRanked` of its payloads; only private contracts use the others.
-use Rattle.std.specs.Prelude.{◌≡◌, ◌≢◌, ℕ, ◌+◌, ◌*◌, ◌<◌, ◌≤◌, List, length, get_or, Contains}
+use Rattle.std.specs.Prelude.{◌≡◌, ◌≢◌, ◌⊎◌, ℕ, ◌+◌, ◌*◌, ◌<◌, ◌≤◌, List, [], ◌∷◌, length, get_or, Contains}
 use Rattle.ipnet_base.specs.Network.{Network, IsBefore}
 use Rattle.ipnet.specs.declared.net.IpNet.{IpNet}
 use Rattle.ipnet.specs.NetworkOf.{ip_network}
 use Rattle.ipnet_routes.specs.Routes.{Route}
-use Rattle.ipnet_origins.specs.Origins.{AreThose}
 use Rattle.ipnet_origins.specs.declared.payload.Payload.{Payload}
 
--- the network of a payload
+-- The network of a payload. Example: 192.0.2.0/24, of 192.0.2.0/24 with greatest length 26 and AS 64496.
 abbrev pub network_of : Payload → Network
 network_of vrp = ip_network vrp.network
 
@@ -19,6 +18,7 @@ AreInOrder vrps = (i j : ℕ) (d : Payload) → i ≤ j → j < length vrps
     → ¬ (IsBefore (network_of (get_or vrps j d)) (network_of (get_or vrps i d)))
 
 -- The rank of a payload: payloads of one network are sorted by AS number, and then by greatest length.
+-- Example: 536 for AS 2 with greatest length 24, and 537 for AS 2 with 25.
 abbrev pub rank_of : Payload → ℕ
 rank_of vrp = vrp.asn * 256 + vrp.max_len
 
@@ -50,6 +50,13 @@ pub record IsStartOf (vrps : List Payload) (n : Network) (start last : ℕ) : Ty
   pub within : start ≤ last
   pub group : (i : ℕ) (d : Payload) → start ≤ i → i ≤ last → network_of (get_or vrps i d) ≡ n
   pub before : (i : ℕ) (d : Payload) → i < start → network_of (get_or vrps i d) ≢ n
+
+-- The payloads of the list with the property, in order, each as often as the list has it.
+-- Example: of a, b, a, c with the property of not being b: a, a, c.
+abbrev pub AreThose : (Payload → Type 0) → List Payload → List Payload → Type 0
+AreThose Is [] those = those ≡ []
+AreThose Is (vrp ∷ vrps) those = (Is vrp × (more : List Payload) × (those ≡ vrp ∷ more) × AreThose Is vrps more)
+    ⊎ ((¬ (Is vrp)) × AreThose Is vrps those)
 
 -- the payloads of the network
 abbrev pub IsGroup : List Payload → Network → List Payload → Type 0

@@ -2,7 +2,7 @@
 -- RFC 7607. A route has a network and an origin, the AS number that announced it. If the path is empty, or ends with a
 -- segment of a confederation, the origin is the speaker's own AS number. The origin `None` is the value "NONE" of RFC
 -- 6811: the path ends with a set of AS numbers, so no single AS is the origin.
-use Rattle.std.specs.Prelude.{◌≡◌, ◌≢◌, ◌⊎◌, ℕ, zero, suc, ◌+◌, ◌≤◌, Option, Some, List, [], ◌∷◌, ◌++◌, Any, AllPairs}
+use Rattle.std.specs.Prelude.{◌≡◌, ◌≢◌, ◌⊎◌, ℕ, ◌<◌, ◌≤◌, Option, Some, List, ◌++◌, All, Any, AllPairs, IsPermutation}
 use Rattle.ipnet_base.specs.Network.{Network, InBlock}
 use Rattle.ipnet.specs.NetworkOf.{ip_network}
 use Rattle.ipnet.specs.NetworkParts.{own_address}
@@ -45,28 +45,22 @@ abbrev pub AreLongestFirst : List Payload → Type 0
 AreLongestFirst vrps =
     AllPairs (λ vrp later. (ip_network later.network).prefix_len ≤ (ip_network vrp.network).prefix_len) vrps
 
--- The payloads of the list with the property, in order, each as often as the list has it.
--- Example: of a, b, a, c with the property of not being b: a, a, c.
-abbrev pub AreThose : (Payload → Type 0) → List Payload → List Payload → Type 0
-AreThose Is [] those = those ≡ []
-AreThose Is (vrp ∷ vrps) those = (Is vrp × (more : List Payload) × (those ≡ vrp ∷ more) × AreThose Is vrps more)
-    ⊎ ((¬ (Is vrp)) × AreThose Is vrps those)
+-- The first payload comes before the second in a list of payloads that cover a route: its network is longer. If the
+-- networks are as long, its AS number is less. If the AS numbers are equal too, its greatest length is not more.
+-- Example: 192.0.2.0/24 with AS 2 and 24, then 192.0.2.0/24 with AS 2 and 25, then 192.0.0.0/16 with AS 1 and 16.
+abbrev pub ComesBefore : Payload → Payload → Type 0
+ComesBefore vrp later = ((ip_network later.network).prefix_len < (ip_network vrp.network).prefix_len)
+    ⊎ (((ip_network vrp.network).prefix_len ≡ (ip_network later.network).prefix_len)
+    × ((vrp.asn < later.asn) ⊎ ((vrp.asn ≡ later.asn) × (vrp.max_len ≤ later.max_len))))
 
--- The payload covers the route, and its network has this length.
-pub record IsCoveredAt (route : Network) (length : ℕ) (vrp : Payload) : Type 0 where
-  pub covered : IsCovered route vrp
-  pub of_length : (ip_network vrp.network).prefix_len ≡ length
-
--- The payloads that cover the route and whose networks are shorter than the limit, those of longer networks first.
--- Payloads of one network are in the order of the list, each as often as in the list.
-abbrev pub AreCoveringBelow : List Payload → Network → ℕ → List Payload → Type 0
-AreCoveringBelow vrps route zero covering = covering ≡ []
-AreCoveringBelow vrps route (suc length) covering = (here shorter : List Payload)
-    × AreThose (IsCoveredAt route length) vrps here × AreCoveringBelow vrps route length shorter
-    × (covering ≡ here ++ shorter)
-
--- The payloads that cover the route: the whole list of them, in this order.
--- Example: of 192.0.0.0/16, 192.0.2.0/24 with 24, 192.0.2.0/24 with 25 and 192.0.2.0/25, for the route 192.0.2.0/24:
--- 192.0.2.0/24 with 24, 192.0.2.0/24 with 25 and 192.0.0.0/16.
-abbrev pub AreCovering : List Payload → Network → List Payload → Type 0
-AreCovering vrps route covering = AreCoveringBelow vrps route (route.prefix_len + 1) covering
+-- All payloads of the list that cover the route, each as often as the list has it, and sorted: the payloads of the
+-- longest networks first, then by AS number and by greatest length.
+-- Example: of 192.0.0.0/16, 192.0.2.0/24 with 25, 192.0.2.0/24 with 24 and 192.0.2.0/25, each with AS 1, for the route
+-- 192.0.2.0/24: 192.0.2.0/24 with 24, 192.0.2.0/24 with 25 and 192.0.0.0/16.
+pub record AreCovering (vrps : List Payload) (route : Network) (covering : List Payload) : Type 0 where
+  pub cover : All (IsCovered route) covering
+  -- the payloads of the list that do not cover the route
+  pub others : List Payload
+  pub do_not_cover : All (λ vrp. ¬ (IsCovered route vrp)) others
+  pub all : IsPermutation vrps (covering ++ others)
+  pub sorted : AllPairs ComesBefore covering

@@ -5,8 +5,7 @@ use crate::arguments::{FIRST, ONE_LIST, SHARED, flags_of};
 use crate::table::{Argument, Form, Subcommand};
 use clap::ArgMatches;
 use netset_files::{STANDARD_INPUT, Writers, bytes_of};
-use netset_lib::{run_text, table_or_report};
-use netset_routes::ShortenCommand;
+use netset_routes::ShortenRequest;
 
 /// The name of the command.
 pub const SHORTEN: &str = "shorten";
@@ -37,8 +36,11 @@ pub fn shorten_table(rt: &HostRuntime, matches: &ArgMatches, writers: &mut Write
     };
     let (alloc, grammar) = (rt.alloc(), flags_of(matches).grammar());
     let (out, faults) = (&mut writers.answer, &mut writers.faults);
-    match table_or_report(alloc, bytes.as_slice(), grammar, name, faults) {
-        Some(table) => run_text(ShortenCommand { alloc, table }, &[name], out, faults),
-        None => 2,
-    }
+    let request = ShortenRequest {
+        alloc,
+        bytes: bytes.as_slice(),
+        grammar,
+        name,
+    };
+    request.run(out, faults)
 }

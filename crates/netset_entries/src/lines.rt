@@ -1,16 +1,13 @@
 //! Lines about entries, written piece by piece, so that an answer of any length takes little memory.
-ghost use Rattle.std.specs.Prelude.{◌≡◌, ◌++◌, OnOk, OnErr, map};
+ghost use Rattle.std.specs.Prelude.{◌≡◌, ◌++◌, OnOk, map};
 ghost use Rattle.ipnet_text.specs.Outputs.{IsWritten, IsFrontWritten};
-ghost use Rattle.ipnet_text.specs.Pieces.{IsInPieces};
-ghost use Rattle.netset_entries.specs.EntryTexts.{entry_line, entry_line_at, IsFront};
+ghost use Rattle.netset_entries.specs.EntryTexts.{entry_line, entry_line_at};
 ghost use Rattle.netset_entries.specs.EntryLineOf.{numbered};
 ghost use Rattle.netset_entries.specs.WriteReports.{IsWriteReported};
 ghost use Rattle.netset_entries.specs.declared.lines.WriteFailure.TheVariants.{Memory, Unwritable};
 
 use crate::entry_list::EntryLine;
 use ipnet_lists::{RefusedLines, report_refused};
-use ipnet_text::pieces::PIECE;
-use ipnet_text::write_whole;
 use netset_lib::reports::{OUT_OF_MEMORY, UNWRITABLE, report_words};
 use netset_lib::rule_answer::push_numbered;
 use netset_lib::runs::Report;
@@ -66,19 +63,6 @@ pub(crate) fn push_line_at(
         Some(line) => push_line(text, line),
         None => Ok(()),
     }
-}
-
-/// Writes the piece if it is long.
-pub(crate) fn write_if_long<W: Write>(out: &mut W, piece: &mut Vec<u8>) -> io::Result<()>
-    ensures ok { OnOk result (IsInPieces (W.contents out.old) (W.contents out.new) piece.new.items piece.old.items) }
-    ensures front { OnErr result (IsFront (W.contents out.old) (W.contents out.new) piece.old.items) }
-{
-    if piece.len() < PIECE {
-        return Ok(());
-    }
-    write_whole(out, piece.as_slice())?;
-    piece.clear();
-    Ok(())
 }
 
 impl Report for WriteFailure {

@@ -19,13 +19,14 @@ ghost use Rattle.ipnet_lists.specs.EntryOf.{entry_range};
 ghost use Rattle.ipnet_text.specs.Outputs.{IsWritten, IsFrontWritten};
 
 use crate::entry_list::EntryLine;
-use crate::lines::{WriteFailure, write_if_long};
+use crate::lines::WriteFailure;
 use crate::runs::runs_of;
 use crate::span::{Family, Span, span_of, spans_of};
 use ipnet::IpAddr;
 use ipnet_lists::{Entry, ip_addr_text};
 use ipnet_text::write_whole;
 use netset_lib::rule_answer::push_numbered;
+use netset_lib::write::write_if_long;
 use std::alloc::{AllocError, Global};
 use std::io::Write;
 

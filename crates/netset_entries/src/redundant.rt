@@ -10,10 +10,11 @@ ghost use Rattle.ipnet_text.specs.Outputs.{IsWritten, IsFrontWritten};
 ghost use Rattle.netset_entries.specs.EntryLineOf.{numbered};
 
 use crate::entry_list::EntryLine;
-use crate::lines::{WriteFailure, push_line_at, write_if_long};
+use crate::lines::{WriteFailure, push_line_at};
 use crate::redundancy::{Covered, Kept};
 use crate::span::Span;
 use ipnet_text::write_whole;
+use netset_lib::write::write_if_long;
 use std::alloc::Global;
 use std::io::Write;
 

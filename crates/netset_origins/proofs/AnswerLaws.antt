@@ -109,11 +109,15 @@ module _ (vrps others : List Payload) (same : IsPermutation vrps others) where
   validity_same r v h = by_members others vrps r.network r.origin v members h
 
   why_same : (why : Bool) (n : Network) (part : List ℕ) → IsWhyPart others why n part → IsWhyPart vrps why n part
-  why_same true n part (sorted, covering, h, is, spelled) = (
-    sorted,
+  why_same true n part (covering, is, spelled) = (
     covering,
-    record { same = IsPermutation-trans vrps others sorted same h.same; order = h.order; ranked = h.ranked },
-    is,
+    record {
+      cover = is.cover;
+      others = is.others;
+      do_not_cover = is.do_not_cover;
+      all = IsPermutation-trans vrps others (covering ++ is.others) same is.all;
+      sorted = is.sorted;
+    },
     spelled,
   )
   why_same false n part h = h

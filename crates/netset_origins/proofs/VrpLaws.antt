@@ -40,10 +40,10 @@ module _ (grammar : Grammar) (text : List ℕ) (asn : ℕ) (n : Network) (max : 
     (has_asn : IsAsn (first_field text) asn) (writes : IsNetworkOrMasked grammar (network_field text) n)
     (same : (m : ℕ) → (max ≡ Some m) ↔ IsNumber (length_field text) m) where
   pub line_vrp : (r : Result Payload VrpCause) → ¬ (Has 44 (last_fields text))
-      → IfOk r (λ vrp. IsVrpOf asn n vrp.max_len vrp × (max ≡ Some vrp.max_len)) → IfOk r (IsVrpText grammar text)
+      → IfOk r (λ vrp. IsVrpOf asn n vrp × (max ≡ Some vrp.max_len)) → IfOk r (IsVrpText grammar text)
   line_vrp (Ok vrp) few h = record {
     network = n;
-    is = record { of_asn = refl; of_network = h.0.of_network; of_max_len = refl };
+    without_host_bits = h.0.of_network;
     writes_asn = subst (IsAsn (first_field text)) (sym h.0.of_asn) has_asn;
     writes_network = writes;
     writes_max_len = (same vrp.max_len).0 h.1;
@@ -83,10 +83,10 @@ module _ (grammar : Grammar) (d : Data) (asn : ℕ) (n : Network) (max : Option 
     (writes : IsNetworkOrMasked grammar (text_at (codes "prefix") d) n)
     (same : (m : ℕ) → (max ≡ Some m) ↔ IsMaxLenAt d m) where
   pub data_vrp : (r : Result Payload VrpCause)
-      → IfOk r (λ vrp. IsVrpOf asn n vrp.max_len vrp × (max ≡ Some vrp.max_len)) → IfOk r (IsVrpData grammar d)
+      → IfOk r (λ vrp. IsVrpOf asn n vrp × (max ≡ Some vrp.max_len)) → IfOk r (IsVrpData grammar d)
   data_vrp (Ok vrp) h = record {
     network = n;
-    is = record { of_asn = refl; of_network = h.0.of_network; of_max_len = refl };
+    without_host_bits = h.0.of_network;
     has_asn = subst (IsAsnAt d) (sym h.0.of_asn) has_asn;
     has_network = writes;
     has_max_len = (same vrp.max_len).0 h.1;

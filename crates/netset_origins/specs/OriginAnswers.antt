@@ -1,13 +1,12 @@
 -- The validity of the routes of a list, by a list of validated ROA payloads (VRPs).
 use Rattle.std.specs.Prelude.{◌≡◌, ◌≢◌, ◌⊎◌, ◌↔◌, ℕ, Bool, true, false, List, [], ◌∷◌, ◌++◌, codes, decimal, Any}
-use Rattle.std.specs.Prelude.{IsPermutation, IsTrue, Option, Some, None}
+use Rattle.std.specs.Prelude.{IsTrue, Option, Some, None}
 use Rattle.ipnet_base.specs.Network.{Network}
 use Rattle.ipnet.specs.CanonicalTexts.{canonical_text}
 use Rattle.ipnet.specs.NetworkOf.{ip_network}
 use Rattle.ipnet.specs.declared.parser.Grammar.{Grammar}
 use Rattle.ipnet_lists.specs.Lists.{RefusalFor}
 use Rattle.ipnet_lists.specs.RefusedLines.{AreRefused}
-use Rattle.ipnet_origins.specs.Groups.{AreInOrder, AreRanked}
 use Rattle.ipnet_origins.specs.Origins.{IsValidity, AreCovering}
 use Rattle.ipnet_origins.specs.declared.origins.Validity.{Validity}
 use Rattle.ipnet_origins.specs.declared.origins.Validity.TheVariants.{Valid, Invalid, NotFound}
@@ -21,7 +20,7 @@ use Rattle.netset_origins.specs.declared.answer.OriginsRequest.{OriginsRequest}
 use Rattle.netset_origins.specs.declared.route_line.RouteCause.{RouteCause}
 use Rattle.netset_origins.specs.declared.vrp_line.VrpCause.{VrpCause}
 
--- The word of a validity.
+-- The word of a validity. Example: `not-found`.
 abbrev pub validity_word : Validity → List ℕ
 validity_word Valid = codes "valid"
 validity_word Invalid = codes "invalid"
@@ -33,26 +32,20 @@ abbrev pub vrp_part : Payload → List ℕ
 vrp_part vrp = 9 ∷ canonical_text (ip_network vrp.network) ++ codes "-" ++ decimal vrp.max_len ++ codes " AS"
     ++ decimal vrp.asn
 
--- The VRPs, each after a TAB.
+-- The VRPs, each after a TAB. Example: TAB, `192.0.2.0/24-25 AS64496`.
 abbrev pub why_part : List Payload → List ℕ
 why_part [] = []
 why_part (vrp ∷ vrps) = vrp_part vrp ++ why_part vrps
 
--- The VRPs in the order of a table: by network, then by AS number, and then by greatest length. Each is there as often
--- as in the list.
-pub record IsSorted (vrps sorted : List Payload) : Type 0 where
-  pub same : IsPermutation vrps sorted
-  pub order : AreInOrder sorted
-  pub ranked : AreRanked sorted
-
 -- The text after the validity of a route: if `why`, the VRPs that cover it, the longest networks first, and VRPs of one
 -- network by AS number and greatest length; else nothing.
+-- Example: TAB, `192.0.2.0/24-25 AS64496`, TAB, `192.0.0.0/16-16 AS64497`.
 abbrev pub IsWhyPart : List Payload → Bool → Network → List ℕ → Type 0
-IsWhyPart vrps true n part = (sorted covering : List Payload) × IsSorted vrps sorted × AreCovering sorted n covering
-    × (part ≡ why_part covering)
+IsWhyPart vrps true n part = (covering : List Payload) × AreCovering vrps n covering × (part ≡ why_part covering)
 IsWhyPart vrps false n part = part ≡ []
 
--- A route of this validity is printed.
+-- A route of this validity is printed: any route, or only one of the wanted validity. Example: with `--only invalid`,
+-- an invalid route, and no valid one.
 abbrev pub IsShown : Option Validity → Validity → Type 0
 IsShown None v = Unit {0}
 IsShown (Some only) v = only ≡ v
@@ -66,23 +59,27 @@ IsRouteLine vrps request r line = (v : Validity) × IsValidity vrps r.network r.
     × (line ≡ r.text ++ 9 ∷ validity_word v ++ part ++ 10 ∷ []))
     ⊎ ((¬ (IsShown request.only v)) × (line ≡ [])))
 
--- The text has the lines of the routes, in order.
+-- The text has the lines of the routes, in order. Example: two lines for two routes, if all routes are printed.
 abbrev pub AreRouteLines : List Payload → OriginsRequest → List ListRoute → List ℕ → Type 0
 AreRouteLines vrps request [] text = text ≡ []
 AreRouteLines vrps request (r ∷ routes) text = (line : List ℕ) × (rest : List ℕ) × IsRouteLine vrps request r line
     × (text ≡ line ++ rest) × AreRouteLines vrps request routes rest
 
 -- One of the routes is invalid.
+-- Example: 192.0.2.0/25 of AS 64496, by 192.0.2.0/24 with greatest length 24 and AS 64496.
 abbrev pub IsOneInvalid : List Payload → List ListRoute → Type 0
 IsOneInvalid vrps routes = Any (λ r. IsValidity vrps r.network r.origin Invalid) routes
 
 -- The bytes are these VRPs, as JSON or as lines of which none is refused.
+-- Example: no VRPs for `{"roas": []}`, and for `ASN,IP Prefix,Max Length,Trust Anchor`.
 abbrev pub AreVrpsOf : Grammar → List ℕ → List Payload → Type 0
 AreVrpsOf grammar bytes vrps = (BeginsObject bytes × IsVrpJson grammar bytes vrps)
     ⊎ ((¬ (BeginsObject bytes)) × IsVrpList grammar bytes vrps [])
 
 -- The VRPs are read, no line of the routes is refused, and the text has the lines of the routes. `invalid` says whether
 -- a route is invalid, printed or not.
+-- Example: for `AS64496,192.0.2.0/24,24` and `192.0.2.0/25 64496`, the text is `192.0.2.0/25 64496`, TAB, `invalid`.
+-- A route is invalid.
 pub record IsOriginAnswer (request : OriginsRequest) (vrp_bytes route_bytes : List ℕ) (invalid : Bool) (text : List ℕ)
     : Type 0 where
   pub vrps : List Payload

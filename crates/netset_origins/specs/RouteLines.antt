@@ -15,6 +15,7 @@ use Rattle.netset_origins.specs.declared.route_line.RouteCause.{RouteCause}
 use Rattle.netset_origins.specs.declared.route_line.RouteCause.TheVariants.{NoNetwork, NoOrigin}
 
 -- A route of a list: its text, its network, and its origin. The origin is `None` if a set of AS numbers announced it.
+-- Example: of `192.0.2.0/24 {64496,64497}`, the network 192.0.2.0/24 and the origin `None`.
 pub record ListRoute : Type 0 where
   pub text : List ℕ
   pub network : Network
@@ -49,13 +50,13 @@ network_part text = word_or_field (leading_word text) (first_field text) (after_
 abbrev pub origin_part : List ℕ → List ℕ
 origin_part text = word_or_field (after_word text) (after_field text) (after_word text)
 
--- The text is this route.
+-- The text is this route. Example: `192.0.2.0/24 AS64496` is 192.0.2.0/24 with the origin 64496.
 pub record IsRouteText (grammar : Grammar) (text : List ℕ) (r : ListRoute) : Type 0 where
   pub same_text : r.text ≡ text
   pub network : IsNetworkOrMasked grammar (network_part text) r.network
   pub origin : IsOrigin (origin_part text) r.origin
 
--- The first part of the text is a network.
+-- The first part of the text is a network. Example: `192.0.2.0/24 x`, but not `192.0.2.0 64496`.
 abbrev pub HasNetwork : Grammar → List ℕ → Type 0
 HasNetwork grammar text = (n : Network) × IsNetworkOrMasked grammar (network_part text) n
 

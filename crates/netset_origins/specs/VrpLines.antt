@@ -30,32 +30,34 @@ abbrev pub last_fields : List ℕ → List ℕ
 last_fields text = after_field (after_field (after_field (after_field text)))
 
 -- The line is the header that validators write before the VRPs.
+-- Example: `ASN,IP Prefix,Max Length,Trust Anchor`.
 abbrev pub IsHeader : List ℕ → Type 0
 IsHeader text = (text ≡ codes "ASN,IP Prefix,Max Length,Trust Anchor")
     ⊎ (text ≡ codes "ASN,IP Prefix,Max Length,Trust Anchor,Expires")
 
--- The VRP has this AS number, this network without host bits, and this greatest prefix length.
-pub record IsVrpOf (asn : ℕ) (n : Network) (max_len : ℕ) (vrp : Payload) : Type 0 where
+-- The VRP has this AS number, and this network without host bits. Only private contracts use this.
+pub record IsVrpOf (asn : ℕ) (n : Network) (vrp : Payload) : Type 0 where
   pub of_asn : vrp.asn ≡ asn
   pub of_network : ip_network vrp.network ≡ truncation n
-  pub of_max_len : vrp.max_len ≡ max_len
 
--- The text is this VRP. Example: `AS64496,192.0.2.0/24,25,x` is 192.0.2.0/24 with greatest length 25 and AS 64496.
+-- The text is this VRP: its fields are the AS number, a network, which may have host bits, and the greatest length.
+-- Example: `AS64496,192.0.2.0/24,25,x` is 192.0.2.0/24 with greatest length 25 and AS 64496.
 pub record IsVrpText (grammar : Grammar) (text : List ℕ) (vrp : Payload) : Type 0 where
   pub network : Network
-  pub is : IsVrpOf vrp.asn network vrp.max_len vrp
+  pub without_host_bits : ip_network vrp.network ≡ truncation network
   pub writes_asn : IsAsn (first_field text) vrp.asn
   pub writes_network : IsNetworkOrMasked grammar (network_field text) network
   pub writes_max_len : IsNumber (length_field text) vrp.max_len
   pub fields : ¬ (Has 44 (last_fields text))
 
 -- The greatest prefix length is refused for this network: it is less than the prefix length, or more than the width.
+-- Example: 23 and 33 for 192.0.2.0/24.
 abbrev pub IsLengthError : Network → ℕ → PayloadError → Type 0
 IsLengthError n max_len MaxLenBelowPrefixLen = max_len < n.prefix_len
 IsLengthError n max_len MaxLenAboveWidth = width n.family < max_len
 
 -- Why there is no greatest prefix length of this network: there is no number, or the number is refused. `IsLength` says
--- what the number is.
+-- what the number is. Example: `RefusedMaxLen` for the number 33 and 192.0.2.0/24.
 abbrev pub IsLengthCause : Network → (ℕ → Type 0) → VrpCause → Type 0
 IsLengthCause n IsLength Causes.TooManyFields = ⊥
 IsLengthCause n IsLength Causes.NoAsn = ⊥
@@ -64,11 +66,12 @@ IsLengthCause n IsLength Causes.NoMaxLen = (number : ℕ) → ¬ (IsLength numbe
 IsLengthCause n IsLength (Causes.RefusedMaxLen error) =
     (number : ℕ) × IsLength number × IsLengthError n number error
 
--- The text has at most five fields, and the first one is an AS number.
+-- The text has at most five fields, and the first one is an AS number. Example: `AS64496,x`.
 abbrev pub HasAsn : List ℕ → Type 0
 HasAsn text = (¬ (Has 44 (last_fields text))) × ((asn : ℕ) × IsAsn (first_field text) asn)
 
 -- The first two fields are an AS number and a network, and the third is refused for this cause.
+-- Example: `NoMaxLen` for `AS64496,192.0.2.0/24,x`.
 abbrev pub HasLengthCause : Grammar → List ℕ → VrpCause → Type 0
 HasLengthCause grammar text cause = HasAsn text
     × ((n : Network) × IsNetworkOrMasked grammar (network_field text) n
@@ -93,11 +96,13 @@ abbrev pub IsVrpLineCause : Grammar → List ℕ → VrpCause → Type 0
 IsVrpLineCause grammar text cause = (¬ (IsHeader text)) × IsVrpCause grammar text cause
 
 -- The line adds these VRPs: a header adds none, and another line adds the VRP that it is.
+-- Example: `AS64496,192.0.2.0/24,24` adds 192.0.2.0/24 with greatest length 24 and AS 64496.
 abbrev pub IsVrpLine : Grammar → List ℕ → List Payload → Type 0
 IsVrpLine grammar text added =
     (IsHeader text × (added ≡ [])) ⊎ ((vrp : Payload) × IsVrpText grammar text vrp × (added ≡ vrp ∷ []))
 
--- The VRPs that the lines add, one line after another.
+-- The VRPs that the lines add, one line after another. Example: the VRPs a, b, c of three lines that add none, a, and b
+-- and c.
 abbrev pub all_added : List (List Payload) → List Payload
 all_added [] = []
 all_added (added ∷ lines) = added ++ all_added lines

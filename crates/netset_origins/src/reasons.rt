@@ -1,24 +1,13 @@
 //! The words of the reports for lines that are refused.
 ghost use Rattle.std.specs.Prelude.{◌≡◌};
-ghost use Rattle.netset_lib.specs.Reasons.{entry_reason};
 ghost use Rattle.netset_origins.specs.OriginReports.{network_reason, length_reason, vrp_reason, route_reason};
 ghost use Rattle.netset_origins.specs.OriginReports.{ExplainsVrp, ExplainsRoute};
 
 use crate::route_line::RouteCause;
 use crate::vrp_line::VrpCause;
-use ipnet_lists::{Cause, Explanation, LineCause, NO_ENTRY};
+use ipnet_lists::{Explanation, LineCause, NO_ENTRY};
 use ipnet_origins::PayloadError;
 use netset_lib::ArgumentCause;
-
-/// Why a text is not an entry.
-fn entry_reason(cause: Option<Cause>) -> &'static str
-    ensures { result.now ≡ entry_reason cause }
-{
-    match cause {
-        Some(cause) => cause.text(),
-        None => NO_ENTRY,
-    }
-}
 
 /// Why a text is not a network with a prefix length.
 fn network_reason(cause: ArgumentCause) -> &'static str
@@ -27,7 +16,8 @@ fn network_reason(cause: ArgumentCause) -> &'static str
     match cause {
         ArgumentCause::Address => "an address without a prefix length",
         ArgumentCause::Range => "a range: write its networks",
-        ArgumentCause::NoEntry(cause) => entry_reason(cause),
+        ArgumentCause::NoEntry(Some(cause)) => cause.text(),
+        ArgumentCause::NoEntry(None) => NO_ENTRY,
     }
 }
 

@@ -45,7 +45,7 @@ pub(crate) fn is_header(text: &[u8]) -> bool
 
 /// Returns the VRP of this AS number, network and greatest prefix length.
 fn vrp_of(asn: u32, network: IpNet, max_len: u32) -> Result<Payload, PayloadError>
-    ensures vrp { IfOk result (IsVrpOf asn (ip_network network) max_len) }
+    ensures vrp { IfOk result (λ vrp. IsVrpOf asn (ip_network network) vrp × (vrp.max_len ≡ max_len)) }
     ensures error { IfErr result (IsLengthError (ip_network network) max_len) }
 {
     match u8::try_from(max_len) {
@@ -56,7 +56,7 @@ fn vrp_of(asn: u32, network: IpNet, max_len: u32) -> Result<Payload, PayloadErro
 
 /// Returns the VRP of these, or why there is none. `max_len` is `None` if there is no number.
 pub(crate) fn vrp_with(asn: u32, network: IpNet, max_len: Option<u32>) -> Result<Payload, VrpCause>
-    ensures vrp { IfOk result (λ vrp. IsVrpOf asn (ip_network network) vrp.max_len vrp × (max_len ≡ Some vrp.max_len)) }
+    ensures vrp { IfOk result (λ vrp. IsVrpOf asn (ip_network network) vrp × (max_len ≡ Some vrp.max_len)) }
     ensures cause { IfErr result (IsLengthCause (ip_network network) (λ n. max_len ≡ Some n)) }
 {
     let Some(max_len) = max_len else {

@@ -1,3 +1,4 @@
 -- Lemmas of this crate.
 pub mod ShortenLaws
 pub mod AllRouteLaws
+pub mod RefusedLaws

@@ -5,4 +5,4 @@ mod all_routes;
 mod shorten;
 
 pub use all_routes::{AllRoutesCommand, plain_table_or_report};
-pub use shorten::ShortenCommand;
+pub use shorten::{ShortenCommand, ShortenRequest};

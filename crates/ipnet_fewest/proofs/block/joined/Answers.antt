@@ -1,6 +1,7 @@
 -- The values that are best for both halves; or else for either, with one more choice.
 use Rattle.std.proofs.Common.{◌≡◌, ◌<◌, ◌++◌, length, get_or, vec_len, rules, Contains, sym, ◌∙◌, subst, subst₂, arith}
 use Rattle.std.proofs.lemmas.Bool.{eqb-true}
+use Rattle.std.proofs.lemmas.Result.{IfOk-weaker}
 use Rattle.ipnet_sets.proofs.InsideLaws.{some_from_empty}
 use Rattle.ipnet_fewest.specs.ItemsOf.{items_of}
 use Rattle.ipnet_fewest.specs.Solved.{AreValuesOfBoth}
@@ -14,10 +15,11 @@ returns-then-not-is_empty c old front back value around h =
     let common = c.in_ok-common.common in
     let size : vec_len common ≡ length common.items = search rules in
     let some = some_from_empty (vec_len common) c.is_empty.result c.is_empty.ensures c.if-not-is_empty.true in
-    subst (AreBestValues old c.args.choices.now.items (front ++ back) value around) (sym c.of.ensures)
+    IfOk-weaker c.of.result _ _
+    (λ values e. subst (AreBestValues old c.args.choices.now.items (front ++ back) value around) (sym e)
     (common_of old c.args.choices.now.items front back value around c.args.first c.args.second h c.as_slice.result.now
     c.as_slice-2.result.now c.as_slice.ensures c.as_slice-2.ensures common.items (omega (arith, some, size))
-    c.in_ok-common.ensures.sorted c.in_ok-common.ensures.members)
+    c.in_ok-common.ensures.sorted c.in_ok-common.ensures.members)) c.of.ensures
 
 pub returns : goal.returns
 returns c old front back value around h =

@@ -7,6 +7,7 @@ use Rattle.ipnet_fewest.specs.ItemsOf.{items_of}
 use Rattle.ipnet_fewest.specs.Plans.{routes_for}
 use Rattle.ipnet_fewest.proofs.OptionLaws.{none_if}
 use Rattle.ipnet_fewest.proofs.LeftLaws.{left_end, routes_push, room_second, room_first, some_first, shorter}
+use Rattle.ipnet_fewest.proofs.LeftLaws.{cut_first, longer_first}
 use Rattle.ipnet_fewest.proofs.LeftLaws.{first_plan, second_plan, left_first, left_second}
 use Rattle.ipnet_fewest.proofs.choice.+push_routes.Goals as goal
 
@@ -93,6 +94,22 @@ push_routes-requires-then-contains t c =
       first_plan choices left earlier choice start so_far value last h front second of_front of_second
           rest first of_rest of_first,
     )
+
+pub sibling-requires : goal.sibling-requires
+sibling-requires t c =
+    let choices = c.args.choices.now in
+    let value = c.args.value in
+    let left = c.loop-choice.left.now in
+    let earlier = c.in-Some.earlier.now in
+    let choice = c.in-Some.choice.now in
+    let start = ip_routes c.args.routes.now.items in
+    let so_far = ip_routes c.loop-choice.routes.items in
+    let last = c.in-Some.ensures.cases.0 in
+    let h = c.loop-choice.invariant.1 in
+    record {
+      truncated = cut_first choices left earlier choice start so_far value last h;
+      longer = longer_first choices left earlier choice start so_far value last h;
+    }
 
 pub bounds-as_slice-0 : goal.bounds-as_slice-0
 bounds-as_slice-0 t c =
@@ -195,8 +212,10 @@ loop-choice-preserved-in_ok-push_routes-2 t c =
           rest first of_rest of_first
           (ip_routes c.push_routes.new.routes.items) (ip_routes c.push.new.self.items)
           (ip_routes c.push_routes-then-contains.new.routes.items) is_best c.in_ok-push_routes.ensures
-          (routes_push c.push_routes.new.routes.items c.push.new.self.items (choice.second, choice.second_value)
-          c.in_ok-push.ensures.items) c.in_ok-push_routes-2.ensures,
+          (routes_push c.push_routes.new.routes.items c.push.new.self.items (c.sibling.result, choice.second_value)
+          c.in_ok-push.ensures.items
+          ∙ ap (λ z. ip_routes c.push_routes.new.routes.items ++ (z, choice.second_value) ∷ []) c.sibling.ensures)
+          c.in_ok-push_routes-2.ensures,
     )
 
 pub loop-choice-preserved : goal.loop-choice-preserved

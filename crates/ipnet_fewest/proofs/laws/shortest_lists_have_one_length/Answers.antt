@@ -1,4 +1,4 @@
-use Rattle.ipnet_fewest.specs.Numbers.{AreEqualBy}
+use Rattle.ipnet_fewest.specs.Shortest.{AreEqualBy}
 use Rattle.ipnet_fewest.proofs.AlikeLaws.{one_length, again_as_long}
 use Rattle.ipnet_fewest.proofs.laws.shortest_lists_have_one_length.Goals as goal
 

@@ -1,6 +1,6 @@
 -- The networks of both tables are valid.
 use Rattle.ipnet_routes.specs.RoutesOf.{routes_of}
-use Rattle.ipnet_fewest.specs.Numbers.{AreEqualBy}
+use Rattle.ipnet_fewest.specs.Shortest.{AreEqualBy}
 use Rattle.ipnet_fewest.proofs.AlikeLaws.{one_length, again_as_long}
 use Rattle.ipnet_fewest.proofs.laws.shortest_tables_have_one_length.Goals as goal
 

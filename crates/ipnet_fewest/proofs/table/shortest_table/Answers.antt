@@ -7,8 +7,8 @@ use Rattle.std.specs.List.Sorted.{IsSorted}
 use Rattle.ipnet_sets.proofs.InsideLaws.{some_from_empty}
 use Rattle.ipnet_routes.specs.Routes.{ip_routes}
 use Rattle.ipnet_routes.specs.RoutesOf.{routes_of}
-use Rattle.ipnet_fewest.specs.Shortest.{IsShortest}
-use Rattle.ipnet_fewest.specs.Numbers.{AreEqualBy, HasValuesOf, AreNumbered, AreValued}
+use Rattle.ipnet_fewest.specs.Shortest.{AreEqualBy, IsShortest}
+use Rattle.ipnet_fewest.specs.Numbers.{HasValuesOf, AreValued}
 use Rattle.ipnet_fewest.proofs.ShortestLaws.{given_table, numbers_table, numbers_values, are_shortest, shortest_of_none}
 use Rattle.ipnet_fewest.proofs.ShortestLaws.{some_values}
 use Rattle.ipnet_fewest.proofs.table.shortest_table.Goals as goal
@@ -36,9 +36,8 @@ fewest_routes-requires-clause-table g c =
     let of_table = c.routes-routes.ensures in
     let table = given_table routes given of_table.routes of_table.ascending of_table.truncated in
     let values = c.as_slice.result.now in
-    let numbers = c.as_slice-2.result.now in
-    let num = subst (λ z. AreNumbered cmp values (ip_routes routes) (ip_routes z)) (sym c.as_slice-2.ensures.value)
-    c.in_ok-numbers.ensures in
+    let numbers = c.in_ok-numbers.numbers.items in
+    let num = c.in_ok-numbers.ensures in
     numbers_table cmp values routes numbers num table
 
 pub fewest_routes-requires-clause-values : goal.fewest_routes-requires-clause-values
@@ -49,9 +48,8 @@ fewest_routes-requires-clause-values g c =
     let of_table = c.routes-routes.ensures in
     let table = given_table routes given of_table.routes of_table.ascending of_table.truncated in
     let values = c.as_slice.result.now in
-    let numbers = c.as_slice-2.result.now in
-    let num = subst (λ z. AreNumbered cmp values (ip_routes routes) (ip_routes z)) (sym c.as_slice-2.ensures.value)
-    c.in_ok-numbers.ensures in
+    let numbers = c.in_ok-numbers.numbers.items in
+    let num = c.in_ok-numbers.ensures in
     numbers_values cmp values routes numbers num
 
 pub valued-requires : goal.valued-requires
@@ -59,7 +57,7 @@ valued-requires g c =
     let routes = c.routes-routes.result.now in
     let some = some_from_empty (length routes) c.is_empty.result c.is_empty.ensures c.if-is_empty.false in
     record {
-      some = subst (λ z. 0 < length z) (sym c.as_slice-4.ensures.value)
+      some = subst (λ z. 0 < length z) (sym c.as_slice-3.ensures.value)
           (some_values g.V.Ord.cmp routes c.in_ok-values.values.items some c.in_ok-values.ensures.all);
     }
 
@@ -71,15 +69,14 @@ returns g c =
     let of_table = c.routes-routes.ensures in
     let table = given_table routes given of_table.routes of_table.ascending of_table.truncated in
     let values = c.as_slice.result.now in
-    let numbers = c.as_slice-2.result.now in
-    let num = subst (λ z. AreNumbered cmp values (ip_routes routes) (ip_routes z)) (sym c.as_slice-2.ensures.value)
-    c.in_ok-numbers.ensures in
+    let numbers = c.in_ok-numbers.numbers.items in
+    let num = c.in_ok-numbers.ensures in
     let sorted = subst (IsSorted cmp) (sym c.as_slice.ensures.value) c.in_ok-values.ensures.sorted in
     let has = subst (HasValuesOf cmp (ip_routes routes)) (sym c.as_slice.ensures.value) c.in_ok-values.ensures.all in
     let made = c.in_ok-fewest.fewest.items in
     let list = c.in_ok-list.list.items in
     let val = subst₂ (λ vs ms. AreValued vs (ip_routes ms) (ip_routes list))
-    (c.as_slice-4.ensures.value ∙ sym c.as_slice.ensures.value) c.as_slice-3.ensures.value c.in_ok-list.ensures in
+    (c.as_slice-3.ensures.value ∙ sym c.as_slice.ensures.value) c.as_slice-2.ensures.value c.in_ok-list.ensures in
     IfOk-weaker c.from_routes-2.result _ _
     (λ t h. subst (λ z. IsShortest (AreEqualBy cmp) z (routes_of t)) of_table.routes
     (are_shortest cmp g.met.V.Ord.total routes table values sorted has numbers made num c.in_ok-fewest.ensures list val

@@ -12,6 +12,7 @@ use Rattle.ipnet_routes.specs.MatchesLeft.{matches_left}
 use Rattle.ipnet_origins.specs.Groups.{AreInOrder, AreRanked, IsLastOf, IsGroup}
 use Rattle.ipnet_origins.proofs.ValidityLaws.{some_covers}
 use Rattle.ipnet_origins.proofs.CoveringLaws.{below_members, below_longest_first}
+use Rattle.ipnet_origins.proofs.SortedLaws.{are_covering}
 use Rattle.ipnet_origins.proofs.WalkLaws.{HasCovering, turn_in, covering_start, covering_more, covering_same}
 use Rattle.ipnet_origins.proofs.WalkLaws.{covering_all}
 use Rattle.ipnet_origins.proofs.origins.OriginTable.covering.Goals as goal
@@ -71,7 +72,7 @@ returns-clause-covering c =
     let found = covering_all table.payloads.items (routes_of table.lasts) table.reach n c.loop-route.yielded
     (subst (AreMatches (routes_of table.lasts) (own n)) (sym end.0) walk) c.loop-route.covering.items
     c.loop-route.invariant.has in
-    found
+    are_covering table.payloads.items n table.ranked c.loop-route.covering.items found
 
 pub returns-clause-members : goal.returns-clause-members
 returns-clause-members c =
