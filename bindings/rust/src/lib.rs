@@ -22,12 +22,14 @@
 #![deny(missing_docs)]
 
 mod column;
+mod picture;
 mod raw;
 mod rows;
 mod set;
 mod table;
 
 pub use column::Rows;
+pub use picture::{BarOptions, MapOptions, RowWidth, Shown, Theme};
 pub use raw::Offset;
 pub use set::IpSet;
 pub use table::RouteTable;
@@ -66,6 +68,10 @@ pub enum Error {
     WrongLength,
     /// An offset is less than the offset before it, or greater than the length of the text.
     BadOffsets,
+    /// No network is named, and there is no address around which to draw one.
+    NoAddress,
+    /// The set has no room for the networks of a plan.
+    NoPlace,
     /// `malloc` or `realloc` failed.
     OutOfMemory,
 }
@@ -83,6 +89,8 @@ impl fmt::Display for Error {
             Error::NotATable => f.write_str("not the image of a table"),
             Error::WrongLength => f.write_str("wrong length"),
             Error::BadOffsets => f.write_str("the offsets are not ascending places in the text"),
+            Error::NoAddress => f.write_str("no address to draw"),
+            Error::NoPlace => f.write_str("no room for these networks"),
             Error::OutOfMemory => f.write_str("out of memory"),
         }
     }

@@ -19,3 +19,5 @@ pub mod OffsetLaws
 pub mod TextRowReplies
 pub mod RouteReplies
 pub mod ImageRowReplies
+pub mod PictureReplies
+pub mod FactReplies

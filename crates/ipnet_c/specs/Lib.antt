@@ -12,3 +12,6 @@ pub mod RowReplies
 pub mod TextRows
 pub mod RouteReplies
 pub mod ImageRows
+pub mod Pictures
+pub mod PictureReplies
+pub mod FactReplies

@@ -3,13 +3,18 @@
 #![tactic(auto)]
 
 pub mod aggregates;
+pub mod bars;
 mod buffers;
 pub mod bulk_numbers;
 pub mod bulk_rows;
 pub mod covers;
+mod drawn;
+pub mod facts;
 pub mod image_rows;
 mod lists;
 pub mod networks;
+mod picture_options;
+pub mod plans;
 mod row_form;
 pub mod rows;
 pub mod set_images;

@@ -49,6 +49,15 @@ pub(crate) const NOT_A_TABLE: u32 = 13;
 /// An offset is less than the offset before it, or greater than the length of the text.
 pub(crate) const BAD_OFFSETS: u32 = 14;
 
+/// A number is not one of the numbers of an option.
+pub(crate) const UNKNOWN_OPTION: u32 = 17;
+
+/// There is no address around which to draw a network.
+pub(crate) const NO_ADDRESS: u32 = 18;
+
+/// The set has no room for the networks of a plan.
+pub(crate) const NO_PLACE: u32 = 19;
+
 /// Returns the status for bytes that are not a network.
 pub(crate) fn status_of(error: CompactError) -> u32
     ensures status { result ≡ status_of_bytes error }
