@@ -1,70 +1,17 @@
 -- Replies with the facts about a network, and with plans.
-use Rattle.std.proofs.Common.{◌≡◌, ◌≢◌, ℕ, ◌⊎◌, ◌↔◌, ◌==◌, false, List, Ok, Err, inl, inr, refl, sym, ◌∙◌}
-use Rattle.ipnet.specs.NetworkOf.{ip_network}
-use Rattle.ipnet.specs.declared.compact.CompactError.{CompactError}
-use Rattle.ipnet.specs.declared.compact.CompactError.TheVariants.{Length, Variant, Prefix}
+use Rattle.std.proofs.Common.{◌≡◌, ◌≢◌, ℕ, ◌<◌, ◌⊎◌, ◌↔◌, ◌==◌, false, List, Any, Ok, inl, inr, refl}
+use Rattle.std.proofs.Common.{sym, ◌∙◌, subst}
+use Rattle.ipnet_base.specs.Address.{Family, IPv4, IPv6, width}
 use Rattle.ipnet.specs.declared.net.IpNet.{IpNet}
 use Rattle.ipnet_sets.specs.Images.{IsImage}
 use Rattle.ipnet_c.specs.Buffers.{IsWritten, IsTooLong}
 use Rattle.ipnet_c.specs.FactReplies.{IsFormNumber, AreFactsOf, IsInfoReply}
-use Rattle.ipnet_c.specs.FactReplies.{IsFamilyNumber, HasLongLength, IsPlanOf, HasNoPlan, IsPlanReply}
-use Rattle.ipnet_c.specs.Statuses.{status_of_bytes}
+use Rattle.ipnet_c.specs.FactReplies.{plan_family_number, IsFamilyNumber, HasLongLength}
+use Rattle.ipnet_c.specs.FactReplies.{IsPlanOf, HasNoPlan, IsPlanReply}
 use Rattle.ipnet_c.proofs.ListReplies.{TellsFaults}
 use Rattle.ipnet_c.proofs.StatusLaws.{differ, not_other}
 
 -- ---- facts
-
--- a form that is not known
-pub form_refused : (number : ℕ) (bytes buffer : List ℕ) (count : ℕ) → ¬ (IsFormNumber number)
-    → IsInfoReply number bytes buffer buffer count count 17
-form_refused number bytes buffer count none = record {
-  known = inr (inr (inl refl));
-  ok = λ e. absurd (differ 17 0 refl e);
-  too_short = λ e. absurd (differ 17 4 refl e);
-  unknown_option = (λ e. none, λ n. refl);
-  wrong_length = (λ e. absurd (differ 17 6 refl e), λ h. absurd (none h.0));
-  unknown_family = (λ e. absurd (differ 17 7 refl e), λ h. absurd (none h.0));
-  prefix_too_long = (λ e. absurd (differ 17 8 refl e), λ h. absurd (none h.0));
-  buffer_kept = λ e. refl;
-  count_kept = λ a b. refl;
-}
-
--- bytes that are not a network
-pub bytes_refused : (number : ℕ) (bytes buffer : List ℕ) (count : ℕ) (error : CompactError) → IsFormNumber number
-    → TellsFaults bytes (Err error) → IsInfoReply number bytes buffer buffer count count (status_of_bytes error)
-bytes_refused number bytes buffer count Length form faults = record {
-  known = inr (inr (inr (inl refl)));
-  ok = λ e. absurd (differ 6 0 refl e);
-  too_short = λ e. absurd (differ 6 4 refl e);
-  unknown_option = (λ e. absurd (differ 6 17 refl e), λ n. absurd (n form));
-  wrong_length = (λ e. (form, faults.length.0 refl), λ h. refl);
-  unknown_family = (λ e. absurd (differ 6 7 refl e), λ h. let clash = faults.variant.1 h.1 in absurd cc);
-  prefix_too_long = (λ e. absurd (differ 6 8 refl e), λ h. let clash = faults.prefix.1 h.1 in absurd cc);
-  buffer_kept = λ e. refl;
-  count_kept = λ a b. refl;
-}
-bytes_refused number bytes buffer count Variant form faults = record {
-  known = inr (inr (inr (inr (inl refl))));
-  ok = λ e. absurd (differ 7 0 refl e);
-  too_short = λ e. absurd (differ 7 4 refl e);
-  unknown_option = (λ e. absurd (differ 7 17 refl e), λ n. absurd (n form));
-  wrong_length = (λ e. absurd (differ 7 6 refl e), λ h. let clash = faults.length.1 h.1 in absurd cc);
-  unknown_family = (λ e. (form, faults.variant.0 refl), λ h. refl);
-  prefix_too_long = (λ e. absurd (differ 7 8 refl e), λ h. let clash = faults.prefix.1 h.1 in absurd cc);
-  buffer_kept = λ e. refl;
-  count_kept = λ a b. refl;
-}
-bytes_refused number bytes buffer count Prefix form faults = record {
-  known = inr (inr (inr (inr (inr (inl refl)))));
-  ok = λ e. absurd (differ 8 0 refl e);
-  too_short = λ e. absurd (differ 8 4 refl e);
-  unknown_option = (λ e. absurd (differ 8 17 refl e), λ n. absurd (n form));
-  wrong_length = (λ e. absurd (differ 8 6 refl e), λ h. let clash = faults.length.1 h.1 in absurd cc);
-  unknown_family = (λ e. absurd (differ 8 7 refl e), λ h. let clash = faults.variant.1 h.1 in absurd cc);
-  prefix_too_long = (λ e. (form, faults.prefix.0 refl), λ h. refl);
-  buffer_kept = λ e. refl;
-  count_kept = λ a b. refl;
-}
 
 -- facts that are written if there is room
 pub facts_listed : (number : ℕ) (bytes text old new : List ℕ) (count_old count status : ℕ) (net : IpNet)
@@ -92,67 +39,19 @@ facts_listed number bytes text old new count_old count status net form faults fa
   count_kept = λ not_ok not_short. elim known [ inl e ↦ absurd (not_ok e) | inr e ↦ absurd (not_short e) ];
 }
 
--- memory ran out
-pub no_facts : (number : ℕ) (bytes buffer : List ℕ) (count : ℕ) (net : IpNet) → IsFormNumber number
-    → TellsFaults bytes (Ok net) → IsInfoReply number bytes buffer buffer count count 3
-no_facts number bytes buffer count net form faults = record {
-  known = inr (inr (inr (inr (inr (inr refl)))));
-  ok = λ e. absurd (differ 3 0 refl e);
-  too_short = λ e. absurd (differ 3 4 refl e);
-  unknown_option = (λ e. absurd (differ 3 17 refl e), λ n. absurd (n form));
-  wrong_length = (λ e. absurd (differ 3 6 refl e), λ h. let clash = faults.length.1 h.1 in absurd cc);
-  unknown_family = (λ e. absurd (differ 3 7 refl e), λ h. let clash = faults.variant.1 h.1 in absurd cc);
-  prefix_too_long = (λ e. absurd (differ 3 8 refl e), λ h. let clash = faults.prefix.1 h.1 in absurd cc);
-  buffer_kept = λ e. refl;
-  count_kept = λ a b. refl;
-}
-
 -- ---- plans
 
--- a number that is of no family
-pub family_refused : (set : List ℕ) (number : ℕ) (lengths buffer : List ℕ) (count : ℕ) → ¬ (IsFamilyNumber number)
-    → IsPlanReply set number lengths buffer buffer count count 7
-family_refused set number lengths buffer count none = record {
-  known = inr (inr (inl refl));
-  ok = λ e. absurd (differ 7 0 refl e);
-  too_short = λ e. absurd (differ 7 4 refl e);
-  unknown_family = (λ e. none, λ n. refl);
-  prefix_too_long = (λ e. absurd (differ 7 8 refl e), λ h. absurd (none (h.0, h.1)));
-  not_a_set = (λ e. absurd (differ 7 11 refl e), λ h. absurd (none h.0));
-  no_place = λ e. absurd (differ 7 19 refl e);
-  buffer_kept = λ e. refl;
-  count_kept = λ a b. refl;
-}
+-- no length is above the width of the family
+fits_in : (number w : ℕ) (f other : Family) (lengths : List ℕ) → number ≡ plan_family_number f → w ≡ width f
+    → ¬ (Any (λ p. w < p) lengths) → number ≡ plan_family_number other → ¬ (Any (λ p. width other < p) lengths)
+fits_in number w IPv4 IPv4 lengths e is none same any = none (subst (λ z. Any (λ p. z < p) lengths) (sym is) any)
+fits_in number w IPv6 IPv6 lengths e is none same any = none (subst (λ z. Any (λ p. z < p) lengths) (sym is) any)
+fits_in number w IPv4 IPv6 lengths e is none same any = differ 4 6 refl (sym e ∙ same)
+fits_in number w IPv6 IPv4 lengths e is none same any = differ 6 4 refl (sym e ∙ same)
 
--- a length that is too long
-pub lengths_refused : (set : List ℕ) (number : ℕ) (lengths buffer : List ℕ) (count : ℕ) → IsFamilyNumber number
-    → HasLongLength number lengths → IsPlanReply set number lengths buffer buffer count count 8
-lengths_refused set number lengths buffer count family long = record {
-  known = inr (inr (inr (inl refl)));
-  ok = λ e. absurd (differ 8 0 refl e);
-  too_short = λ e. absurd (differ 8 4 refl e);
-  unknown_family = (λ e. absurd (differ 8 7 refl e), λ n. absurd (n family));
-  prefix_too_long = (λ e. long, λ h. refl);
-  not_a_set = (λ e. absurd (differ 8 11 refl e), λ h. absurd (h.1 long));
-  no_place = λ e. absurd (differ 8 19 refl e);
-  buffer_kept = λ e. refl;
-  count_kept = λ a b. refl;
-}
-
--- bytes that are not the image of a set
-pub plan_set_refused : (set : List ℕ) (number : ℕ) (lengths buffer : List ℕ) (count : ℕ) → IsFamilyNumber number
-    → ¬ (HasLongLength number lengths) → ¬ (IsImage set) → IsPlanReply set number lengths buffer buffer count count 11
-plan_set_refused set number lengths buffer count family fits none = record {
-  known = inr (inr (inr (inr (inl refl))));
-  ok = λ e. absurd (differ 11 0 refl e);
-  too_short = λ e. absurd (differ 11 4 refl e);
-  unknown_family = (λ e. absurd (differ 11 7 refl e), λ n. absurd (n family));
-  prefix_too_long = (λ e. absurd (differ 11 8 refl e), λ h. absurd (fits h));
-  not_a_set = (λ e. (family, fits, none), λ h. refl);
-  no_place = λ e. absurd (differ 11 19 refl e);
-  buffer_kept = λ e. refl;
-  count_kept = λ a b. refl;
-}
+pub lengths_fit : (number w : ℕ) (f : Family) (lengths : List ℕ) → number ≡ plan_family_number f → w ≡ width f
+    → ¬ (Any (λ p. w < p) lengths) → ¬ (HasLongLength number lengths)
+lengths_fit number w f lengths e is none long = fits_in number w f long.0 lengths e is none long.1 long.2
 
 -- a plan that is written if there is room
 pub planned : (set : List ℕ) (number : ℕ) (lengths text old new : List ℕ) (count_old count status : ℕ)

@@ -21,3 +21,4 @@ pub mod RouteReplies
 pub mod ImageRowReplies
 pub mod PictureReplies
 pub mod FactReplies
+pub mod MapEntryLaws

@@ -1,33 +1,18 @@
 -- Replies of the calls that draw.
-use Rattle.std.proofs.Common.{◌≡◌, ◌≢◌, ℕ, ◌⊎◌, ◌↔◌, ◌==◌, false, List, inl, inr, refl, sym, ◌∙◌, subst}
-use Rattle.ipnet.specs.Bytes.{HasWrongTaggedLen, HasUnknownVariant, HasLongTaggedPrefix}
+use Rattle.std.proofs.Common.{◌≡◌, ◌≢◌, ℕ, ◌⊎◌, ◌↔◌, ◌==◌, false, List, Result, Ok, IfOk}
+use Rattle.std.proofs.Common.{Option, Some, None, IfSome, String, Global, string_bytes, inl, inr, refl, sym, ◌∙◌, subst}
 use Rattle.ipnet_bars.specs.declared.frame.Frame.{Frame}
+use Rattle.ipnet_bars.specs.Frames.{HasNoFrame}
 use Rattle.ipnet_sets.specs.declared.set.IpSet.{IpSet}
-use Rattle.ipnet_sets.specs.Images.{IsImage}
+use Rattle.ipnet_sets.specs.Images.{IsImage, IsImageOf}
+use Rattle.ipnet_sets.specs.Members.{IsMember, IsUnion}
 use Rattle.ipnet_c.specs.Buffers.{IsWritten, IsTooLong}
 use Rattle.ipnet_c.specs.Pictures.{AreBytesOfFrame, HasFrame}
 use Rattle.ipnet_c.specs.PictureReplies.{IsFrameFault, IsPictureOf, HasNoPicture, IsPictureReply}
+use Rattle.ipnet_c.specs.PictureReplies.{IsSetPictureReply}
 use Rattle.ipnet_c.proofs.StatusLaws.{differ, neither}
 
 module _ (AreOptions : Type 0) (IsPicture : IpSet → IpSet → Frame → List ℕ → Type 0) (set other network : List ℕ) where
-  -- options that are not known
-  pub options_refused : (buffer : List ℕ) (count : ℕ) → ¬ AreOptions
-      → IsPictureReply AreOptions IsPicture set other network buffer buffer count count 17
-  options_refused buffer count none = record {
-    known = inr (inr (inl refl));
-    ok = λ e. absurd (differ 17 0 refl e);
-    too_short = λ e. absurd (differ 17 4 refl e);
-    unknown_option = (λ e. none, λ n. refl);
-    wrong_length = (λ e. absurd (differ 17 6 refl e), λ h. absurd (none h.0));
-    unknown_family = (λ e. absurd (differ 17 7 refl e), λ h. absurd (none h.0));
-    prefix_too_long = (λ e. absurd (differ 17 8 refl e), λ h. absurd (none h.0));
-    not_a_set = (λ e. absurd (differ 17 11 refl e), λ h. absurd (none h.0));
-    other_not_a_set = (λ e. absurd (differ 17 12 refl e), λ h. absurd (none h.0));
-    no_address = λ e. absurd (differ 17 18 refl e);
-    buffer_kept = λ e. refl;
-    count_kept = λ a b. refl;
-  }
-
   -- the status of bytes that are not a network is none of the others
   frame_status : (status other_status : ℕ) → (status ≡ 6) ⊎ ((status ≡ 7) ⊎ (status ≡ 8))
       → (6 == other_status) ≡ false → (7 == other_status) ≡ false → (8 == other_status) ≡ false
@@ -59,42 +44,6 @@ module _ (AreOptions : Type 0) (IsPicture : IpSet → IpSet → Frame → List �
       λ h. absurd (fault.no_frame h.1),
     );
     no_address = λ e. absurd (frame_status status 18 fault.known refl refl refl e);
-    buffer_kept = λ e. refl;
-    count_kept = λ a b. refl;
-  }
-
-  -- bytes that are not the image of a set
-  pub set_refused : (buffer : List ℕ) (count : ℕ) → AreOptions → HasFrame network → ¬ (IsImage set)
-      → IsPictureReply AreOptions IsPicture set other network buffer buffer count count 11
-  set_refused buffer count options frame none = record {
-    known = inr (inr (inr (inr (inr (inr (inl refl))))));
-    ok = λ e. absurd (differ 11 0 refl e);
-    too_short = λ e. absurd (differ 11 4 refl e);
-    unknown_option = (λ e. absurd (differ 11 17 refl e), λ n. absurd (n options));
-    wrong_length = (λ e. absurd (differ 11 6 refl e), λ h. absurd (h.1 frame));
-    unknown_family = (λ e. absurd (differ 11 7 refl e), λ h. absurd (h.1 frame));
-    prefix_too_long = (λ e. absurd (differ 11 8 refl e), λ h. absurd (h.1 frame));
-    not_a_set = (λ e. (options, frame, none), λ h. refl);
-    other_not_a_set = (λ e. absurd (differ 11 12 refl e), λ h. absurd (none h.2));
-    no_address = λ e. absurd (differ 11 18 refl e);
-    buffer_kept = λ e. refl;
-    count_kept = λ a b. refl;
-  }
-
-  -- bytes of the other that are not the image of a set
-  pub other_refused : (buffer : List ℕ) (count : ℕ) → AreOptions → HasFrame network → IsImage set → ¬ (IsImage other)
-      → IsPictureReply AreOptions IsPicture set other network buffer buffer count count 12
-  other_refused buffer count options frame is none = record {
-    known = inr (inr (inr (inr (inr (inr (inr (inl refl)))))));
-    ok = λ e. absurd (differ 12 0 refl e);
-    too_short = λ e. absurd (differ 12 4 refl e);
-    unknown_option = (λ e. absurd (differ 12 17 refl e), λ n. absurd (n options));
-    wrong_length = (λ e. absurd (differ 12 6 refl e), λ h. absurd (h.1 frame));
-    unknown_family = (λ e. absurd (differ 12 7 refl e), λ h. absurd (h.1 frame));
-    prefix_too_long = (λ e. absurd (differ 12 8 refl e), λ h. absurd (h.1 frame));
-    not_a_set = (λ e. absurd (differ 12 11 refl e), λ h. absurd (h.2 is));
-    other_not_a_set = (λ e. (options, frame, is, none), λ h. refl);
-    no_address = λ e. absurd (differ 12 18 refl e);
     buffer_kept = λ e. refl;
     count_kept = λ a b. refl;
   }
@@ -141,3 +90,102 @@ module _ (AreOptions : Type 0) (IsPicture : IpSet → IpSet → Frame → List �
     ];
     count_kept = λ not_ok not_short. (kept not_ok not_short).1;
   }
+
+-- a picture of one set
+pub set_drawn : {E : Type 0} (AreOptions : Type 0) (IsPicture : IpSet → Frame → List ℕ → Type 0)
+    (set bytes network old new : List ℕ) (count_old count status : ℕ) (frame : Frame)
+    (made : Result (Option (String Global)) E) → AreOptions → AreBytesOfFrame frame network → IsImage bytes
+    → bytes ≡ set
+    → IfOk made (λ found. IfSome found (λ text. (first : IpSet) × IsImageOf bytes first
+    × IsPicture first frame (string_bytes text)))
+    → IfOk made (λ found. found ≡ None → (first : IpSet) × IsImageOf bytes first × HasNoFrame frame (IsMember first))
+    → (status ≡ 0) ⊎ ((status ≡ 4) ⊎ ((status ≡ 18) ⊎ (status ≡ 3)))
+    → (status ≡ 0 → (text : String Global) × (made ≡ Ok (Some text)) × IsWritten (string_bytes text) old new count)
+    → (status ≡ 4 → (text : String Global) × (made ≡ Ok (Some text)) × IsTooLong (string_bytes text) old new count)
+    → (status ≡ 18) ↔ (made ≡ Ok None) → (status ≢ 0 → status ≢ 4 → (new ≡ old) × (count ≡ count_old))
+    → IsSetPictureReply AreOptions IsPicture set network old new count_old count status
+set_drawn AreOptions IsPicture set bytes network old new count_old count status frame made options of_frame is same
+    picture nothing known ok short none kept =
+    let P : Option (String Global) → Type 0 = λ found. IfSome found (λ text. (first : IpSet) × IsImageOf bytes first
+    × IsPicture first frame (string_bytes text)) in
+    let N : Option (String Global) → Type 0 = λ found. found ≡ None → (first : IpSet) × IsImageOf bytes first
+    × HasNoFrame frame (IsMember first) in
+    let of_text : (text : String Global) → made ≡ Ok (Some text)
+    → IsPictureOf (λ s t. IsPicture s) set set network (string_bytes text) = λ text e.
+    let (first, image, right) = subst (λ r. IfOk r P) e picture in
+    record {
+      first = first;
+      second = first;
+      first_image = subst (λ z. IsImageOf z first) same image;
+      second_image = subst (λ z. IsImageOf z first) same image;
+      frame = frame;
+      is_frame = of_frame;
+      picture = right;
+    } in
+    drawn AreOptions (λ s t. IsPicture s) set set network old new count_old count status options (frame, of_frame)
+    (subst IsImage same is) (subst IsImage same is) known
+    (λ e. let (text, drawn_is, written) = ok e in (string_bytes text, of_text text drawn_is, written))
+    (λ e. let (text, drawn_is, long) = short e in (string_bytes text, of_text text drawn_is, long))
+    (λ e. let (first, image, no_frame) = subst (λ r. IfOk r N) (none.0 e) nothing refl in record {
+      first = first;
+      second = first;
+      first_image = subst (λ z. IsImageOf z first) same image;
+      second_image = subst (λ z. IsImageOf z first) same image;
+      all = first;
+      both = λ x. (λ m. inl m, λ m. elim m [ inl a ↦ a | inr b ↦ b ]);
+      frame = frame;
+      is_frame = of_frame;
+      none = no_frame;
+    })
+    kept
+
+-- a picture of two sets
+pub pair_drawn : {E : Type 0} (AreOptions : Type 0) (IsPicture : IpSet → IpSet → Frame → List ℕ → Type 0)
+    (set bytes other other_bytes network old new : List ℕ) (count_old count status : ℕ) (frame : Frame)
+    (made : Result (Option (String Global)) E) → AreOptions → AreBytesOfFrame frame network → IsImage bytes
+    → bytes ≡ set → IsImage other_bytes → other_bytes ≡ other
+    → IfOk made (λ found. IfSome found (λ text. (before after : IpSet) × IsImageOf bytes before
+    × IsImageOf other_bytes after × IsPicture before after frame (string_bytes text)))
+    → IfOk made (λ found. found ≡ None → (before after all : IpSet) × IsImageOf bytes before
+    × IsImageOf other_bytes after × IsUnion all before after × HasNoFrame frame (IsMember all))
+    → (status ≡ 0) ⊎ ((status ≡ 4) ⊎ ((status ≡ 18) ⊎ (status ≡ 3)))
+    → (status ≡ 0 → (text : String Global) × (made ≡ Ok (Some text)) × IsWritten (string_bytes text) old new count)
+    → (status ≡ 4 → (text : String Global) × (made ≡ Ok (Some text)) × IsTooLong (string_bytes text) old new count)
+    → (status ≡ 18) ↔ (made ≡ Ok None) → (status ≢ 0 → status ≢ 4 → (new ≡ old) × (count ≡ count_old))
+    → IsPictureReply AreOptions IsPicture set other network old new count_old count status
+pair_drawn AreOptions IsPicture set bytes other other_bytes network old new count_old count status frame made options
+    of_frame is same is_other same_other picture nothing known ok short none kept =
+    let P : Option (String Global) → Type 0 = λ found. IfSome found (λ text. (before after : IpSet)
+    × IsImageOf bytes before × IsImageOf other_bytes after × IsPicture before after frame (string_bytes text)) in
+    let N : Option (String Global) → Type 0 = λ found. found ≡ None → (before after all : IpSet)
+    × IsImageOf bytes before × IsImageOf other_bytes after × IsUnion all before after
+    × HasNoFrame frame (IsMember all) in
+    let of_text : (text : String Global) → made ≡ Ok (Some text)
+    → IsPictureOf IsPicture set other network (string_bytes text) = λ text e.
+    let (before, after, image, image_other, right) = subst (λ r. IfOk r P) e picture in
+    record {
+      first = before;
+      second = after;
+      first_image = subst (λ z. IsImageOf z before) same image;
+      second_image = subst (λ z. IsImageOf z after) same_other image_other;
+      frame = frame;
+      is_frame = of_frame;
+      picture = right;
+    } in
+    drawn AreOptions IsPicture set other network old new count_old count status options (frame, of_frame)
+    (subst IsImage same is) (subst IsImage same_other is_other) known
+    (λ e. let (text, drawn_is, written) = ok e in (string_bytes text, of_text text drawn_is, written))
+    (λ e. let (text, drawn_is, long) = short e in (string_bytes text, of_text text drawn_is, long))
+    (λ e. let (before, after, all, image, image_other, both, no_frame) = subst (λ r. IfOk r N) (none.0 e) nothing refl
+    in record {
+      first = before;
+      second = after;
+      first_image = subst (λ z. IsImageOf z before) same image;
+      second_image = subst (λ z. IsImageOf z after) same_other image_other;
+      all = all;
+      both = both;
+      frame = frame;
+      is_frame = of_frame;
+      none = no_frame;
+    })
+    kept

@@ -12,6 +12,8 @@ mod drawn;
 pub mod facts;
 pub mod image_rows;
 mod lists;
+mod map_entries;
+pub mod maps;
 pub mod networks;
 mod picture_options;
 pub mod plans;
