@@ -23,7 +23,7 @@ use ipnet_sets::{IpSet, IpSetRef};
 use std::alloc::{AllocError, Global};
 use svg_maps::{Look, MapEntries, MapEntry, change_map_text, set_map_text};
 
-/// What a map shows over its cells, beside names of networks.
+/// The options of a map, and the entries that it may show.
 #[derive(Clone, Copy)]
 struct Shown<'a> {
     options: MapOptions,
@@ -56,7 +56,8 @@ fn map_in<'a>(
         names,
         entries: MapEntries { titled, count },
     };
-    set_map_text(alloc, network, set, look)
+    let text = set_map_text(alloc, network, set, look)?;
+    Ok(text)
 }
 
 /// Returns the map of the set in the network, and makes its entries. `names` has no network.
@@ -74,7 +75,7 @@ fn titled_map(
 {
     let entries = entries_in(alloc, set, network)?;
     let titled = entries.as_slice();
-    let count = set.iter_networks().count();
+    let count = set.networks(alloc)?.len();
     let shown = Shown {
         options,
         titled,
@@ -176,7 +177,8 @@ fn comparison_map_in<'a>(
         names,
         entries: MapEntries { titled, count },
     };
-    change_map_text(alloc, network, before, after, look)
+    let text = change_map_text(alloc, network, before, after, look)?;
+    Ok(text)
 }
 
 /// Returns the map of the change from one set to the other in the network, and makes its entries. `names` has no
@@ -196,7 +198,7 @@ fn titled_comparison_map(
     let (_, _, all) = sets;
     let entries = entries_in(alloc, all, network)?;
     let titled = entries.as_slice();
-    let count = all.iter_networks().count();
+    let count = all.networks(alloc)?.len();
     let shown = Shown {
         options,
         titled,

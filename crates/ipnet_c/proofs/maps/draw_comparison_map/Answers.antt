@@ -1,7 +1,15 @@
 -- The map is of the sets of the two images.
-use Rattle.std.proofs.Common.{rules}
+use Rattle.std.proofs.Common.{rules, subst}
 use Rattle.ipnet.specs.NetworkOf.{ip_network}
+use Rattle.ipnet_routes.specs.Routes.{IsTableOf, ip_routes}
+use Rattle.ipnet_routes.specs.RoutesOf.{routes_of}
+use Rattle.ipnet_c.proofs.MapEntryLaws.{no_routes}
 use Rattle.ipnet_c.proofs.maps.draw_comparison_map.Goals as goal
+
+pub titled_comparison_map-requires : goal.titled_comparison_map-requires
+titled_comparison_map-requires c =
+    no_routes (routes_of c.in_ok-names.names) (subst (λ xs. IsTableOf (ip_routes xs) (routes_of c.in_ok-names.names))
+    c.new.ensures.items c.in_ok-names.ensures.table)
 
 pub returns-in_default-clause-none : goal.returns-in_default-clause-none
 returns-in_default-clause-none c = λ none. (
