@@ -1,5 +1,5 @@
 -- Replies with the facts about a network, and with plans.
-use Rattle.std.proofs.Common.{◌≡◌, ◌≢◌, ℕ, ◌<◌, ◌⊎◌, ◌↔◌, ◌==◌, false, List, Any, Ok, inl, inr, refl}
+use Rattle.std.proofs.Common.{◌≡◌, ◌≢◌, ℕ, ◌<◌, ◌⊎◌, ◌==◌, false, List, Any, Ok, inl, inr, refl}
 use Rattle.std.proofs.Common.{sym, ◌∙◌, subst}
 use Rattle.ipnet_base.specs.Address.{Family, IPv4, IPv6, width}
 use Rattle.ipnet.specs.declared.net.IpNet.{IpNet}
