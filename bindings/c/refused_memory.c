@@ -290,7 +290,7 @@ static int is_answered(const struct lent *lent, const char *answer)
 }
 
 /* No call above allocates more often; a map does so most often. */
-enum { MOST_GROWTHS = 10000 };
+enum { MOST_GROWTHS = 1000 };
 
 /* How many allocations the call needed; -1 if the call broke a rule above. */
 static long least_growths(ipnet_status (*call)(struct lent *), const char *answer)

@@ -217,14 +217,17 @@ class Facts(unittest.TestCase):
             with self.subTest(interface=interface):
                 self.assertEqual(facts["network"], str(network))
                 self.assertEqual(facts["address"], str(interface.ip))
-                self.assertEqual(facts["netmask"], str(network.netmask))
-                self.assertEqual(facts["wildcard_mask"], str(network.hostmask))
+                self.assertEqual(ipaddress.ip_address(facts["netmask"]), network.netmask)
+                self.assertEqual(ipaddress.ip_address(facts["wildcard_mask"]), network.hostmask)
                 self.assertEqual(facts["addresses"], str(network.num_addresses))
                 self.assertEqual(facts["decimal"], str(int(interface.ip)))
                 self.assertEqual(int(facts["hexadecimal"], 16), int(interface.ip))
                 self.assertEqual(facts.get("in_full"), interface.ip.exploded if width == 128 else None)
-                if network.prefixlen == width:
-                    self.assertEqual(facts["reverse_zones"], [interface.ip.reverse_pointer])
+                bits = 8 if width == 32 else 4
+                if network.prefixlen % bits == 0 and 0 < network.prefixlen < width:
+                    labels = network.network_address.reverse_pointer.split(".")
+                    zone = ".".join(labels[(width - network.prefixlen) // bits:])
+                    self.assertEqual(facts["reverse_zones"], [zone])
 
     def test_refused(self):
         self.assertRaises(NotANetwork, info, "10.0.0.0/33")
