@@ -66,7 +66,10 @@ typedef enum ipnet_status {
     IPNET_NOT_A_TABLE = 13,       /* the bytes are not the image of a table */
     IPNET_BAD_OFFSETS = 14,       /* an offset is less than the offset before it, or more than the length of the text */
     IPNET_BAD_ROW = 15,           /* a row is not what the call reads */
-    IPNET_NOT_ORIGINS = 16        /* the bytes are not the image of a table of payloads */
+    IPNET_NOT_ORIGINS = 16,       /* the bytes are not the image of a table of payloads */
+    IPNET_UNKNOWN_OPTION = 17,    /* a number is not one of the numbers of an option */
+    IPNET_NO_ADDRESS = 18,        /* there is no address around which to draw a network */
+    IPNET_NO_PLACE = 19           /* the set has no room for the networks of a plan */
 } ipnet_status;
 
 /* Returns the meaning of a status, in English. The text is constant; nothing is allocated. */
@@ -90,6 +93,9 @@ static inline const char *ipnet_status_text(ipnet_status status)
     case IPNET_BAD_OFFSETS: return "the offsets are not ascending places in the text";
     case IPNET_BAD_ROW: return "a row is not what the call reads";
     case IPNET_NOT_ORIGINS: return "the bytes are not a table of payloads";
+    case IPNET_UNKNOWN_OPTION: return "the option is not known";
+    case IPNET_NO_ADDRESS: return "there is no address to draw";
+    case IPNET_NO_PLACE: return "the set has no room for these networks";
     }
     return "unknown status";
 }
@@ -388,6 +394,105 @@ ipnet_status ipnet_set_symmetric_difference(const void *set, size_t set_len, con
 /* Writes the image of all addresses, IPv4 and IPv6, that are not in the set. Returns the same statuses as
  * ipnet_set_to_text. A buffer that is 20 bytes longer than the image of the set is always long enough. */
 ipnet_status ipnet_set_complement(const void *set, size_t set_len, void *buffer, size_t buffer_len, size_t *count);
+
+/* ---- Pictures, facts and plans
+ *
+ * A picture shows one network. `network` says which:
+ * - a network in byte form, whose host bits do not matter;
+ * - no bytes: the smallest network around all IPv4 addresses of the set, or around all IPv6 addresses if it has no
+ *   IPv4 address;
+ * - the byte 1 only: the smallest network around all IPv6 addresses of the set.
+ *
+ * docs/PICTURES.md says how to read a map and a bar. */
+
+/* The options of a map: IPNET_MAP_AUTO for dark colours if the reader prefers dark pages, and else light ones,
+ * IPNET_MAP_LIGHT or IPNET_MAP_DARK; plus IPNET_MAP_FREE, if it outlines the free blocks. */
+enum { IPNET_MAP_AUTO = 0, IPNET_MAP_LIGHT = 1, IPNET_MAP_DARK = 2, IPNET_MAP_FREE = 4 };
+
+/* The options of a bar: the most marks in a row, which are 4, 8, 16, 32 or 64; plus IPNET_BAR_UTF8, if the marks are
+ * shades in UTF-8 and not ASCII. */
+enum { IPNET_BAR_UTF8 = 1 };
+
+/* Writes a map of the set, given by its image, as a document of SVG in ASCII, as netset map prints it. The networks of
+ * the set that are shown have titles, the 1,500 largest at most.
+ *
+ * OK                `buffer` starts with the document, and `*count` is its length
+ * BUFFER_TOO_SHORT  `*count` is the length of the document; most maps have fewer than 500,000 bytes
+ * UNKNOWN_OPTION    if and only if `options` is not a sum as above; checked first
+ * WRONG_LENGTH, UNKNOWN_FAMILY, PREFIX_TOO_LONG   if and only if `network` is none of the above, and has this fault;
+ *                   checked before the image
+ * NOT_A_SET         if and only if all of these are right, and the bytes are not the image of a set
+ * NO_ADDRESS        `network` has no byte form, and the set has no address around which to draw a network
+ * OUT_OF_MEMORY
+ *
+ * `buffer` is modified only on OK, and only up to the end of the document. `*count` is modified only on OK and
+ * BUFFER_TOO_SHORT.
+ */
+ipnet_status ipnet_set_map(const void *set, size_t set_len, const uint8_t *network, size_t network_len,
+                           uint32_t options, char *buffer, size_t buffer_len, size_t *count);
+
+/* Like ipnet_set_map, for a map of what changes if the first set becomes the second. The smallest network is around the
+ * addresses that the sets have together. Also returns OTHER_NOT_A_SET, if and only if all other arguments are right,
+ * and the second bytes are not the image of a set. */
+ipnet_status ipnet_set_comparison_map(const void *set, size_t set_len, const void *other, size_t other_len,
+                                      const uint8_t *network, size_t network_len, uint32_t options, char *buffer,
+                                      size_t buffer_len, size_t *count);
+
+/* Like ipnet_set_map, for a bar: at most 16 rows of marks, as netset bar prints them.
+ *
+ *     the image of 10.0.0.0/31, the network 0, 10, 0, 0, 0, 30, and 4   OK, a text whose second line is
+ *                                                                      "10.0.0.0/30 |##..| 50.0 %\n"
+ */
+ipnet_status ipnet_set_bar(const void *set, size_t set_len, const uint8_t *network, size_t network_len,
+                           uint32_t options, char *buffer, size_t buffer_len, size_t *count);
+
+/* Like ipnet_set_comparison_map, for a bar. A mark is "-" if only the first set has some of its addresses that the
+ * other lacks, "+" if only the second has, "!" if both have, and "=" if both sets have the same of its addresses. */
+ipnet_status ipnet_set_comparison_bar(const void *set, size_t set_len, const void *other, size_t other_len,
+                                      const uint8_t *network, size_t network_len, uint32_t options, char *buffer,
+                                      size_t buffer_len, size_t *count);
+
+/* The forms of facts: a line for each fact, with its name, ": " and its value; or one JSON object on a line, whose
+ * numbers are strings. */
+enum { IPNET_LINES = 0, IPNET_JSON = 1 };
+
+/* Writes the facts about a network in byte form, as netset info prints them: masks, hosts, counts, the address as a
+ * number, reverse zones, and the special-purpose blocks of IANA's registries that share an address with it.
+ *
+ * OK                `buffer` starts with the text, and `*count` is its length
+ * BUFFER_TOO_SHORT  `*count` is the length of the text
+ * UNKNOWN_OPTION    if and only if `form` is neither IPNET_LINES nor IPNET_JSON; checked first
+ * WRONG_LENGTH, UNKNOWN_FAMILY, PREFIX_TOO_LONG   if and only if the form is known, and the bytes have this fault
+ * OUT_OF_MEMORY
+ *
+ * `buffer` is modified only on OK, and only up to the end of the text. `*count` is modified only on OK and
+ * BUFFER_TOO_SHORT.
+ *
+ *     0, 10, 0, 0, 9, 24 and IPNET_LINES   OK, "network: 10.0.0.0/24\naddress: 10.0.0.9\n.."
+ */
+ipnet_status ipnet_info(const uint8_t *network, size_t network_len, uint32_t form, char *buffer, size_t buffer_len,
+                        size_t *count);
+
+/* Writes a plan: networks in the set, given by its image, one for each prefix length of `lengths` and in their order,
+ * one per line. No two of them share an address, and whatever further networks could be placed in the set beside
+ * networks of these lengths can still be placed. `family` is 4 for IPv4 and 6 for IPv6.
+ *
+ * OK                `buffer` starts with the text, and `*count` is its length
+ * BUFFER_TOO_SHORT  `*count` is the length of the text; 44 bytes for each network are always enough
+ * UNKNOWN_FAMILY    if and only if `family` is neither 4 nor 6; checked first
+ * PREFIX_TOO_LONG   if and only if the family is known, and a length is above 32 (IPv4) or 128 (IPv6)
+ * NOT_A_SET         if and only if all of these are right, and the bytes are not the image of a set
+ * NO_PLACE          no such networks exist
+ * OUT_OF_MEMORY
+ *
+ * `buffer` is modified only on OK, and only up to the end of the text. `*count` is modified only on OK and
+ * BUFFER_TOO_SHORT.
+ *
+ *     the image of 10.0.0.0/24, 4, and 26, 25       OK, 27, "10.0.0.0/26\n10.0.0.128/25\n"
+ *     the image of 10.0.0.0/24, 4, and 25, 25, 27   NO_PLACE
+ */
+ipnet_status ipnet_set_plan(const void *set, size_t set_len, uint32_t family, const uint8_t *lengths,
+                            size_t lengths_len, char *buffer, size_t buffer_len, size_t *count);
 
 /* ---- Rows from text
  *

@@ -238,6 +238,59 @@ static ipnet_status origins_validity(struct lent *lent)
     return answers[0] == (status == IPNET_OK ? IPNET_VALID : 9) ? status : IPNET_NOT_ORIGINS;
 }
 
+/* Pictures of two sets in 10.0.0.0/30. Whether a picture is right is tested in pictures.c. */
+static struct {
+    uint8_t bytes[64];
+    size_t len;
+} first_set, second_set;
+static const uint8_t shown[] = {0, 10, 0, 0, 0, 30};
+static char picture[1 << 16];
+
+static ipnet_status drawn(struct lent *lent, ipnet_status status, const char *start)
+{
+    lent->yes = status == IPNET_OK ? memcmp(picture, start, strlen(start)) == 0 : lent->yes;
+    return status;
+}
+
+static ipnet_status set_map(struct lent *lent)
+{
+    return drawn(lent, ipnet_set_map(first_set.bytes, first_set.len, shown, sizeof shown,
+                                     IPNET_MAP_LIGHT + IPNET_MAP_FREE, picture, sizeof picture, &lent->number),
+                 "<svg ");
+}
+
+static ipnet_status set_comparison_map(struct lent *lent)
+{
+    return drawn(lent, ipnet_set_comparison_map(first_set.bytes, first_set.len, second_set.bytes, second_set.len, NULL,
+                                                0, IPNET_MAP_AUTO, picture, sizeof picture, &lent->number), "<svg ");
+}
+
+static ipnet_status set_bar(struct lent *lent)
+{
+    return drawn(lent, ipnet_set_bar(first_set.bytes, first_set.len, shown, sizeof shown, 32 + IPNET_BAR_UTF8, picture,
+                                     sizeof picture, &lent->number), "10.0.0.0/30, ");
+}
+
+static ipnet_status set_comparison_bar(struct lent *lent)
+{
+    return drawn(lent, ipnet_set_comparison_bar(first_set.bytes, first_set.len, second_set.bytes, second_set.len, shown,
+                                                sizeof shown, 4, picture, sizeof picture, &lent->number),
+                 "10.0.0.0/30, ");
+}
+
+static ipnet_status info(struct lent *lent)
+{
+    return drawn(lent, ipnet_info(shown, sizeof shown, IPNET_JSON, picture, sizeof picture, &lent->number),
+                 "{\"network\":\"10.0.0.0/30\",");
+}
+
+static ipnet_status set_plan(struct lent *lent)
+{
+    static const uint8_t lengths[] = {26, 25};
+    return ipnet_set_plan(part_set.bytes, part_set.len, 4, lengths, sizeof lengths, lent->buffer, sizeof lent->buffer,
+                          &lent->number);
+}
+
 /* Each call, and the text that it writes; NULL if its result is yes. */
 static const struct {
     const char *name;
@@ -254,6 +307,9 @@ static const struct {
     {"set_from_list", set_from_list, NULL}, {"set_counts", set_counts, NULL},
     {"set_from_list_legacy", set_from_list_legacy, NULL}, {"set_from_text_legacy", set_from_text_legacy, NULL},
     {"origins_from_rows", origins_from_rows, NULL}, {"origins_validity", origins_validity, NULL},
+    {"set_map", set_map, NULL},             {"set_comparison_map", set_comparison_map, NULL},
+    {"set_bar", set_bar, NULL},             {"set_comparison_bar", set_comparison_bar, NULL},
+    {"info", info, NULL},                   {"set_plan", set_plan, "10.0.0.0/26\n10.0.0.128/25\n"},
 };
 
 static int is_answered(const struct lent *lent, const char *answer)
@@ -264,10 +320,13 @@ static int is_answered(const struct lent *lent, const char *answer)
     return lent->yes == 1;
 }
 
+/* No call above allocates more often; a map does so most often. */
+enum { MOST_GROWTHS = 1000 };
+
 /* How many allocations the call needed; -1 if the call broke a rule above. */
 static long least_growths(ipnet_status (*call)(struct lent *), const char *answer)
 {
-    for (long growths = 0; growths < 100; growths++) {
+    for (long growths = 0; growths < MOST_GROWTHS; growths++) {
         struct lent before, lent;
         memset(&before, 0xa5, sizeof before);
         lent = before;
@@ -403,7 +462,10 @@ int main(void)
 {
     granted = -1;
     if (ipnet_set_from_text(list, strlen(list), list_set.bytes, sizeof list_set.bytes, &list_set.len) != IPNET_OK
-        || ipnet_set_from_text(part, strlen(part), part_set.bytes, sizeof part_set.bytes, &part_set.len) != IPNET_OK) {
+        || ipnet_set_from_text(part, strlen(part), part_set.bytes, sizeof part_set.bytes, &part_set.len) != IPNET_OK
+        || ipnet_set_from_text("10.0.0.0/31", 11, first_set.bytes, sizeof first_set.bytes, &first_set.len) != IPNET_OK
+        || ipnet_set_from_text("10.0.0.1/32", 11, second_set.bytes, sizeof second_set.bytes, &second_set.len)
+            != IPNET_OK) {
         puts("the images cannot be made");
         return 1;
     }

@@ -41,6 +41,7 @@ from ._library import version as library_version
 from ._networks import (BadLine, Interface, Network, Networks, NotANetwork, OneNetwork, answered, bytes_of,
                         interface_of, networks_of, text_of)
 from ._origins import NotOrigins, OriginTable, Validity
+from ._pictures import NoPlace, info
 from ._rows import BadRow
 from ._sets import IpSet, NotASet
 from ._tables import NotATable, RouteTable
@@ -50,7 +51,7 @@ __all__ = [
     "IpSet", "NotASet", "RouteTable", "NotATable", "ValueTable", "OriginTable", "NotOrigins", "Validity",
     "aggregate", "aggregate_text", "union", "union_text", "intersection", "intersection_text", "difference",
     "difference_text", "same_addresses", "is_covered", "parse", "canonical_text", "library_version", "BadLine",
-    "NotANetwork", "Addresses", "ArrowText", "BadRow", "parse_all", "text_all", "truncate_all",
+    "NotANetwork", "Addresses", "ArrowText", "BadRow", "parse_all", "text_all", "truncate_all", "info", "NoPlace",
 ]
 
 __version__ = "1.0.0"
@@ -58,7 +59,7 @@ __version__ = "1.0.0"
 BadLine.__module__ = NotANetwork.__module__ = NotASet.__module__ = IpSet.__module__ = __name__
 RouteTable.__module__ = NotATable.__module__ = ValueTable.__module__ = __name__
 OriginTable.__module__ = NotOrigins.__module__ = Validity.__module__ = __name__
-Addresses.__module__ = ArrowText.__module__ = BadRow.__module__ = __name__
+Addresses.__module__ = ArrowText.__module__ = BadRow.__module__ = NoPlace.__module__ = __name__
 
 
 def aggregate_text(networks: Networks, legacy: bool = False) -> str:

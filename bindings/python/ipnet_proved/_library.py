@@ -1,7 +1,7 @@
 """The shared library libipnet.so: its place, its functions as in include/ipnet.h, and its statuses."""
 import ctypes
 import os
-from typing import Callable, Tuple
+from typing import Callable, List, Tuple, Union
 
 OK = 0
 BAD_LINE = 1
@@ -20,6 +20,9 @@ NOT_A_TABLE = 13
 BAD_OFFSETS = 14
 BAD_ROW = 15
 NOT_ORIGINS = 16
+UNKNOWN_OPTION = 17
+NO_ADDRESS = 18
+NO_PLACE = 19
 
 MAX_BYTES = 18
 MAX_TEXT = 43
@@ -85,6 +88,12 @@ def _load() -> ctypes.CDLL:
         "ipnet_set_difference": [read, size, read, size, read, size, number],
         "ipnet_set_symmetric_difference": [read, size, read, size, read, size, number],
         "ipnet_set_complement": into_buffer,
+        "ipnet_set_map": [read, size, read, size, value, read, size, number],
+        "ipnet_set_comparison_map": [read, size, read, size, read, size, value, read, size, number],
+        "ipnet_set_bar": [read, size, read, size, value, read, size, number],
+        "ipnet_set_comparison_bar": [read, size, read, size, read, size, value, read, size, number],
+        "ipnet_set_plan": [read, size, value, read, size, read, size, number],
+        "ipnet_info": [read, size, value, read, size, number],
         "ipnet_set_range_rows": [read, size, read, size, read, size, number],
         "ipnet_rows_from_lines": [read, size, read, size, read, size, number],
         "ipnet_rows_from_offsets": [read, size, read, size, read, size, read, size, number],
@@ -130,12 +139,14 @@ def version() -> Tuple[int, int, int]:
 
 
 def writer(name: str, room: int) -> Callable[..., Tuple[int, int, bytes]]:
-    """The function as one that takes texts or bytes, and returns its status, the number that it writes, and its result.
-    `room` is the length of the first buffer that it gets."""
+    """The function as one that takes texts, bytes or numbers, and returns its status, the number that it writes, and
+    its result. `room` is the length of the first buffer that it gets."""
     function = getattr(_library, name)
 
-    def call(*given: bytes) -> Tuple[int, int, bytes]:
-        arguments = [each for data in given for each in (data, len(data))]
+    def call(*given: Union[bytes, int]) -> Tuple[int, int, bytes]:
+        arguments: List[Union[bytes, int]] = []
+        for data in given:
+            arguments += [data] if isinstance(data, int) else [data, len(data)]
         count, length = ctypes.c_size_t(0), max(room, 1)
         while True:
             buffer = ctypes.create_string_buffer(length)

@@ -9,6 +9,7 @@ from ._bulk import RAISE, Options, contained
 from ._columns import ArrowText, blocks_of_lines
 from ._networks import (Address, BadLine, Network, Networks, OneNetwork, Text, answered, as_bytes, bytes_of,
                         cause_of_entry, items_of, networks_of, shown, text_of)
+from ._pictures import Pictured
 from ._rows import WIDTH, checked
 
 try:
@@ -55,7 +56,7 @@ class NotASet(ValueError):
         super().__init__(message)
 
 
-class IpSet:
+class IpSet(Pictured):
     """A set of IPv4 and IPv6 addresses. It never changes, so it can be the key of a dictionary.
 
     It is made of a list of networks, in each form that the functions of this package take; without one it is empty. If

@@ -23,6 +23,7 @@
 
 mod column;
 mod origin;
+mod picture;
 mod raw;
 mod rows;
 mod set;
@@ -30,6 +31,7 @@ mod table;
 
 pub use column::Rows;
 pub use origin::{OriginTable, Payload, Validity};
+pub use picture::{BarOptions, MapOptions, RowWidth, Shown, Theme};
 pub use raw::Offset;
 pub use set::IpSet;
 pub use table::RouteTable;
@@ -73,6 +75,10 @@ pub enum Error {
     BadRow(usize),
     /// The bytes are not the image of a table of payloads.
     NotOrigins,
+    /// No network is named, and there is no address around which to draw one.
+    NoAddress,
+    /// The set has no room for the networks of a plan.
+    NoPlace,
     /// `malloc` or `realloc` failed.
     OutOfMemory,
 }
@@ -92,6 +98,8 @@ impl fmt::Display for Error {
             Error::BadOffsets => f.write_str("the offsets are not ascending places in the text"),
             Error::BadRow(index) => write!(f, "payload {index}: invalid greatest prefix length"),
             Error::NotOrigins => f.write_str("not the image of a table of payloads"),
+            Error::NoAddress => f.write_str("no address to draw"),
+            Error::NoPlace => f.write_str("no room for these networks"),
             Error::OutOfMemory => f.write_str("out of memory"),
         }
     }

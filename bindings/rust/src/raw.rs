@@ -15,6 +15,8 @@ const NOT_A_TABLE: u32 = 13;
 const BAD_OFFSETS: u32 = 14;
 const BAD_ROW: u32 = 15;
 const NOT_ORIGINS: u32 = 16;
+const NO_ADDRESS: u32 = 18;
+const NO_PLACE: u32 = 19;
 
 /// The maximum number of bytes in the byte form of a network, and in its text.
 const MAX_BYTES: usize = 18;
@@ -26,8 +28,78 @@ pub type IntoBuffer = unsafe extern "C" fn(*const u8, usize, *mut u8, usize, *mu
 /// Like [`IntoBuffer`], with two texts.
 pub type BothIntoBuffer = unsafe extern "C" fn(*const u8, usize, *const u8, usize, *mut u8, usize, *mut usize) -> u32;
 
+/// A function that draws the set of an image: it takes the image and its length, the bytes of the network that is shown,
+/// and the number of the options.
+pub type Draw = unsafe extern "C" fn(*const u8, usize, *const u8, usize, u32, *mut u8, usize, *mut usize) -> u32;
+
+/// Like [`Draw`], for the sets of two images.
+pub type DrawBoth =
+    unsafe extern "C" fn(*const u8, usize, *const u8, usize, *const u8, usize, u32, *mut u8, usize, *mut usize) -> u32;
+
 extern "C" {
     fn ipnet_version() -> u32;
+    pub fn ipnet_set_map(
+        set: *const u8,
+        set_len: usize,
+        network: *const u8,
+        network_len: usize,
+        options: u32,
+        buffer: *mut u8,
+        buffer_len: usize,
+        count: *mut usize,
+    ) -> u32;
+    pub fn ipnet_set_comparison_map(
+        set: *const u8,
+        set_len: usize,
+        other: *const u8,
+        other_len: usize,
+        network: *const u8,
+        network_len: usize,
+        options: u32,
+        buffer: *mut u8,
+        buffer_len: usize,
+        count: *mut usize,
+    ) -> u32;
+    pub fn ipnet_set_bar(
+        set: *const u8,
+        set_len: usize,
+        network: *const u8,
+        network_len: usize,
+        options: u32,
+        buffer: *mut u8,
+        buffer_len: usize,
+        count: *mut usize,
+    ) -> u32;
+    pub fn ipnet_set_comparison_bar(
+        set: *const u8,
+        set_len: usize,
+        other: *const u8,
+        other_len: usize,
+        network: *const u8,
+        network_len: usize,
+        options: u32,
+        buffer: *mut u8,
+        buffer_len: usize,
+        count: *mut usize,
+    ) -> u32;
+    fn ipnet_set_plan(
+        set: *const u8,
+        set_len: usize,
+        family: u32,
+        lengths: *const u8,
+        lengths_len: usize,
+        buffer: *mut u8,
+        buffer_len: usize,
+        count: *mut usize,
+    ) -> u32;
+    fn ipnet_info(
+        network: *const u8,
+        network_len: usize,
+        form: u32,
+        buffer: *mut u8,
+        buffer_len: usize,
+        count: *mut usize,
+    ) -> u32;
     pub fn ipnet_aggregate_text(
         text: *const u8,
         text_len: usize,
@@ -438,6 +510,8 @@ fn error_of(status: u32, line: usize) -> Error {
         BAD_OFFSETS => Error::BadOffsets,
         BAD_ROW => Error::BadRow(line),
         NOT_ORIGINS => Error::NotOrigins,
+        NO_ADDRESS => Error::NoAddress,
+        NO_PLACE => Error::NoPlace,
         _ => Error::NotANetwork,
     }
 }
@@ -470,7 +544,7 @@ fn answer(expected: usize, call: impl Fn(&mut [u8]) -> (u32, usize)) -> Result<V
     }
 }
 
-/// The bytes of canonical text as text, which is ASCII.
+/// The bytes of a result as text.
 fn text_of(bytes: Vec<u8>) -> Result<String, Error> {
     String::from_utf8(bytes).map_err(|_| Error::NotANetwork)
 }
@@ -508,6 +582,88 @@ pub fn combine(text: &[u8], other: &[u8], into_buffer: BothIntoBuffer) -> Result
         };
         (status, count)
     })
+}
+
+/// The length of the buffer for a picture or for facts: most fit, and the others are made twice.
+const PICTURE_LEN: usize = 1 << 19;
+const TEXT_LEN: usize = 1 << 13;
+
+/// Draws the set of a tested image. `network` has the bytes for the network that is shown.
+pub fn draw(set: &[u8], network: &[u8], options: u32, draw: Draw) -> Result<String, Error> {
+    text_of(answer(PICTURE_LEN, |buffer| {
+        let mut count = 0;
+        // SAFETY: as in `call`.
+        let status = unsafe {
+            draw(
+                set.as_ptr(),
+                set.len(),
+                network.as_ptr(),
+                network.len(),
+                options,
+                buffer.as_mut_ptr(),
+                buffer.len(),
+                &mut count,
+            )
+        };
+        (status, count)
+    })?)
+}
+
+/// Like [`draw`], for the sets of two tested images.
+pub fn draw_both(images: (&[u8], &[u8]), network: &[u8], options: u32, draw: DrawBoth) -> Result<String, Error> {
+    let (set, other) = images;
+    text_of(answer(PICTURE_LEN, |buffer| {
+        let mut count = 0;
+        // SAFETY: as in `call`. The two images are only read, so they may overlap.
+        let status = unsafe {
+            draw(
+                set.as_ptr(),
+                set.len(),
+                other.as_ptr(),
+                other.len(),
+                network.as_ptr(),
+                network.len(),
+                options,
+                buffer.as_mut_ptr(),
+                buffer.len(),
+                &mut count,
+            )
+        };
+        (status, count)
+    })?)
+}
+
+/// Networks of these prefix lengths in the set of a tested image, as text. The family is 4 or 6.
+pub fn set_plan(set: &[u8], family: u32, lengths: &[u8]) -> Result<String, Error> {
+    text_of(answer(lengths.len().saturating_mul(MAX_TEXT + 1), |buffer| {
+        let mut count = 0;
+        // SAFETY: as in `call`.
+        let status = unsafe {
+            ipnet_set_plan(
+                set.as_ptr(),
+                set.len(),
+                family,
+                lengths.as_ptr(),
+                lengths.len(),
+                buffer.as_mut_ptr(),
+                buffer.len(),
+                &mut count,
+            )
+        };
+        (status, count)
+    })?)
+}
+
+/// The facts about the network in byte form, in the form with this number.
+pub fn info(network: &[u8], form: u32) -> Result<String, Error> {
+    text_of(answer(TEXT_LEN, |buffer| {
+        let mut count = 0;
+        // SAFETY: as in `call`.
+        let status = unsafe {
+            ipnet_info(network.as_ptr(), network.len(), form, buffer.as_mut_ptr(), buffer.len(), &mut count)
+        };
+        (status, count)
+    })?)
 }
 
 /// Extends the buffer to `len` items.

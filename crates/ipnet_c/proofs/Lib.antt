@@ -20,3 +20,6 @@ pub mod TextRowReplies
 pub mod RouteReplies
 pub mod ImageRowReplies
 pub mod OriginReplies
+pub mod PictureReplies
+pub mod FactReplies
+pub mod MapEntryLaws

@@ -13,3 +13,6 @@ pub mod TextRows
 pub mod RouteReplies
 pub mod ImageRows
 pub mod OriginReplies
+pub mod Pictures
+pub mod PictureReplies
+pub mod FactReplies

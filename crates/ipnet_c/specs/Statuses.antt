@@ -70,6 +70,17 @@ bad_row = 15
 -- The bytes are not the image of a table of payloads.
 abbrev pub not_origins : ℕ
 not_origins = 16
+-- A number is not one of the numbers of an option.
+abbrev pub unknown_option : ℕ
+unknown_option = 17
+
+-- There is no address around which to draw a network.
+abbrev pub no_address : ℕ
+no_address = 18
+
+-- The set has no room for the networks of a plan.
+abbrev pub no_place : ℕ
+no_place = 19
 
 -- The status for bytes that are not a network.
 abbrev pub status_of_bytes : CompactError → ℕ

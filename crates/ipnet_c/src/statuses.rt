@@ -54,6 +54,14 @@ pub(crate) const BAD_ROW: u32 = 15;
 
 /// The bytes are not the image of a table of payloads.
 pub(crate) const NOT_ORIGINS: u32 = 16;
+/// A number is not one of the numbers of an option.
+pub(crate) const UNKNOWN_OPTION: u32 = 17;
+
+/// There is no address around which to draw a network.
+pub(crate) const NO_ADDRESS: u32 = 18;
+
+/// The set has no room for the networks of a plan.
+pub(crate) const NO_PLACE: u32 = 19;
 
 /// Returns the status for bytes that are not a network.
 pub(crate) fn status_of(error: CompactError) -> u32

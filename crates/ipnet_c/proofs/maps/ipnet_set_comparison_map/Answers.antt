@@ -1,0 +1,32 @@
+-- Each way out gives a reply.
+use Rattle.std.proofs.Common.{IfOk, IfSome, string_bytes, sym, subst}
+use Rattle.ipnet_sets.specs.Images.{IsImageOf}
+use Rattle.ipnet_sets.specs.declared.set.IpSet.{IpSet}
+use Rattle.ipnet_c.specs.Pictures.{AreMapOptions, IsComparisonMapOf}
+use Rattle.ipnet_c.proofs.PictureReplies.{frame_refused, pair_drawn}
+use Rattle.ipnet_c.proofs.maps.ipnet_set_comparison_map.Goals as goal
+
+pub returns-in-Err : goal.returns-in-Err
+returns-in-Err c =
+    frame_refused (AreMapOptions c.args.options) (IsComparisonMapOf c.args.options) c.args.set.now c.args.other.now
+    c.args.network.now c.args.buffer.now c.args.count.now c.in-Err.status
+    (c.in-Some.options.theme, c.in-Some.options.shows_free, c.in-Some.ensures.some) c.in-Err.ensures.fault
+
+pub returns : goal.returns
+returns c =
+    let bytes = c.in-Ok-from_bytes.set.image.bytes.now in
+    let other_bytes = c.in-Ok-from_bytes-2.other.image.bytes.now in
+    let frame = c.in-Ok.frame in
+    let made = c.write_picture in
+    pair_drawn (AreMapOptions c.args.options) (IsComparisonMapOf c.args.options) c.args.set.now bytes
+    c.args.other.now other_bytes c.args.network.now c.args.buffer.now made.new.buffer c.args.count.now
+    made.new.count made.result frame c.draw_comparison_map-drawn.result
+    (c.in-Some.options.theme, c.in-Some.options.shows_free, c.in-Some.ensures.some) c.in-Ok.ensures.frame
+    c.in-Ok-from_bytes.set.image_of_a_set c.in-Ok-from_bytes.ensures
+    c.in-Ok-from_bytes-2.other.image_of_a_set c.in-Ok-from_bytes-2.ensures
+    (subst (λ o. IfOk c.draw_comparison_map-drawn.result (λ found. IfSome found (λ text.
+    (before after : IpSet) × IsImageOf bytes before × IsImageOf other_bytes after
+    × IsComparisonMapOf o before after frame (string_bytes text))))
+    (sym c.in-Some.ensures.some) c.draw_comparison_map-drawn.ensures.map)
+    c.draw_comparison_map-drawn.ensures.none made.ensures.known made.ensures.ok made.ensures.too_short
+    made.ensures.no_address made.ensures.kept
