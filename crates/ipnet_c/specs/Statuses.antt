@@ -70,6 +70,7 @@ bad_row = 15
 -- The bytes are not the image of a table of payloads.
 abbrev pub not_origins : ℕ
 not_origins = 16
+
 -- A number is not one of the numbers of an option.
 abbrev pub unknown_option : ℕ
 unknown_option = 17
