@@ -13,37 +13,35 @@ use Rattle.netset_commands.specs.declared.arguments.ArgumentFailure.TheVariants.
 abbrev pub texts_of : Names → List (List ℕ)
 texts_of entries = map (λ e. e.now) entries
 
--- one more of the first entries
-one_more : (entries : Names) (i : ℕ) (e : Bor (List ℕ)) → i < length entries → e ≡ get_or entries i e
-    → texts_of (take (i + 1) entries) ≡ texts_of (take i entries) ++ e.now ∷ []
-one_more entries i e within is =
-    ap (λ z. texts_of z) (take_more entries i e within ∙ ap (λ z. take i entries ++ z ∷ []) (sym is))
-    ∙ map-append (λ (x : Bor (List ℕ)). x.now) (take i entries) (e ∷ [])
+module _ (entries : Names) (i : ℕ) (d : Bor (List ℕ)) (within : i < length entries) where
+  -- one more of the first entries
+  one_more : texts_of (take (i + 1) entries) ≡ texts_of (take i entries) ++ (get_or entries i d).now ∷ []
+  one_more =
+      ap (λ z. texts_of z) (take_more entries i d within)
+      ∙ map-append (λ (x : Bor (List ℕ)). x.now) (take i entries) (get_or entries i d ∷ [])
 
--- it has its line
-pub line_more : (entries : Names) (i : ℕ) (e : Bor (List ℕ)) (before after : List ℕ) → i < length entries
-    → e ≡ get_or entries i e → before ≡ entry_lines (texts_of (take i entries))
-    → after ≡ before ++ (e.now ++ 10 ∷ []) → after ≡ entry_lines (texts_of (take (i + 1) entries))
-line_more entries i e before after within is h line =
-    line ∙ ap (λ z. z ++ (e.now ++ 10 ∷ [])) h
-    ∙ flat_map_more (λ (x : List ℕ). x ++ 10 ∷ []) [] (texts_of (take i entries)) e.now
-    ∙ ap (λ z. entry_lines z) (sym (one_more entries i e within is))
+  -- it has its line
+  pub line_more : (before after : List ℕ) → before ≡ entry_lines (texts_of (take i entries))
+      → after ≡ before ++ ((get_or entries i d).now ++ 10 ∷ []) → after ≡ entry_lines (texts_of (take (i + 1) entries))
+  line_more before after h line =
+      line ∙ ap (λ z. z ++ ((get_or entries i d).now ++ 10 ∷ [])) h
+      ∙ flat_map_more (λ (x : List ℕ). x ++ 10 ∷ []) [] (texts_of (take i entries)) (get_or entries i d).now
+      ∙ ap (λ z. entry_lines z) (sym one_more)
 
--- it is one line too
-pub one_line_more : (entries : Names) (i : ℕ) (e : Bor (List ℕ)) → i < length entries → e ≡ get_or entries i e
-    → All IsOneLine (texts_of (take i entries)) → IsOneLine e.now → All IsOneLine (texts_of (take (i + 1) entries))
-one_line_more entries i e within is h one =
-    subst (All IsOneLine) (sym (one_more entries i e within is))
-    (All-push IsOneLine (texts_of (take i entries)) e.now h one)
+  -- it is one line too
+  pub one_line_more : All IsOneLine (texts_of (take i entries)) → IsOneLine (get_or entries i d).now
+      → All IsOneLine (texts_of (take (i + 1) entries))
+  one_line_more h one =
+      subst (All IsOneLine) (sym one_more)
+      (All-push IsOneLine (texts_of (take i entries)) (get_or entries i d).now h one)
 
--- it is not one line
-pub broken_at : (entries : Names) (i : ℕ) (e : Bor (List ℕ)) → i < length entries → e ≡ get_or entries i e
-    → Has 10 e.now → IsEntryFailure (texts_of entries) (LineBreak (i + 1))
-broken_at entries i e within is has =
-    let spelled : get_or (texts_of entries) i [] ≡ e.now =
-    get_or-map (λ (x : Bor (List ℕ)). x.now) entries i e [] within ∙ ap (λ x. x.now) (sym is) in (
-      i,
-      refl,
-      omega (arith, within, length-map entries (λ (x : Bor (List ℕ)). x.now)),
-      subst (Has 10) (sym spelled) has,
-    )
+  -- it is not one line
+  pub broken_at : Has 10 (get_or entries i d).now → IsEntryFailure (texts_of entries) (LineBreak (i + 1))
+  broken_at has =
+      let spelled : get_or (texts_of entries) i [] ≡ (get_or entries i d).now =
+      get_or-map (λ (x : Bor (List ℕ)). x.now) entries i d [] within in (
+        i,
+        refl,
+        omega (arith, within, length-map entries (λ (x : Bor (List ℕ)). x.now)),
+        subst (Has 10) (sym spelled) has,
+      )
