@@ -1,6 +1,7 @@
 -- The parts of an answer: their sets, and their texts.
 use Rattle.std.proofs.Common.{◌≡◌, ℕ, ◌/◌, ◌≤◌, ◌<◌, ◌^◌, ◌↔◌, List, [], ◌++◌, Option, Some, None, refl, sym, ap, ◌∙◌}
-use Rattle.std.proofs.Common.{subst, arith, append-nil, max}
+use Rattle.std.proofs.Common.{subst, arith, append-nil, max, Result, IfErr}
+use Rattle.std.proofs.lemmas.Result.{IfErr-weaker}
 use Rattle.std.proofs.Math.Nat.{div-eq_of_lt, zero-div}
 use Rattle.std.specs.Borrow.{Bor}
 use Rattle.ipnet_base.specs.Address.{Family, IPv4, IPv6, Address, IsAddress, width}
@@ -9,11 +10,15 @@ use Rattle.ipnet_base.proofs.BlockLaws.{in_block_at}
 use Rattle.ipnet_base.proofs.UniqueLaws.{AreMaximalBlocks-same_set}
 use Rattle.ipnet.specs.CanonicalTexts.{canonical_text}
 use Rattle.ipnet_sets.specs.Parts.{IsInPart}
+use Rattle.netset_forms.specs.declared.form.AnswerForm.{AnswerForm}
+use Rattle.netset_forms.specs.declared.form.FormFailure.{FormFailure}
+use Rattle.netset_forms.specs.declared.form.FormFailure.TheVariants as Failures
 use Rattle.netset_forms.specs.declared.form.SetNames.{SetNames}
 use Rattle.netset_forms.specs.declared.parts.Part.{Part}
 use Rattle.netset_forms.specs.declared.parts.Parts.{Parts}
 use Rattle.netset_forms.specs.Forms.{FitsFamilies, IsOfFamily, HasOne, IsFamilyText, AreFamilyTexts, AreBlocksIn}
-use Rattle.netset_forms.specs.FormSteps.{IsNamedText, MakesPart, MakeParts, ArePartTexts, IsPartText}
+use Rattle.netset_forms.specs.Forms.{names_in, IsFormFailure}
+use Rattle.netset_forms.specs.FormSteps.{IsNamedText, MakesPart, MakeParts, ArePartTexts, IsPartText, IsNamedFailure}
 use Rattle.netset_forms.specs.Layouts.{Layout}
 
 -- ---- the addresses of a family
@@ -90,3 +95,21 @@ fits_one InSet least fits x m = one x.family (fits x m)
     one : (f : Family) → least ≤ width f → max least 1 ≤ width f
     one IPv4 h = omega (arith, h)
     one IPv6 h = omega (arith, h)
+
+-- ---- why parts are missing
+
+named_failure : (form : AnswerForm) (names : SetNames) (least : ℕ) (InSet : Address → Type 0) (failure : FormFailure)
+    → names_in form ≡ Some names → IsNamedFailure names InSet failure → IsFormFailure form least InSet failure
+named_failure form names least InSet (Failures.MinLength low greatest) is h = absurd h
+named_failure form names least InSet Failures.NoIpv4Set is (none, one) = (names, is, none, one)
+named_failure form names least InSet Failures.NoIpv6Set is (none, one) = (names, is, none, one)
+named_failure form names least InSet Failures.Memory is h = tt
+named_failure form names least InSet Failures.Unwritable is h = absurd h
+
+-- a failure of the named parts is one of the form that has these names
+pub named_failures : (form : AnswerForm) (names : SetNames) (least : ℕ) (InSet : Address → Type 0)
+    (r : Result Parts FormFailure) → names_in form ≡ Some names → IfErr r (IsNamedFailure names InSet)
+    → IfErr r (IsFormFailure form least InSet)
+named_failures form names least InSet r is =
+    IfErr-weaker r (IsNamedFailure names InSet) (IsFormFailure form least InSet)
+    (λ failure. named_failure form names least InSet failure is)

@@ -12,6 +12,8 @@ use Rattle.ipnet.specs.CanonicalTexts.{canonical_text}
 use Rattle.ipnet_sets.specs.Members.{IsMember}
 use Rattle.ipnet_sets.specs.SetRanges.{IsInRange}
 use Rattle.ipnet_text.specs.Pieces.{IsInPieces}
+use Rattle.netset_forms.specs.declared.frame.Commands.{Commands}
+use Rattle.netset_forms.specs.declared.frame.Commands.TheVariants as Sets
 use Rattle.netset_forms.specs.declared.frame.Frame.{Frame}
 use Rattle.netset_forms.specs.declared.parts.Item.{Item}
 use Rattle.netset_forms.specs.declared.parts.Item.TheVariants as Items
@@ -22,8 +24,8 @@ use Rattle.netset_forms.specs.declared.form.AnswerForm.TheVariants as Forms
 use Rattle.netset_forms.specs.declared.form.FormFailure.{FormFailure}
 use Rattle.netset_forms.specs.declared.form.FormFailure.TheVariants as Failures
 use Rattle.netset_forms.specs.declared.form.SetNames.{SetNames}
-use Rattle.netset_forms.specs.Forms.{network_row, AreBlocksIn, AreRangesIn, FitsFamilies, HasOne}
-use Rattle.netset_forms.specs.Layouts.{Layout, later_items, text_in}
+use Rattle.netset_forms.specs.Forms.{network_row, AreBlocksIn, AreRangesIn, FitsFamilies, HasOne, ipset_kind, frr_of}
+use Rattle.netset_forms.specs.Layouts.{Layout, later_items, text_in, nft_layout, ipset_layout, bird_layout}
 
 -- The layout that a value has.
 abbrev pub layout_of : Frame → Layout
@@ -33,6 +35,15 @@ layout_of f = record {
   after = string_bytes f.after;
   none = string_bytes f.none;
 }
+
+-- The layout of the commands for a set with a name.
+abbrev pub named_layout : Commands → List ℕ → Layout
+named_layout Sets.Nft = nft_layout
+named_layout (Sets.IpsetIpv4 most) = ipset_layout (ipset_kind most IPv4)
+named_layout (Sets.IpsetIpv6 most) = ipset_layout (ipset_kind most IPv6)
+named_layout Sets.FrrIpv4 = frr_of IPv4
+named_layout Sets.FrrIpv6 = frr_of IPv6
+named_layout Sets.Bird = bird_layout
 
 -- The texts, one after the other.
 abbrev pub text_of_all : List (Bor (List ℕ)) → List ℕ
@@ -151,11 +162,22 @@ IsUnnamed names InSet Failures.NoIpv6Set = (names.ipv6 ≡ None) × HasOne InSet
 IsUnnamed names InSet Failures.Memory = ⊥
 IsUnnamed names InSet Failures.Unwritable = ⊥
 
+-- Why the parts of the families with a name are missing: a family has no name, or memory ran out.
+abbrev pub IsNamedFailure : SetNames → (Address → Type 0) → FormFailure → Type 0
+IsNamedFailure names InSet (Failures.MinLength least greatest) = ⊥
+IsNamedFailure names InSet Failures.NoIpv4Set = IsUnnamed names InSet Failures.NoIpv4Set
+IsNamedFailure names InSet Failures.NoIpv6Set = IsUnnamed names InSet Failures.NoIpv6Set
+IsNamedFailure names InSet Failures.Memory = Unit {0}
+IsNamedFailure names InSet Failures.Unwritable = ⊥
+
 -- The least prefix length of the networks in the form; ranges have none.
 abbrev pub least_in : AnswerForm → ℕ → ℕ
-least_in (Forms.Networks prefix) min_length = min_length
-least_in (Forms.Ranges prefix) min_length = 0
+least_in (Forms.Networks lines) min_length = min_length
+least_in (Forms.Ranges lines) min_length = 0
 least_in Forms.Json min_length = min_length
 least_in Forms.Csv min_length = min_length
 least_in (Forms.Nft names) min_length = min_length
 least_in (Forms.Ipset names most) min_length = min_length
+least_in (Forms.Frr names) min_length = min_length
+least_in (Forms.Bird names) min_length = min_length
+least_in (Forms.Iptables rules) min_length = min_length
