@@ -113,12 +113,12 @@ module _ (r : FormRequest) (InSet Sub : Address → Type 0)
   text_of_chosen text h = form_same Sub (IsOfFamilies r.families InSet) same r.form r.min_length text h
 
   one_of_chosen : (f : Family) → HasOne Sub f → HasOne (IsOfFamilies r.families InSet) f
-  one_of_chosen f (x, i, e) = (x, (same x).0 i, e)
+  one_of_chosen f (x, (i, e)) = (x, ((same x).0 i, e))
 
   pub failure_of_chosen : (failure : FormFailure) → IsFormFailure r.form r.min_length Sub failure
       → IsAskedFailure r InSet failure
-  failure_of_chosen (Failures.MinLength least greatest) (e, f, one, greatest_is, less) =
-      (e, f, one_of_chosen f one, greatest_is, less)
+  failure_of_chosen (Failures.MinLength least greatest) (e, (f, one, greatest_is, less)) =
+      (e, (f, one_of_chosen f one, greatest_is, less))
   failure_of_chosen Failures.NoIpv4Set (names, of_form, none, one) = (names, of_form, none, one_of_chosen IPv4 one)
   failure_of_chosen Failures.NoIpv6Set (names, of_form, none, one) = (names, of_form, none, one_of_chosen IPv6 one)
   failure_of_chosen Failures.Memory h = tt

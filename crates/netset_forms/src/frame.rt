@@ -170,12 +170,19 @@ fn kind_of(alloc: Global, front: &str, most: u32) -> Result<String, AllocError>
     Ok(text)
 }
 
+/// The words of FRR that name a prefix list.
+fn frr_list(alloc: Global, protocol: &str, name: &str) -> Result<String, AllocError>
+    ensures { IfOk result (λ text. string_bytes text ≡ layouts.frr_list protocol.now name.now) }
+{
+    joined(alloc, &[protocol, " prefix-list ", name])
+}
+
 /// Commands of FRR: the prefix list of this protocol with this name is removed, and permits the items. If there are
 /// none, it denies `all`, which is every route.
 fn frr(alloc: Global, protocol: &str, all: &str, name: &str) -> Result<Frame, AllocError>
     ensures { IfOk result (λ frame. layout_of frame ≡ frr_layout protocol.now all.now name.now) }
 {
-    let list = joined(alloc, &[protocol, " prefix-list ", name])?;
+    let list = frr_list(alloc, protocol, name)?;
     let list = list.as_str();
     Ok(Frame {
         before: joined(alloc, &["no ", list, "\n", list, " permit "])?,

@@ -251,7 +251,8 @@ fn chosen_addresses(alloc: Global, set: IpSet, families: Families) -> Result<IpS
     match families {
         Families::Ipv4 => ipv4_of(alloc, &set),
         Families::Ipv6 => ipv6_of(alloc, &set),
-        Families::Named | Families::Both => Ok(set),
+        Families::Named => Ok(set),
+        Families::Both => Ok(set),
     }
 }
 
