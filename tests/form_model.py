@@ -53,8 +53,9 @@ def frr_text(networks, name, family):
     """A prefix list: none of its name stays, and one without an entry would permit everything."""
     begin = "{} prefix-list {}".format({4: "ip", 6: "ipv6"}[family], name)
     every = {4: "0.0.0.0/0 le 32", 6: "::/0 le 128"}[family]
-    return lines(["no " + begin] + ["{} permit {}".format(begin, network) for network in networks]
-                 + ([] if networks else ["{} deny {}".format(begin, every)]))
+    entries = ["permit " + network for network in networks] or ["deny " + every]
+    return lines(["no " + begin] + ["{} seq {} {}".format(begin, 5 * place, entry)
+                                    for place, entry in enumerate(entries, 1)])
 
 
 def bird_text(networks, name):
