@@ -117,7 +117,8 @@ module _ (layout : Layout) (item : Item) (least : ℕ) (InSet : Address → Type
         k,
         ap (λ z. rest_in layout none (items_of item number z)) (e ∙ ap (λ z. z ++ others) same)
             ∙ ap (rest_in layout none) (items_append item number blocks others)
-            ∙ rest_append layout none (items_of item number blocks) (items_of item (number_after number blocks) others),
+            ∙ rest_append layout none (items_of item number blocks)
+            (items_of item (number_after number blocks) others),
       )
 
   pub putting_more : (a b c : Option (List ℕ)) (piece here new : List ℕ) (none now : Bool) (number later_number : ℕ)
@@ -152,7 +153,8 @@ module _ (layout : Layout) (item : Item) (least : ℕ) (InSet : Address → Type
       (left later : List AddressRange) (r : AddressRange) (blocks : List Network)
       → left ≡ r ∷ later → AreMaximalBlocks (IsInRange r) least blocks
       → IsCut b c here (front_in layout none (items_of item number blocks)) → FitsFamilies InSet least
-      → IsPutting a b piece here none number left → CutsSome (AreBlocksIn layout (items_of item 5) least InSet) a c piece
+      → IsPutting a b piece here none number left
+      → CutsSome (AreBlocksIn layout (items_of item 5) least InSet) a c piece
   putting_cut a b c piece here none number left later r blocks split maximal cut fits h =
       let (others, of_later, is) = cut_range none number left later r blocks h.rest split maximal h.of_left in (
         text_in layout (items_of item 5 h.all),
@@ -187,7 +189,8 @@ module _ (layout : Layout) (item : Item) (least : ℕ) (InSet : Address → Type
   pub putting_end_cut : (a b c : Option (List ℕ)) (piece here : List ℕ) (none : Bool) (number : ℕ)
       (left : List AddressRange)
       → left ≡ [] → IsCut b c here (end_of layout none) → FitsFamilies InSet least
-      → IsPutting a b piece here none number left → CutsSome (AreBlocksIn layout (items_of item 5) least InSet) a c piece
+      → IsPutting a b piece here none number left
+      → CutsSome (AreBlocksIn layout (items_of item 5) least InSet) a c piece
   putting_end_cut a b c piece here none number left over cut fits h =
       let text = text_in layout (items_of item 5 h.all) in (
         text,

@@ -20,7 +20,8 @@ use Rattle.netset_forms.specs.declared.form.FormRequest.{FormRequest}
 use Rattle.netset_forms.specs.declared.form.SetNames.{SetNames}
 use Rattle.netset_forms.specs.FormAnswers.{IsFormAnswer, IsPermittedForm}
 use Rattle.netset_forms.specs.Forms.{AreBlocksIn, AreRangesIn, IsFamilyText, AreFamilyTexts, IsFormText, IsOfFamily}
-use Rattle.netset_forms.specs.Forms.{plain_items, row_items, entries_from, ipset_kind, frr_of, IsOfFamilies, IsAskedText, HasOne}
+use Rattle.netset_forms.specs.Forms.{plain_items, row_items, entries_from, ipset_kind, frr_of, IsOfFamilies}
+use Rattle.netset_forms.specs.Forms.{IsAskedText, HasOne}
 use Rattle.netset_forms.specs.Forms.{IsFormFailure, IsAskedFailure}
 use Rattle.netset_forms.specs.Layouts.{Layout, line_layout, json_layout, csv_layout, nft_layout, ipset_layout}
 use Rattle.netset_forms.specs.Layouts.{bird_layout, chain_layout}

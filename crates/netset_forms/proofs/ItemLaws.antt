@@ -14,7 +14,7 @@ no_items Items.Row number = refl
 no_items Items.Range number = refl
 no_items Items.Entry number = refl
 
-pub more_items : (item : Item) (number : ℕ) (n : Network) (networks : List Network)
+more_items : (item : Item) (number : ℕ) (n : Network) (networks : List Network)
     → items_of item number (n ∷ networks) ≡ item_text item number n ∷ items_of item (next_number number) networks
 more_items Items.Network number n networks = refl
 more_items Items.Row number n networks = refl

@@ -68,7 +68,7 @@ module _ (layout_of : List ℕ → Layout) (items_of : List Network → List (Li
     spelled = h.spelled;
   }
 
-pub family_fits : (InSet Sub : Address → Type 0) (family : Family) (least : ℕ)
+family_fits : (InSet Sub : Address → Type 0) (family : Family) (least : ℕ)
     → ((x : Address) → Sub x ↔ IsOfFamily InSet family x) → FitsFamilies InSet least → FitsFamilies Sub least
 family_fits InSet Sub family least same fits x m = fits x ((same x).0 m).0
 
@@ -92,7 +92,7 @@ both_parts layout4 layout6 items_of InSet Four Six names least parts fits four s
   fits_second = second.fits (family_fits InSet Six IPv6 least six fits);
 }
 
--- the items of commands are those of their parts
+-- the items of commands are the items of their parts
 pub text_of_item : (k : Commands) (layout : Layout) (least : ℕ) (InSet : Address → Type 0) (text : List ℕ)
     → IsItemsText (named_item k) layout least InSet text → AreBlocksIn layout (named_items k) least InSet text
 text_of_item Sets.Nft layout least InSet text h = h

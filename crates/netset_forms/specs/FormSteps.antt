@@ -56,7 +56,7 @@ named_items Sets.FrrIpv4 = entries_from 5
 named_items Sets.FrrIpv6 = entries_from 5
 named_items Sets.Bird = plain_items
 
--- What the items of the commands are.
+-- The kind of the items of the commands.
 abbrev pub named_item : Commands → Item
 named_item Sets.Nft = Items.Network
 named_item (Sets.IpsetIpv4 most) = Items.Network

@@ -30,7 +30,8 @@ walk_of-walk-requires g c =
     let p = c.args.part.now in
     let fit : IsFitting p.min_length (ip_range c.in-Some.range) =
     first_fits (layout_of p.frame) p.item p.min_length (IsMember p.set) (held c.args.out.now)
-    (held c.loop-range.out) c.args.piece.now.bytes c.loop-range.piece.bytes c.loop-range.place.none c.loop-range.place.number
+    (held c.loop-range.out) c.args.piece.now.bytes c.loop-range.piece.bytes
+    c.loop-range.place.none c.loop-range.place.number
     (ranges_left c.loop-range.range-iterator) (ranges_left c.next.new.self) (ip_range c.in-Some.range)
     c.in-Some.ensures.steps c.loop-range.invariant in record { some = fit.some; fits = fit.fits }
 
@@ -53,7 +54,8 @@ returns-in_err-place-clause-cut g c =
     let p = c.args.part.now in
     if_err c.from_residual.result
     (putting_cut (layout_of p.frame) p.item p.min_length (IsMember p.set) (held c.args.out.now)
-    (held c.loop-range.out) (held c.put_walk.new.out) c.args.piece.now.bytes c.loop-range.piece.bytes c.loop-range.place.none c.loop-range.place.number
+    (held c.loop-range.out) (held c.put_walk.new.out) c.args.piece.now.bytes c.loop-range.piece.bytes
+    c.loop-range.place.none c.loop-range.place.number
     (ranges_left c.loop-range.range-iterator) (ranges_left c.next.new.self) (ip_range c.in-Some.range)
     (ip_subnets_left c.walk_of-walk.result) c.in-Some.ensures.steps c.walk_of-walk.ensures.blocks
     c.in_err-place.ensures.cut c.requires c.loop-range.invariant)
@@ -65,7 +67,8 @@ returns-clause-ok g c =
     OnOk_then c.put.result c.put.ensures.ok (λ put.
     putting_end (layout_of p.frame) p.item p.min_length (IsMember p.set) (held c.args.out.now)
     (held c.loop-range.out) (held c.put.new.out) c.args.piece.now.bytes c.loop-range.piece.bytes
-    c.put.new.piece.bytes c.loop-range.place.none c.loop-range.place.number (ranges_left c.loop-range.range-iterator) c.in-None.ensures.steps.0
+    c.put.new.piece.bytes c.loop-range.place.none c.loop-range.place.number (ranges_left c.loop-range.range-iterator)
+    c.in-None.ensures.steps.0
     (subst (λ z. IsInPieces (held c.loop-range.out) (held c.put.new.out) c.put.new.piece.bytes
     (c.loop-range.piece.bytes ++ z)) c.end.ensures put) c.requires c.loop-range.invariant)
 
@@ -75,7 +78,8 @@ returns-clause-cut g c =
     let p = c.args.part.now in
     on_err_weaker c.put.result (λ cut.
     putting_end_cut (layout_of p.frame) p.item p.min_length (IsMember p.set) (held c.args.out.now)
-    (held c.loop-range.out) (held c.put.new.out) c.args.piece.now.bytes c.loop-range.piece.bytes c.loop-range.place.none c.loop-range.place.number
+    (held c.loop-range.out) (held c.put.new.out) c.args.piece.now.bytes c.loop-range.piece.bytes
+    c.loop-range.place.none c.loop-range.place.number
     (ranges_left c.loop-range.range-iterator) c.in-None.ensures.steps.0
     (subst (IsCut (held c.loop-range.out) (held c.put.new.out) c.loop-range.piece.bytes) c.end.ensures cut)
     c.requires c.loop-range.invariant) c.put.ensures.cut

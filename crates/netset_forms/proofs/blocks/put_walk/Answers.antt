@@ -18,7 +18,8 @@ loop-network-init g c =
     let all = ip_subnets_left c.args.walk in
     let same = ap (λ z. ip_subnets_left z) c.into_iter-network-iterator.ensures.into_iter_gives in record {
       up_to = subst (λ z. IsPutUpTo (g.W.Write.contents c.args.out.now) (g.W.Write.contents c.args.out.now)
-          c.args.piece.now.bytes c.args.piece.now.bytes (front_in layout c.args.place.none (items_of item c.args.place.number z))
+          c.args.piece.now.bytes c.args.piece.now.bytes
+          (front_in layout c.args.place.none (items_of item c.args.place.number z))
           (front_in layout c.args.place.none (items_of item c.args.place.number all))) (sym same)
           (up_to_start (g.W.Write.contents c.args.out.now) c.args.piece.now.bytes
           (front_in layout c.args.place.none (items_of item c.args.place.number all)));
@@ -105,8 +106,8 @@ returns-in_err-put_item-clause-cut g c =
     (front_in layout false (items_of item (next_number number) later))
     (front_in layout c.args.place.none (items_of item c.args.place.number (ip_subnets_left c.args.walk)))
     c.loop-network.invariant.up_to (front_step layout item number now left later n c.in-Some.ensures.steps)
-    (cut_then here middle end c.loop-network.piece.bytes c.put.new.piece.bytes (lead_of layout now) (item_text item number n) lead
-    c.in_err-put_item.ensures.cut))
+    (cut_then here middle end c.loop-network.piece.bytes c.put.new.piece.bytes (lead_of layout now)
+    (item_text item number n) lead c.in_err-put_item.ensures.cut))
 
 pub returns-clause-none : goal.returns-clause-none
 returns-clause-none g c =

@@ -66,8 +66,8 @@ returns-in-Nft-clause-parts c =
     let S = IsMember c.args.set in
     let least : c.least_of-least.result ≡ n = c.least_of-least.ensures ∙ ap (λ f. least_in f n) c.in-Nft.is in
     subst (λ f. IfOk c.named_parts.result (MakeParts (IsFormText f n S))) (sym c.in-Nft.is)
-    (subst (λ m. IfOk c.named_parts.result (MakeParts (AreFamilyTexts nft_layout nft_layout plain_items c.in-Nft.names m S))) least
-    c.named_parts.ensures.parts)
+    (subst (λ m. IfOk c.named_parts.result (MakeParts (AreFamilyTexts nft_layout nft_layout plain_items
+    c.in-Nft.names m S))) least c.named_parts.ensures.parts)
 
 pub returns-in-Nft-clause-failure : goal.returns-in-Nft-clause-failure
 returns-in-Nft-clause-failure c =
