@@ -8,8 +8,8 @@ use Rattle.netset_forms.specs.Layouts.{ipset_layout}
 use Rattle.netset_forms.proofs.PartLaws.{fits_one}
 use Rattle.netset_forms.proofs.parts.ipset_parts.Goals as goal
 
-pub named_parts-requires-fits : goal.named_parts-requires-fits
-named_parts-requires-fits c =
+pub named_parts-requires-clause-fits : goal.named_parts-requires-clause-fits
+named_parts-requires-clause-fits c =
     let S = IsMember c.args.set.now in
     subst (FitsFamilies S) (sym c.max.ensures) (fits_one S c.args.min_length c.requires)
 
