@@ -54,7 +54,8 @@ def frr_text(networks, name, family):
     begin = "{} prefix-list {}".format({4: "ip", 6: "ipv6"}[family], name)
     every = {4: "0.0.0.0/0 le 32", 6: "::/0 le 128"}[family]
     entries = ["permit " + network for network in networks] or ["deny " + every]
-    return lines(["no " + begin] + ["{} {}".format(begin, entry) for entry in entries])
+    return lines(["no " + begin] + ["{} seq {} {}".format(begin, 5 * place, entry)
+                                    for place, entry in enumerate(entries, 1)])
 
 
 def bird_text(networks, name):

@@ -102,17 +102,16 @@ frr_list protocol name = protocol ++ codes " prefix-list " ++ name
 abbrev pub frr_start : List ℕ → List ℕ → List ℕ
 frr_start protocol name = codes "no " ++ frr_list protocol name ++ 10 ∷ []
 
--- Commands of FRR: the prefix list of this protocol with this name permits the items, and nothing else. FRR numbers
--- them. A list without an entry does not exist, and permits every route. So `all`, which is every route, is denied if
--- no item comes.
--- Example: for `ip`, `allowed` and 10.0.0.0/8 the lines `no ip prefix-list allowed` and
--- `ip prefix-list allowed permit 10.0.0.0/8`.
+-- Commands of FRR: the prefix list of this protocol with this name has the items as its entries, and no others. A list
+-- without an entry does not exist, and permits every route. So `all`, which is every route, is denied if no item comes.
+-- Example: for `ip`, `allowed` and the item `5 permit 10.0.0.0/8` the lines `no ip prefix-list allowed` and
+-- `ip prefix-list allowed seq 5 permit 10.0.0.0/8`.
 abbrev pub frr_layout : List ℕ → List ℕ → List ℕ → Layout
 frr_layout protocol all name = record {
-  before = frr_start protocol name ++ frr_list protocol name ++ codes " permit ";
-  between = 10 ∷ frr_list protocol name ++ codes " permit ";
+  before = frr_start protocol name ++ frr_list protocol name ++ codes " seq ";
+  between = 10 ∷ frr_list protocol name ++ codes " seq ";
   after = 10 ∷ [];
-  none = frr_start protocol name ++ frr_list protocol name ++ codes " deny " ++ all ++ 10 ∷ [];
+  none = frr_start protocol name ++ frr_list protocol name ++ codes " seq 5 deny " ++ all ++ 10 ∷ [];
 }
 
 -- A set of prefixes of BIRD 2 with this name. Example: for `ALLOWED` and 10.0.0.0/8 the lines `define ALLOWED = [`,

@@ -177,18 +177,18 @@ fn frr_list(alloc: Global, protocol: &str, name: &str) -> Result<String, AllocEr
     joined(alloc, &[protocol, " prefix-list ", name])
 }
 
-/// Commands of FRR: the prefix list of this protocol with this name is removed, and permits the items. If there are
-/// none, it denies `all`, which is every route.
+/// Commands of FRR: the prefix list of this protocol with this name is removed, and gets the items as entries. If there
+/// are none, it denies `all`, which is every route.
 fn frr(alloc: Global, protocol: &str, all: &str, name: &str) -> Result<Frame, AllocError>
     ensures { IfOk result (λ frame. layout_of frame ≡ frr_layout protocol.now all.now name.now) }
 {
     let list = frr_list(alloc, protocol, name)?;
     let list = list.as_str();
     Ok(Frame {
-        before: joined(alloc, &["no ", list, "\n", list, " permit "])?,
-        between: joined(alloc, &["\n", list, " permit "])?,
+        before: joined(alloc, &["no ", list, "\n", list, " seq "])?,
+        between: joined(alloc, &["\n", list, " seq "])?,
         after: String::from_str(alloc, "\n")?,
-        none: joined(alloc, &["no ", list, "\n", list, " deny ", all, "\n"])?,
+        none: joined(alloc, &["no ", list, "\n", list, " seq 5 deny ", all, "\n"])?,
     })
 }
 

@@ -5,9 +5,9 @@ ghost use Rattle.ipnet_sets.specs.Members.{IsMember};
 ghost use Rattle.netset_forms.specs.Forms.{ipset_kind, FitsFamilies, IsOfFamily, IsFormText, IsFormFailure, IsTooLong};
 ghost use Rattle.netset_forms.specs.Forms.{AreFamilyTexts, HasOne, IsAskedText, IsAskedFailure, IsOfFamilies};
 ghost use Rattle.netset_forms.specs.declared.form.FormFailure.TheVariants as Failures;
-ghost use Rattle.netset_forms.specs.declared.parts.Item.TheVariants as Items;
 ghost use Rattle.netset_forms.specs.FormSteps.{layout_of, named_layout, IsItemsText, IsNamedText, MakesPart, MakeParts};
-ghost use Rattle.netset_forms.specs.FormSteps.{IsUnnamed, IsNamedFailure, least_in};
+ghost use Rattle.netset_forms.specs.FormSteps.{IsUnnamed, IsNamedFailure, least_in, named_item, named_items};
+ghost use Rattle.netset_forms.specs.Forms.{plain_items};
 ghost use Rattle.netset_forms.specs.Layouts.{ipset_layout};
 
 use crate::form::{AnswerForm, FormFailure, FormRequest, SetNames};
@@ -27,6 +27,8 @@ pub(crate) enum Item {
     Row,
     /// The ranges.
     Range,
+    /// The networks, each as an entry of a prefix list with its sequence number.
+    Entry,
 }
 
 /// A part of an answer: the items of a set in a frame.
@@ -100,14 +102,25 @@ fn ipv6_of(alloc: Global, set: &IpSet) -> Result<IpSet, AllocError>
     set.within(alloc, &IpNet::V6(Ipv6Net::default()))
 }
 
+/// The items of the commands for a set.
+fn item_of(commands: Commands) -> Item
+    ensures { result ≡ named_item commands }
+{
+    match commands {
+        Commands::FrrIpv4 => Item::Entry,
+        Commands::FrrIpv6 => Item::Entry,
+        _ => Item::Network,
+    }
+}
+
 /// The part of the networks of a set, in the frame.
-fn network_part(frame: Frame, min_length: u8, set: IpSet) -> Option<Part>
-    ensures { MakesPart (IsItemsText Items.Network (layout_of frame) min_length (IsMember set)) min_length
+fn network_part(frame: Frame, item: Item, min_length: u8, set: IpSet) -> Option<Part>
+    ensures { MakesPart (IsItemsText item (layout_of frame) min_length (IsMember set)) min_length
         (IsMember set) result }
 {
     Some(Part {
         frame,
-        item: Item::Network,
+        item,
         min_length,
         set,
     })
@@ -121,13 +134,14 @@ fn named_part(
     min_length: u8,
     set: IpSet,
 ) -> Result<Option<Part>, AllocError>
-    ensures { IfOk result (MakesPart (IsNamedText (named_layout commands) name.entry min_length (IsMember set))
-        min_length (IsMember set)) }
+    ensures { IfOk result (MakesPart (IsNamedText (named_layout commands) (named_items commands) name.entry min_length
+        (IsMember set)) min_length (IsMember set)) }
 {
-    match name {
-        Some(name) => Ok(network_part(frame::named(alloc, commands, name)?, min_length, set)),
-        None => Ok(None),
-    }
+    let Some(name) = name else {
+        return Ok(None);
+    };
+    let frame = frame::named(alloc, commands, name)?;
+    Ok(network_part(frame, item_of(commands), min_length, set))
 }
 
 /// Refuses a least prefix length that is too long for a family of the set.
@@ -168,9 +182,10 @@ fn named_parts(
     min_length: u8,
     commands: FamilyCommands,
 ) -> Result<Parts, FormFailure>
-    requires { FitsFamilies (IsMember set.now) min_length }
+    requires fits { FitsFamilies (IsMember set.now) min_length }
+    requires same { named_items commands.ipv6 ≡ named_items commands.ipv4 }
     ensures parts { IfOk result (MakeParts (AreFamilyTexts (named_layout commands.ipv4) (named_layout commands.ipv6)
-        names.entry min_length (IsMember set.now))) }
+        (named_items commands.ipv4) names.entry min_length (IsMember set.now))) }
     ensures failure { IfErr result (IsNamedFailure names.entry (IsMember set.now)) }
 {
     check_names(set, names)?;
@@ -191,7 +206,7 @@ fn ipset_parts(
 ) -> Result<Parts, FormFailure>
     requires { FitsFamilies (IsMember set.now) min_length }
     ensures parts { IfOk result (MakeParts (AreFamilyTexts (ipset_layout (ipset_kind most IPv4))
-        (ipset_layout (ipset_kind most IPv6)) names.entry (max min_length 1) (IsMember set.now))) }
+        (ipset_layout (ipset_kind most IPv6)) plain_items names.entry (max min_length 1) (IsMember set.now))) }
     ensures failure { IfErr result (IsNamedFailure names.entry (IsMember set.now)) }
 {
     let ipv4 = Commands::IpsetIpv4(most);

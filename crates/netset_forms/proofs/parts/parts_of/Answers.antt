@@ -3,7 +3,8 @@ use Rattle.std.proofs.Common.{◌≡◌, ◌∙◌, sym, ap, subst, max, IfOk}
 use Rattle.ipnet_base.specs.Address.{IPv4, IPv6}
 use Rattle.ipnet_sets.specs.Members.{IsMember}
 use Rattle.netset_forms.specs.declared.parts.Item.TheVariants as Items
-use Rattle.netset_forms.specs.Forms.{IsFormText, AreFamilyTexts, ipset_kind, frr_of, names_in}
+use Rattle.netset_forms.specs.Forms.{IsFormText, AreFamilyTexts, ipset_kind, frr_of, names_in, plain_items}
+use Rattle.netset_forms.specs.Forms.{entries_from}
 use Rattle.netset_forms.specs.FormSteps.{IsItemsText, MakeParts, layout_of, least_in}
 use Rattle.netset_forms.specs.Layouts.{nft_layout, ipset_layout, bird_layout}
 use Rattle.netset_forms.proofs.PartLaws.{named_failures}
@@ -65,8 +66,8 @@ returns-in-Nft-clause-parts c =
     let S = IsMember c.args.set in
     let least : c.least_of-least.result ≡ n = c.least_of-least.ensures ∙ ap (λ f. least_in f n) c.in-Nft.is in
     subst (λ f. IfOk c.named_parts.result (MakeParts (IsFormText f n S))) (sym c.in-Nft.is)
-    (subst (λ m. IfOk c.named_parts.result (MakeParts (AreFamilyTexts nft_layout nft_layout c.in-Nft.names m S))) least
-    c.named_parts.ensures.parts)
+    (subst (λ m. IfOk c.named_parts.result (MakeParts (AreFamilyTexts nft_layout nft_layout plain_items
+    c.in-Nft.names m S))) least c.named_parts.ensures.parts)
 
 pub returns-in-Nft-clause-failure : goal.returns-in-Nft-clause-failure
 returns-in-Nft-clause-failure c =
@@ -80,7 +81,7 @@ returns-in-Ipset-clause-parts c =
     let least : c.least_of-least.result ≡ n = c.least_of-least.ensures ∙ ap (λ f. least_in f n) c.in-Ipset.is in
     subst (λ f. IfOk c.ipset_parts.result (MakeParts (IsFormText f n S))) (sym c.in-Ipset.is)
     (subst (λ m. IfOk c.ipset_parts.result (MakeParts (AreFamilyTexts (ipset_layout (ipset_kind c.in-Ipset.most IPv4))
-    (ipset_layout (ipset_kind c.in-Ipset.most IPv6)) c.in-Ipset.names (max m 1) S))) least
+    (ipset_layout (ipset_kind c.in-Ipset.most IPv6)) plain_items c.in-Ipset.names (max m 1) S))) least
     c.ipset_parts.ensures.parts)
 
 pub returns-in-Ipset-clause-failure : goal.returns-in-Ipset-clause-failure
@@ -95,7 +96,7 @@ returns-in-Frr-clause-parts c =
     let least : c.least_of-least.result ≡ n = c.least_of-least.ensures ∙ ap (λ f. least_in f n) c.in-Frr.is in
     subst (λ f. IfOk c.named_parts-in-Frr.result (MakeParts (IsFormText f n S))) (sym c.in-Frr.is)
     (subst (λ m. IfOk c.named_parts-in-Frr.result (MakeParts (AreFamilyTexts (frr_of IPv4) (frr_of IPv6)
-    c.in-Frr.names m S))) least c.named_parts-in-Frr.ensures.parts)
+    (entries_from 5) c.in-Frr.names m S))) least c.named_parts-in-Frr.ensures.parts)
 
 pub returns-in-Frr-clause-failure : goal.returns-in-Frr-clause-failure
 returns-in-Frr-clause-failure c =
@@ -108,7 +109,7 @@ returns-in-Bird-clause-parts c =
     let S = IsMember c.args.set in
     let least : c.least_of-least.result ≡ n = c.least_of-least.ensures ∙ ap (λ f. least_in f n) c.in-Bird.is in
     subst (λ f. IfOk c.named_parts-in-Bird.result (MakeParts (IsFormText f n S))) (sym c.in-Bird.is)
-    (subst (λ m. IfOk c.named_parts-in-Bird.result (MakeParts (AreFamilyTexts bird_layout bird_layout
+    (subst (λ m. IfOk c.named_parts-in-Bird.result (MakeParts (AreFamilyTexts bird_layout bird_layout plain_items
     c.in-Bird.names m S))) least c.named_parts-in-Bird.ensures.parts)
 
 pub returns-in-Bird-clause-failure : goal.returns-in-Bird-clause-failure
