@@ -1,5 +1,5 @@
 -- The networks of the ranges of a set, one range after the other, are the maximal blocks of the set.
-use Rattle.std.proofs.Common.{◌≡◌, ℕ, ◌+◌, ◌<◌, ◌≤◌, ◌^◌, Bool, true, ◌≢◌, List, [], ◌∷◌, ◌++◌, All, AllPairs, map}
+use Rattle.std.proofs.Common.{◌≡◌, ℕ, ◌<◌, ◌≤◌, ◌^◌, Bool, true, ◌≢◌, List, [], ◌∷◌, ◌++◌, All, AllPairs, map}
 use Rattle.std.proofs.Common.{Option, Some, None}
 use Rattle.std.proofs.Common.{refl, sym, ap, ◌∙◌, subst, arith}
 use Rattle.std.proofs.lemmas.List.Elements.{All-head, All-tail}

@@ -1,5 +1,5 @@
 -- Sets with the same addresses have the same texts, so the text of a session's set is the text of its lists.
-use Rattle.std.proofs.Common.{◌≡◌, ◌↔◌, ℕ, List, [], max, Option, Some, None}
+use Rattle.std.proofs.Common.{◌↔◌, ℕ, List, [], max, Option, Some, None}
 use Rattle.std.specs.Borrow.{Bor}
 use Rattle.ipnet_base.specs.Address.{Family, IPv4, IPv6, Address}
 use Rattle.ipnet_base.specs.Network.{Network}

@@ -1,5 +1,5 @@
 -- Texts of items, such as the networks of an answer: what is written before, between and after the items.
-use Rattle.std.specs.Prelude.{◌≡◌, ℕ, List, [], ◌∷◌, ◌++◌, codes, Bool, true, false}
+use Rattle.std.specs.Prelude.{ℕ, List, [], ◌∷◌, ◌++◌, codes}
 
 -- The texts around items: before, between and after them. `none` is the whole text if there is no item.
 pub record Layout : Type 0 where

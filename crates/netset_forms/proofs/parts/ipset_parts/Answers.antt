@@ -1,5 +1,5 @@
 -- The networks of each family, without one of prefix length 0.
-use Rattle.std.proofs.Common.{◌≡◌, subst, sym, max, IfOk}
+use Rattle.std.proofs.Common.{subst, sym, IfOk}
 use Rattle.ipnet_base.specs.Address.{IPv4, IPv6}
 use Rattle.ipnet_sets.specs.Members.{IsMember}
 use Rattle.netset_forms.specs.Forms.{ipset_kind, plain_items, AreFamilyTexts, FitsFamilies}
