@@ -4,7 +4,7 @@ use Rattle.std.proofs.Common.{drop, refl, sym, ap, ◌∙◌, arith, if◌then�
 use Rattle.std.proofs.Common.{length-append}
 use Rattle.std.proofs.lemmas.List.{take_rest, length-drop, get_or-drop}
 use Rattle.std.proofs.Math.Seq.{take-append_seam, drop-append_seam}
-use Rattle.netset_words.specs.Words.{Word, cuts, after_cut, after_byte, words_of}
+use Rattle.netset_words.specs.Words.{Word, cuts, first_gap, letter_before, after_cut, after_byte, words_of}
 
 -- the words of a line that begins with a byte of this kind
 after_gap : (b : ℕ) (line : List ℕ) → cuts b ≡ true → words_of (b ∷ line) ≡ after_cut b (words_of line)
@@ -14,23 +14,26 @@ after_letter : (b : ℕ) (line : List ℕ) → cuts b ≡ false → words_of (b 
 after_letter b line is = ap (λ t. if t then after_cut b (words_of line) else after_byte b (words_of line)) is
 
 -- a word of one byte before words that follow a cut
-before_cut : (b c : ℕ) (words : List Word)
-    → after_byte b (after_cut c words) ≡ record { before = []; text = b ∷ [] } ∷ after_cut c words
+before_cut : (b c : ℕ) (words : List Word) → after_byte b (after_cut c words) ≡ letter_before b (after_cut c words)
 before_cut b c [] = refl
 before_cut b c (w ∷ words) = refl
 
 one_letter : (b : ℕ) (line : List ℕ) → (0 < length line → cuts (get_or line 0 0) ≡ true)
-    → after_byte b (words_of line) ≡ record { before = []; text = b ∷ [] } ∷ words_of line
+    → after_byte b (words_of line) ≡ letter_before b (words_of line)
 one_letter b [] next = refl
 one_letter b (c ∷ line) next =
     let is = after_gap c line (next (omega arith)) in
-    ap (after_byte b) is ∙ before_cut b c (words_of line)
-    ∙ ap (λ z. record { before = []; text = b ∷ [] } ∷ z) (sym is)
+    ap (after_byte b) is ∙ before_cut b c (words_of line) ∙ ap (letter_before b) (sym is)
+
+-- a word before the words of a rest
+abbrev pub onto_rest : (before text rest : List ℕ) → List Word
+onto_rest before text rest =
+    record { before = before; text = text; after = first_gap (words_of rest) } ∷ words_of rest
 
 -- a word at the front
 pub word_front : (len : ℕ) (line : List ℕ) → 0 < len → len ≤ length line
     → ((k : ℕ) → k < len → cuts (get_or line k 0) ≡ false) → (len < length line → cuts (get_or line len 0) ≡ true)
-    → words_of line ≡ record { before = []; text = take len line } ∷ words_of (drop len line)
+    → words_of line ≡ onto_rest [] (take len line) (drop len line)
 word_front zero line some within letters next = absurd (omega arith)
 word_front (suc n) [] some within letters next = absurd (omega arith)
 word_front (suc zero) (b ∷ line) some within letters next =
@@ -41,15 +44,14 @@ word_front (suc (suc n)) (b ∷ line) some within letters next =
     (λ k less. letters (suc k) (omega (arith, less))) (λ less. next (omega (arith, less))))
 
 -- with cuts before it
-gap_front : (gap : ℕ) (line text : List ℕ) (words : List Word) → gap ≤ length line
-    → ((k : ℕ) → k < gap → cuts (get_or line k 0) ≡ true)
-    → words_of (drop gap line) ≡ record { before = []; text = text } ∷ words
-    → words_of line ≡ record { before = take gap line; text = text } ∷ words
-gap_front zero line text words within cut is = is
-gap_front (suc n) [] text words within cut is = absurd (omega arith)
-gap_front (suc n) (b ∷ line) text words within cut is =
+gap_front : (gap : ℕ) (line text rest : List ℕ) → gap ≤ length line
+    → ((k : ℕ) → k < gap → cuts (get_or line k 0) ≡ true) → words_of (drop gap line) ≡ onto_rest [] text rest
+    → words_of line ≡ onto_rest (take gap line) text rest
+gap_front zero line text rest within cut is = is
+gap_front (suc n) [] text rest within cut is = absurd (omega arith)
+gap_front (suc n) (b ∷ line) text rest within cut is =
     after_gap b line (cut 0 (omega arith))
-    ∙ ap (after_cut b) (gap_front n line text words (omega (arith, within))
+    ∙ ap (after_cut b) (gap_front n line text rest (omega (arith, within))
     (λ k less. cut (suc k) (omega (arith, less))) is)
 
 -- nothing but cuts
@@ -76,34 +78,30 @@ word_at : (bytes : List ℕ) (gap len : ℕ) → gap ≤ length bytes
     → length (drop gap bytes) ≢ 0 → len ≤ length (drop gap bytes)
     → ((k : ℕ) → k < len → cuts (get_or (drop gap bytes) k 0) ≡ false)
     → (len < length (drop gap bytes) → cuts (get_or (drop gap bytes) len 0) ≡ true)
-    → words_of bytes ≡ record { before = take gap bytes; text = take len (drop gap bytes) }
-    ∷ words_of (drop len (drop gap bytes))
+    → words_of bytes ≡ onto_rest (take gap bytes) (take len (drop gap bytes)) (drop len (drop gap bytes))
 word_at bytes gap zero within cut letter some fits letters next =
     let at : get_or (drop gap bytes) 0 0 ≡ get_or bytes gap 0 =
     get_or-drop gap bytes 0 0 ∙ ap (λ n. get_or bytes n 0) (add-zero gap) in
     let is : true ≡ false = sym (next (omega (arith, some))) ∙ ap cuts at ∙ letter in
     absurd cc
 word_at bytes gap (suc n) within cut letter some fits letters next =
-    gap_front gap bytes (take (suc n) (drop gap bytes)) (words_of (drop (suc n) (drop gap bytes))) within cut
+    gap_front gap bytes (take (suc n) (drop gap bytes)) (drop (suc n) (drop gap bytes)) within cut
     (word_front (suc n) (drop gap bytes) (omega arith) fits letters next)
 
 pub word_cut : (bytes rest : List ℕ) (gap len : ℕ) → rest ≡ take (length bytes - gap) (drop gap bytes)
     → gap ≤ length bytes → ((k : ℕ) → k < gap → cuts (get_or bytes k 0) ≡ true)
     → (gap < length bytes → cuts (get_or bytes gap 0) ≡ false) → length rest ≢ 0 → len ≤ length rest
     → ((k : ℕ) → k < len → cuts (get_or rest k 0) ≡ false) → (len < length rest → cuts (get_or rest len 0) ≡ true)
-    → words_of bytes ≡ record { before = take gap bytes; text = take len rest }
-    ∷ words_of (take (length rest - len) (drop len rest))
+    → words_of bytes ≡ onto_rest (take gap bytes) (take len rest) (take (length rest - len) (drop len rest))
 word_cut bytes rest gap len cut_so within cut letter some fits letters next =
     let is : rest ≡ drop gap bytes = cut_so ∙ take_rest bytes gap in
     let size = ap length is in
     let less : gap < length bytes = omega (arith, some, size, length-drop gap bytes, within) in
-    subst (λ r. words_of bytes ≡ record { before = take gap bytes; text = take len r }
-    ∷ words_of (take (length r - len) (drop len r))) (sym is)
+    subst (λ r. words_of bytes ≡ onto_rest (take gap bytes) (take len r) (take (length r - len) (drop len r))) (sym is)
     (word_at bytes gap len within cut (letter less) (λ none. some (size ∙ none)) (omega (arith, fits, size))
     (subst (λ r. (k : ℕ) → k < len → cuts (get_or r k 0) ≡ false) is letters)
     (subst (λ r. len < length r → cuts (get_or r len 0) ≡ true) is next)
-    ∙ ap (λ z. record { before = take gap bytes; text = take len (drop gap bytes) } ∷ words_of z)
-    (sym (take_rest (drop gap bytes) len)))
+    ∙ ap (onto_rest (take gap bytes) (take len (drop gap bytes))) (sym (take_rest (drop gap bytes) len)))
 
 -- the text between two parts of bytes
 between : (front text back : List ℕ) (n : ℕ) → n ≡ length text → take n (drop (length front) (front ++ (text ++ back)))

@@ -9,6 +9,8 @@ mod line_items;
 pub mod lines_program;
 mod log_entry;
 pub mod log_line;
+mod mapped;
+mod place;
 pub mod refused_word;
 mod word;
 mod word_reader;
