@@ -4,6 +4,7 @@ pub mod WordLaws
 pub mod MappedLaws
 pub mod PlaceLaws
 pub mod PlaceBytes
+pub mod NameLaws
 pub mod KindLaws
 pub mod RangeLaws
 pub mod ItemLaws

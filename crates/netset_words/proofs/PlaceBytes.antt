@@ -1,17 +1,17 @@
 -- The last bytes of a word.
 use Rattle.std.proofs.Common.{◌≡◌, ◌≢◌, ◌<◌, ◌≤◌, ◌+◌, ◌-◌, ◌==◌, ◌||◌, ℕ, Bool, true, false, List, [], ◌∷◌, ◌++◌, All, refl, sym}
-use Rattle.std.proofs.Common.{ap, ◌∙◌, subst, arith, length, take, drop, get_or, min, append_assoc, eqb-true, eq-eqb, ne_eqb}
+use Rattle.std.proofs.Common.{ap, ◌∙◌, subst, arith, length, take, drop, get_or, eqb-true, eq-eqb, if◌then◌else◌}
 use Rattle.std.proofs.Common.{length-append, length-take-le}
 use Rattle.std.proofs.lemmas.Bool.{false_from_ne_true}
 use Rattle.std.proofs.lemmas.List.{take_all, take-append-drop, drop_more, get_or-drop, length-drop}
 use Rattle.std.proofs.lemmas.List.Elements.{All-nil, All-cons, All-from_get_or}
 use Rattle.std.proofs.lemmas.List.Folds.{list_any_none}
-use Rattle.std.proofs.lemmas.List.Sums.{suffix_len_is, suffix_len-take_yes}
+use Rattle.std.proofs.lemmas.List.Sums.{suffix_len_is}
 use Rattle.std.proofs.Math.Seq.{take-append_seam}
 use Rattle.std.specs.List.{list_any, suffix_len}
 use Rattle.memchr.specs.Find.{NoneAfter, Nowhere, Passes, is_byte}
 use Rattle.ipnet_lists.proofs.AddressBytes.{middle, one_back}
-use Rattle.netset_words.specs.Places.{AreLastParts, trimmed}
+use Rattle.netset_words.specs.Places.{AreLastParts, ends_in_colon, trimmed}
 
 -- ---- the last place of a sign
 
@@ -62,64 +62,35 @@ one_last sign text front back front' back' h k =
 
 -- ---- the last byte
 
-module _ (text front : List ℕ) (sign : ℕ) (is : text ≡ front ++ sign ∷ []) where
-  size : length text ≡ length front + 1
-  size = ap length is ∙ length-append front (sign ∷ [])
+colon_end : (front : List ℕ) → ends_in_colon (front ++ 58 ∷ []) ≡ true
+colon_end [] = refl
+colon_end (b ∷ []) = refl
+colon_end (b ∷ c ∷ front) = colon_end (c ∷ front)
 
-  last_is : get_or text (length text - 1) 0 ≡ sign
-  last_is =
-      let at : length text - 1 ≡ length front = omega (arith, size) in
-      ap (λ n. get_or text n 0) at ∙ ap (λ z. get_or z (length front) 0) is ∙ at_seam front
-    where
-      at_seam : (xs : List ℕ) → get_or (xs ++ sign ∷ []) (length xs) 0 ≡ sign
-      at_seam [] = refl
-      at_seam (x ∷ xs) = at_seam xs
-
-  -- how many such bytes are at the end
-  pub ends_so : (test : ℕ → Bool) → test sign ≡ true
-      → suffix_len test text ≡ 1 + suffix_len test (take (length text - 1) text)
-  ends_so test so =
-      ap (suffix_len test) (sym (take_all (length text) text (omega arith)))
-      ∙ suffix_len-take_yes test text (length text) 0 (omega (arith, size)) (omega arith) (ap test last_is ∙ so)
-
-  pub ends_otherwise : (test : ℕ → Bool) → test sign ≡ false → suffix_len test text ≡ 0
-  ends_otherwise test other =
-      let none = suffix_len_is test text (length text) 0 (omega arith)
-      (λ k after below. absurd (omega (arith, after, below))) (λ some. ap test last_is ∙ other) in
-      omega (arith, none)
+colon_front : (text : List ℕ) → ends_in_colon text ≡ true → (front : List ℕ) × (text ≡ front ++ 58 ∷ [])
+colon_front [] e = absurd cc
+colon_front (b ∷ []) e = ([], ap (λ z. z ∷ []) (eqb-true b 58 e))
+colon_front (b ∷ c ∷ text) e =
+    let (front, is) = colon_front (c ∷ text) e in (b ∷ front, ap (λ z. b ∷ z) is)
 
 -- a text that ends in ":"
 pub trimmed_colon : (text front : List ℕ) → text ≡ front ++ 58 ∷ [] → front ≡ trimmed text
 trimmed_colon text front is =
-    let colons = ends_so text front 58 is (λ b. b == 58) refl in
-    let dots = ends_otherwise text front 58 is (λ b. b == 46) refl in
-    let count : length text - (min 1 (suffix_len (λ b. b == 58) text) + suffix_len (λ b. b == 46) text) ≡ length front =
-    omega (arith, colons, dots, size text front 58 is) in
-    sym (take-append_seam front (58 ∷ [])) ∙ ap (take (length front)) (sym is) ∙ ap (λ n. take n text) (sym count)
+    let ends : ends_in_colon text ≡ true = ap ends_in_colon is ∙ colon_end front in
+    let count : length text - 1 ≡ length front = omega (arith, ap length is, length-append front (58 ∷ [])) in
+    sym (take-append_seam front (58 ∷ [])) ∙ ap (take (length front)) (sym is)
+    ∙ ap (λ n. take n text) (sym count)
+    ∙ ap (λ t. if t then take (length text - 1) text else take (length text - suffix_len (λ b. b == 46) text) text)
+    (sym ends)
 
 -- a text that does not
 pub trimmed_dots : (text : List ℕ) → ((front : List ℕ) → ¬ (text ≡ front ++ 58 ∷ []))
     → take (length text - suffix_len (λ b. b == 46) text) text ≡ trimmed text
 trimmed_dots text none =
-    let colons = suffix_len_is (λ b. b == 58) text (length text) 0 (omega arith)
-    (λ k after below. absurd (omega (arith, after, below)))
-    (λ some. false_from_ne_true (get_or text (length text - 1) 0 == 58)
-    (λ e. none (take (length text - 1) text) (last_cut some e))) in
-    ap (λ n. take n text) (omega (arith, colons))
-  where
-    last_cut : 0 < length text → (get_or text (length text - 1) 0 == 58) ≡ true
-        → text ≡ take (length text - 1) text ++ 58 ∷ []
-    last_cut some e =
-        let n = length text - 1 in
-        let less : n < length text = omega (arith, some) in
-        let rest : drop (n + 1) text ≡ [] = empty (drop (n + 1) text) (omega (arith, some, length-drop (n + 1) text)) in
-        sym (take-append-drop n text)
-        ∙ ap (λ z. take n text ++ z) (drop_more text n 0 less
-        ∙ ap (λ b. b ∷ drop (n + 1) text) (eqb-true (get_or text n 0) 58 e) ∙ ap (λ z. 58 ∷ z) rest)
-
-    empty : (rest : List ℕ) → length rest ≡ 0 → rest ≡ []
-    empty [] h = refl
-    empty (b ∷ rest) h = absurd (omega (arith, h))
+    let other : ends_in_colon text ≡ false =
+    false_from_ne_true (ends_in_colon text) (λ e. let (front, is) = colon_front text e in none front is) in
+    ap (λ t. if t then take (length text - 1) text else take (length text - suffix_len (λ b. b == 46) text) text)
+    (sym other)
 
 -- one last byte
 pub same_last : (xs ys : List ℕ) (a b : ℕ) → xs ++ a ∷ [] ≡ ys ++ b ∷ [] → a ≡ b
@@ -130,10 +101,18 @@ same_last (x ∷ xs) (y ∷ ys) a b e = let rest : xs ++ a ∷ [] ≡ ys ++ b �
 
 -- a text with no such signs at its end
 pub untrimmed : (text body : List ℕ) → body ≡ trimmed text → length text ≤ length body → body ≡ text
-untrimmed text body is long =
-    let n = length text - (min 1 (suffix_len (λ b. b == 58) text) + suffix_len (λ b. b == 46) text) in
-    let whole : length text ≤ n = omega (arith, long, ap length is, length-take-le n text (omega arith)) in
-    is ∙ take_all n text whole
+untrimmed text body is long = by (ends_in_colon text) refl
+  where
+    by : (t : Bool) → ends_in_colon text ≡ t → body ≡ text
+    by true e =
+        let (front, cut) = colon_front text e in
+        let same = trimmed_colon text front cut in
+        absurd (omega (arith, long, ap length (is ∙ sym same), ap length cut, length-append front (58 ∷ [])))
+    by false e =
+        let n = length text - suffix_len (λ b. b == 46) text in
+        let so : body ≡ take n text =
+        is ∙ ap (λ t. if t then take (length text - 1) text else take n text) e in
+        so ∙ take_all n text (omega (arith, long, ap length so, length-take-le n text (omega arith)))
 
 -- a text up to the dots at its end
 pub dots_cut : (text : List ℕ) (n : ℕ) → n ≤ length text

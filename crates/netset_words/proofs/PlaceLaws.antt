@@ -82,8 +82,13 @@ module _ (grammar : Grammar) (sign : ℕ) (IsSo : List ℕ → List ℕ → List
       → Finds grammar (λ place. IsSo place front back) r → Finds grammar (λ place. IsCutAt sign (IsSo place) text) r
   cut_finds front back r parts h =
       finds_as grammar (λ place. IsSo place front back) (λ place. IsCutAt sign (IsSo place) text) r
-      (λ place is. (parts.within, rw (sym parts.front_is, sym parts.back_is) is))
-      (λ place is. rw (parts.front_is, parts.back_is) is.1) h
+      (λ place is. (
+        parts.within,
+        subst (λ z. IsSo place z (after_first (λ c. c == sign) text)) parts.front_is
+            (subst (λ z. IsSo place front z) parts.back_is is),
+      ))
+      (λ place is. subst (λ z. IsSo place z back) (sym parts.front_is)
+      (subst (λ z. IsSo place (before_first (λ c. c == sign) text) z) (sym parts.back_is) is.1)) h
 
   pub no_cut : position_or_len (λ c. c == sign) text ≡ length text → (place : List ℕ)
       → ¬ (IsCutAt sign (IsSo place) text)

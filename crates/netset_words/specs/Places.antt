@@ -4,7 +4,7 @@
 -- A "/" and digits are a prefix length only if the word, without a final "." or ":", is an entry of a list. Everywhere
 -- else they are a port or a path, and the place is the address.
 use Rattle.std.specs.Prelude.{◌≡◌, ◌≢◌, ◌⊎◌, ◌<◌, ◌≤◌, ℕ, ◌+◌, ◌-◌, Bool, ◌||◌, ◌&&◌, ◌==◌, true, false, List, [], ◌∷◌, ◌++◌}
-use Rattle.std.specs.Prelude.{length, take, drop, min, codes}
+use Rattle.std.specs.Prelude.{length, take, drop, codes, if◌then◌else◌}
 use Rattle.std.specs.Char.{is_ascii_alphabetic, is_ascii_alphanumeric, is_ascii_digit, is_ascii_uppercase}
 use Rattle.std.specs.List.{before_first, list_all, list_any, suffix_len}
 use Rattle.ipnet_base.specs.Address.{Address, IPv4}
@@ -44,10 +44,17 @@ IsOnlyAddress grammar text place = (place ≡ text) × IsSomeAddress grammar tex
 abbrev pub IsOnlyIpv4 : Grammar → (text place : List ℕ) → Type 0
 IsOnlyIpv4 grammar text place = (place ≡ text) × IsSomeIpv4 grammar text
 
+-- The last byte of the text is ":".
+abbrev pub ends_in_colon : List ℕ → Bool
+ends_in_colon [] = false
+ends_in_colon (b ∷ []) = b == 58
+ends_in_colon (b ∷ c ∷ text) = ends_in_colon (c ∷ text)
+
 -- The text without one ":" at its end, or without the "." there. Example: `203.0.113.9:` and `203.0.113.9...` are
 -- `203.0.113.9`.
 abbrev pub trimmed : List ℕ → List ℕ
-trimmed text = take (length text - (min 1 (suffix_len (λ b. b == 58) text) + suffix_len (λ b. b == 46) text)) text
+trimmed text = if ends_in_colon text then take (length text - 1) text
+    else take (length text - suffix_len (λ b. b == 46) text) text
 
 -- The text is one decimal digit or more, as a port is.
 abbrev pub IsPort : List ℕ → Type 0
@@ -96,7 +103,7 @@ IsUrlHost grammar text place =
 
 -- The byte may be in a name: a letter, a digit, "+", "-", "." or "_".
 abbrev pub is_name_byte : ℕ → Bool
-is_name_byte b = is_ascii_alphanumeric b || (b == 43) || (b == 45) || (b == 46) || (b == 95)
+is_name_byte b = (((is_ascii_alphanumeric b || (b == 43)) || (b == 45)) || (b == 46)) || (b == 95)
 
 -- The text is a name, which begins with a letter. Example: `http`, `outside`, `host.example`.
 abbrev pub is_name : List ℕ → Bool
@@ -108,10 +115,14 @@ is_name (b ∷ text) = is_ascii_alphabetic b && list_all is_name_byte text
 abbrev pub IsAtUser : Grammar → (place front back : List ℕ) → Type 0
 IsAtUser grammar place front back = IsUrlHost grammar back place ⊎ IsBeforePort grammar place front back
 
+-- The byte is a capital letter or "_".
+abbrev pub is_way_byte : ℕ → Bool
+is_way_byte b = is_ascii_uppercase b || (b == 95)
+
 -- The text is in capital letters and "_", and has a "_", as the names of Squid's ways to a server. Example:
 -- `HIER_DIRECT`.
 abbrev pub is_way : List ℕ → Bool
-is_way text = list_any (λ b. b == 95) text && list_all (λ b. is_ascii_uppercase b || (b == 95)) text
+is_way text = list_any (λ b. b == 95) text && list_all is_way_byte text
 
 -- An IPv4 address with a port after ":"; or an address, if "(" follows its word, or if the name is one of Squid's.
 -- Example: after `host.example/`, `outside/` and `HIER_DIRECT/`: `203.0.113.9:443`, `203.0.113.9` before `(443)`, and
@@ -148,10 +159,14 @@ abbrev pub IsAtColon : Grammar → (place front back : List ℕ) → Type 0
 IsAtColon grammar place front back = ((is_name front ≡ false) × IsBeforeColon grammar place front back)
     ⊎ ((is_name front ≡ true) × IsAfterName grammar place back)
 
+-- The byte is a letter, a digit or "-".
+abbrev pub is_service_byte : ℕ → Bool
+is_service_byte b = is_ascii_alphanumeric b || (b == 45)
+
 -- The text is a number or a name without a ".", as tcpdump prints a port. Example: `443`, `https`.
 abbrev pub is_service : List ℕ → Bool
 is_service [] = false
-is_service (b ∷ text) = list_all (λ c. is_ascii_alphanumeric c || (c == 45)) (b ∷ text)
+is_service (b ∷ text) = list_all is_service_byte (b ∷ text)
 
 -- ` > ` is before the word, and ":" is its last byte.
 abbrev pub IsDestination : Word → Type 0

@@ -1,5 +1,5 @@
 //! The place of an entry in a word: what may be before it and after it.
-ghost use Rattle.std.specs.Prelude.{◌≡◌, ◌⊎◌, ◌↔◌, ◌==◌, ◌||◌, ◌-◌, ◌++◌, ◌∷◌, [], List, ℕ, length, take, codes, true};
+ghost use Rattle.std.specs.Prelude.{◌≡◌, ◌⊎◌, ◌↔◌, ◌==◌, ◌||◌, ◌&&◌, ◌-◌, ◌++◌, ◌∷◌, [], List, ℕ, length, take, codes, true};
 ghost use Rattle.std.specs.Prelude.{IfSome, IfNone, IsTrue, MatchOption};
 ghost use Rattle.std.specs.Char.{is_ascii_digit};
 ghost use Rattle.std.specs.List.{before_first, list_all, list_any, position_or_len, suffix_len};
@@ -278,11 +278,17 @@ fn read_url_host(text: &[u8], grammar: Grammar) -> Option<Place<'_>>
     read_ipv4(url_host(text), grammar)
 }
 
-/// Whether the byte may be in a name.
-fn is_name_byte(byte: u8) -> bool
-    ensures { result ≡ places.is_name_byte byte }
+/// Whether each byte may be in a name.
+fn are_name_bytes(text: &[u8]) -> bool
+    ensures { result ≡ list_all places.is_name_byte text.now }
 {
-    byte.is_ascii_alphanumeric() || byte == b'+' || byte == b'-' || byte == b'.' || byte == b'_'
+    text.iter().all(|byte| {
+        byte.is_ascii_alphanumeric()
+            || *byte == b'+'
+            || *byte == b'-'
+            || *byte == b'.'
+            || *byte == b'_'
+    })
 }
 
 /// Whether the text is a name, which begins with a letter.
@@ -292,27 +298,53 @@ fn is_name(text: &[u8]) -> bool
     let Some((first, rest)) = text.split_first() else {
         return false;
     };
-    first.is_ascii_alphabetic() && rest.iter().all(|byte| is_name_byte(*byte))
+    if !first.is_ascii_alphabetic() {
+        return false;
+    }
+    are_name_bytes(rest)
+}
+
+/// Whether each byte may be in the name of one of Squid's ways to a server.
+fn are_way_bytes(text: &[u8]) -> bool
+    ensures { result ≡ list_all places.is_way_byte text.now }
+{
+    text.iter()
+        .all(|byte| byte.is_ascii_uppercase() || *byte == b'_')
 }
 
 /// Whether the name is one of Squid's ways to a server.
 fn is_way(name: &[u8]) -> bool
     ensures { result ≡ places.is_way name.now }
 {
-    has_byte(name, b'_')
-        && name
-            .iter()
-            .all(|byte| byte.is_ascii_uppercase() || *byte == b'_')
+    if !has_byte(name, b'_') {
+        return false;
+    }
+    are_way_bytes(name)
+}
+
+/// Whether each byte may be in a port as tcpdump prints it.
+fn are_service_bytes(text: &[u8]) -> bool
+    ensures { result ≡ list_all places.is_service_byte text.now }
+{
+    text.iter()
+        .all(|byte| byte.is_ascii_alphanumeric() || *byte == b'-')
 }
 
 /// Whether the text is a port as tcpdump prints it.
 fn is_service(text: &[u8]) -> bool
     ensures { result ≡ places.is_service text.now }
 {
-    !text.is_empty()
-        && text
-            .iter()
-            .all(|byte| byte.is_ascii_alphanumeric() || *byte == b'-')
+    if text.is_empty() {
+        return false;
+    }
+    are_service_bytes(text)
+}
+
+/// Whether the texts have the same bytes.
+fn is_same(text: &[u8], other: &[u8]) -> bool
+    ensures { IsTrue result ↔ (text.now ≡ other.now) }
+{
+    text == other
 }
 
 /// Whether these bytes are between the front and the first word of the bytes.
@@ -320,7 +352,7 @@ fn is_gap(bytes: &[u8], gap: &[u8]) -> bool
     ensures { IsTrue result ↔ (first_gap (words_of bytes.now) ≡ gap.now) }
 {
     match next_word(bytes) {
-        Some(word) => word.before == gap,
+        Some(word) => is_same(word.before, gap),
         None => gap.is_empty(),
     }
 }
@@ -389,11 +421,22 @@ fn at_slash<'a>(word: NextWord<'a>, text: &'a [u8], grammar: Grammar) -> Option<
     after_slash(word, parts, grammar)
 }
 
+/// Whether both bytes are "/".
+fn are_slashes(first: u8, second: u8) -> bool
+    ensures { result ≡ ((first == 47) && (second == 47)) }
+{
+    first == b'/' && second == b'/'
+}
+
 /// Whether the text begins with "//".
 fn has_slashes(text: &[u8]) -> bool
     ensures { result ≡ places.has_slashes text.now }
 {
-    text.len() >= 2 && text[0] == b'/' && text[1] == b'/'
+    let is_short = text.len() < 2;
+    if is_short {
+        return false;
+    }
+    are_slashes(text[0], text[1])
 }
 
 /// Reads a host after a name and ":", or after a scheme and "://".
@@ -423,10 +466,10 @@ fn at_colon(text: &[u8], grammar: Grammar) -> Option<Place<'_>>
 fn ends_packet(word: NextWord<'_>) -> bool
     ensures { IsTrue result ↔ IsDestination (word_of word.entry) }
 {
-    if before_last(word.text, b':').is_none() {
-        return false;
+    match before_last(word.text, b':') {
+        Some(_) => is_same(word.before, b" > "),
+        None => false,
     }
-    word.before == b" > ".as_slice()
 }
 
 /// Whether the word is an end of a packet's way as tcpdump prints it.
