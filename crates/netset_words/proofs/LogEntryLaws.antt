@@ -1,4 +1,4 @@
--- What results, lists and tests show.
+-- Results, lists and tests.
 use Rattle.std.proofs.Common.{◌≡◌, ℕ, Bool, true, false, not, List, [], ◌∷◌, refl, sym, arith}
 use Rattle.std.proofs.Common.{Option, Some, None, Result, Ok, Err, IfNone, OnOk, IsErr}
 use Rattle.std.proofs.Common.{◌+◌, ◌≤◌, ◌++◌, if◌then◌else◌, length, length-append, ap}

@@ -1,5 +1,6 @@
 -- The texts of entries that are not addresses, and IPv4-mapped addresses.
-use Rattle.std.proofs.Common.{◌≡◌, ◌<◌, ◌+◌, ◌/◌, ◌%◌, ◌^◌, ℕ, Bool, true, false, List, ◌∷◌, ◌++◌, [], All, refl, sym, ap, ◌∙◌, arith}
+use Rattle.std.proofs.Common.{◌≡◌, ◌<◌, ◌+◌, ◌/◌, ◌%◌, ◌^◌, ℕ, Bool, true, false, List, ◌∷◌, ◌++◌, []}
+use Rattle.std.proofs.Common.{All, refl, sym, ap, ◌∙◌, arith}
 use Rattle.std.proofs.Common.{inl, inr, subst, append_assoc, Option, Some, None, MatchOption}
 use Rattle.std.specs.Net.Addr.{ipv4_bits, ipv6_bits}
 use Rattle.std.specs.declared.net.ipv4_addr.Ipv4Addr.{Ipv4Addr}
@@ -47,7 +48,7 @@ range_is_no_address grammar text first last x is h =
 
 -- ---- mapped addresses
 
-pub mapped_is_address : (grammar : Grammar) (text : List ℕ) (ipv4 : ℕ) → IsMappedText grammar text ipv4
+mapped_is_address : (grammar : Grammar) (text : List ℕ) (ipv4 : ℕ) → IsMappedText grammar text ipv4
     → (x : Address) × IsAddressText grammar text x
 mapped_is_address grammar text ipv4 (x, writes, number, low) = (x, inr writes)
 

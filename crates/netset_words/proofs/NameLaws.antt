@@ -3,7 +3,8 @@ use Rattle.std.proofs.Common.{◌≡◌, ◌≢◌, ◌≤◌, ◌==◌, ◌&&�
 use Rattle.std.proofs.Common.{ap, ◌∙◌, arith}
 use Rattle.std.specs.Char.{is_ascii_alphabetic}
 use Rattle.std.specs.List.{list_all, list_any}
-use Rattle.netset_words.specs.Places.{has_slashes, is_name, is_name_byte, is_service, is_service_byte, is_way, is_way_byte}
+use Rattle.netset_words.specs.Places.{has_slashes, is_name, is_name_byte, is_service, is_service_byte, is_way}
+use Rattle.netset_words.specs.Places.{is_way_byte}
 
 pub name_cut : (text : List ℕ) (b : ℕ) (rest : List ℕ) (letter : Bool) → text ≡ b ∷ rest
     → is_ascii_alphabetic b ≡ letter → is_name text ≡ (letter && list_all is_name_byte rest)

@@ -1,6 +1,6 @@
 -- The last bytes of a word.
-use Rattle.std.proofs.Common.{◌≡◌, ◌≢◌, ◌<◌, ◌≤◌, ◌+◌, ◌-◌, ◌==◌, ◌||◌, ℕ, Bool, true, false, List, [], ◌∷◌, ◌++◌, All, refl, sym}
-use Rattle.std.proofs.Common.{ap, ◌∙◌, subst, arith, length, take, drop, get_or, eqb-true, eq-eqb, if◌then◌else◌}
+use Rattle.std.proofs.Common.{◌≡◌, ◌≢◌, ◌<◌, ◌≤◌, ◌+◌, ◌-◌, ◌==◌, ◌||◌, ℕ, Bool, true, false, List, [], ◌∷◌, ◌++◌}
+use Rattle.std.proofs.Common.{All, refl, sym, ap, ◌∙◌, subst, arith, length, take, drop, get_or, eqb-true, eq-eqb, if◌then◌else◌}
 use Rattle.std.proofs.Common.{length-append, length-take-le}
 use Rattle.std.proofs.lemmas.Bool.{false_from_ne_true}
 use Rattle.std.proofs.lemmas.List.{take_all, take-append-drop, drop_more, get_or-drop, length-drop}

@@ -1,6 +1,6 @@
 -- The readings of a word, one after another.
-use Rattle.std.proofs.Common.{◌≡◌, ◌<◌, ◌≤◌, ◌+◌, ◌-◌, ◌==◌, ◌||◌, ◌⊎◌, ℕ, Bool, true, false, List, [], ◌∷◌, ◌++◌, refl, sym}
-use Rattle.std.proofs.Common.{ap, ◌∙◌, subst, arith, inl, inr, Option, Some, None, MatchOption, length, take, drop}
+use Rattle.std.proofs.Common.{◌≡◌, ◌<◌, ◌≤◌, ◌+◌, ◌-◌, ◌==◌, ◌||◌, ◌⊎◌, ℕ, true, List, [], ◌∷◌, ◌++◌, refl}
+use Rattle.std.proofs.Common.{sym, ap, ◌∙◌, subst, arith, inl, inr, Option, Some, None, MatchOption, length, take, drop}
 use Rattle.std.specs.List.{after_first, before_first, list_any, position_or_len}
 use Rattle.std.proofs.lemmas.List.Sums.{position_or_len_is}
 use Rattle.std.proofs.lemmas.Bool.{false_from_ne_true}
@@ -17,8 +17,9 @@ use Rattle.ipnet_lists.specs.Entries.{IsAddressText, IsIpv4Text}
 use Rattle.ipnet_lists.proofs.CommentLaws.{behind}
 use Rattle.ipnet_lists.proofs.EntryTexts.{one_address}
 use Rattle.netset_words.specs.declared.place.Place.{Place}
-use Rattle.netset_words.specs.Places.{Else, IsOnlyAddress, IsSomeAddress, IsSomeIpv4, url_host, AreLastParts, IsLongPort}
-use Rattle.netset_words.specs.Places.{IsBeforeLongPort, IsHost, IsAtUser, IsAtSlash, IsAtColon, IsInside, IsAtDot, IsBeforeArrow, IsPacketEnd, is_service, trimmed}
+use Rattle.netset_words.specs.Places.{Else, IsOnlyAddress, IsSomeAddress, IsSomeIpv4, url_host, AreLastParts}
+use Rattle.netset_words.specs.Places.{IsLongPort, IsBeforeLongPort, IsHost, IsAtUser, IsAtSlash, IsAtColon, IsInside}
+use Rattle.netset_words.specs.Places.{IsAtDot, IsBeforeArrow, IsPacketEnd, is_service, trimmed}
 use Rattle.netset_words.specs.Words.{Word}
 use Rattle.netset_words.specs.PlaceSteps.{AreParts, IsFound, Finds}
 use Rattle.netset_words.proofs.Cases.{match_none}

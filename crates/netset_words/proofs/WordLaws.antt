@@ -1,10 +1,10 @@
 -- The words of a line, cut from its front.
-use Rattle.std.proofs.Common.{◌≡◌, ℕ, zero, suc, ◌<◌, ◌≤◌, true, false, List, [], ◌∷◌, ◌++◌, length, get_or, take}
+use Rattle.std.proofs.Common.{◌≡◌, ℕ, Bool, zero, suc, ◌<◌, ◌≤◌, true, false, List, [], ◌∷◌, ◌++◌, length, get_or, take}
 use Rattle.std.proofs.Common.{drop, refl, sym, ap, ◌∙◌, arith, if◌then◌else◌, append_assoc, subst, ◌≢◌, ◌-◌, add-zero}
 use Rattle.std.proofs.Common.{length-append}
-use Rattle.std.proofs.lemmas.List.{take_rest, length-drop, get_or-drop}
+use Rattle.std.proofs.lemmas.List.{take_all, take_rest, length-drop, get_or-drop}
 use Rattle.std.proofs.Math.Seq.{take-append_seam, drop-append_seam}
-use Rattle.netset_words.specs.Words.{Word, cuts, first_gap, letter_before, after_cut, after_byte, words_of}
+use Rattle.netset_words.specs.Words.{Word, cuts, first_gap, letter_before, after_cut, onto_word, after_byte, words_of}
 
 -- the words of a line that begins with a byte of this kind
 after_gap : (b : ℕ) (line : List ℕ) → cuts b ≡ true → words_of (b ∷ line) ≡ after_cut b (words_of line)
@@ -129,3 +129,41 @@ span_cut bytes before first rest dash_before dash others last_before last after 
     omega (arith, ap length all, length-append before (text ++ after), length-append text after) in
     ap (λ z. take ((length bytes - length after) - length before) (drop (length before) z)) all
     ∙ between before text after ((length bytes - length after) - length before) size
+
+-- ---- the bytes before the first word
+
+no_gap_onto : (b : ℕ) (before : List ℕ) (w : Word) (words : List Word) → first_gap (onto_word b before w words) ≡ []
+no_gap_onto b [] w words = refl
+no_gap_onto b (c ∷ before) w words = refl
+
+no_gap : (b : ℕ) (words : List Word) → first_gap (after_byte b words) ≡ []
+no_gap b [] = refl
+no_gap b (w ∷ words) = no_gap_onto b w.before w words
+
+cut_gap : (b : ℕ) (line rest : List ℕ) (words : List Word) → line ≡ first_gap words ++ rest
+    → (more : List ℕ) × ((b ∷ line) ≡ first_gap (after_cut b words) ++ more)
+cut_gap b line rest [] is = (b ∷ line, refl)
+cut_gap b line rest (w ∷ words) is = (rest, ap (λ z. b ∷ z) is)
+
+front_gap : (bytes : List ℕ) → (rest : List ℕ) × (bytes ≡ first_gap (words_of bytes) ++ rest)
+front_gap [] = ([], refl)
+front_gap (b ∷ line) = by (cuts b) refl
+  where
+    by : (t : Bool) → cuts b ≡ t → (rest : List ℕ) × ((b ∷ line) ≡ first_gap (words_of (b ∷ line)) ++ rest)
+    by true e =
+        let before = front_gap line in
+        let more = cut_gap b line before.0 (words_of line) before.1 in
+        (more.0, more.1 ∙ ap (λ z. first_gap z ++ more.0) (sym (after_gap b line e)))
+    by false e =
+        (b ∷ line, ap (λ z. z ++ (b ∷ line)) (sym (ap first_gap (after_letter b line e) ∙ no_gap b (words_of line))))
+
+pub gap_is_front : (bytes gap : List ℕ) → first_gap (words_of bytes) ≡ gap → take (length gap) bytes ≡ gap
+gap_is_front bytes gap is =
+    let (rest, cut) = front_gap bytes in
+    ap (take (length gap)) (cut ∙ ap (λ z. z ++ rest) is) ∙ take-append_seam gap rest
+
+-- bytes that are too few
+pub no_front : (bytes front : List ℕ) → length bytes < length front → take (length front) bytes ≡ front → ⊥
+no_front bytes front few is =
+    let all = take_all (length front) bytes (omega (arith, few)) in
+    omega (arith, few, ap length (sym all ∙ is))

@@ -221,8 +221,8 @@ abbrev pub IsMappedText : Grammar → (text : List ℕ) → (ipv4 : ℕ) → Typ
 IsMappedText grammar text ipv4 = (x : Address) × IsIpv6Text grammar text x
     × (x.number ≡ 281470681743360 + ipv4) × (ipv4 < 4294967296)
 
--- What a place is with or without `--mapped`: `Mapped` of an IPv4 address, if it is IPv4-mapped and this is asked for,
--- or else `Plain`.
+-- A place with or without `--mapped`. If the option is given and the place is the IPv4-mapped address of an IPv4
+-- address, `Mapped` holds of that address. Otherwise `Plain` holds.
 abbrev pub IsReadAs : (mapped : Bool) → Grammar → (place : List ℕ) → (Mapped : ℕ → Type 0) → (Plain : Type 0) → Type 0
 IsReadAs mapped grammar place Mapped Plain =
     ((mapped ≡ true) × (ipv4 : ℕ) × IsMappedText grammar place ipv4 × Mapped ipv4)

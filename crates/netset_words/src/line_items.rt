@@ -7,7 +7,7 @@ ghost use Rattle.netset_words.specs.Words.{words_of};
 ghost use Rattle.netset_words.specs.WordSteps.{item_of, shown_text};
 
 use crate::item::{ExtractRequest, Kind, LineItem, next_item};
-use ipnet::IpAddr;
+use ipnet::{IpAddr, Ipv4Addr};
 use ipnet_lists::ip_addr_text;
 use std::alloc::AllocError;
 
@@ -20,16 +20,25 @@ pub(crate) struct LineState<'a> {
     pub(crate) mask: Option<&'a [u8]>,
 }
 
+/// Appends the text of the IPv4 address, or else the text.
+fn push_shown(answer: &mut Vec<u8>, mapped: Option<Ipv4Addr>, text: &[u8]) -> Result<(), AllocError>
+    ensures { OnOk result (answer.new.items ≡ answer.old.items ++ shown_text mapped text.now) }
+{
+    match mapped {
+        Some(address) => {
+            let shown = ip_addr_text(IpAddr::V4(address));
+            answer.extend_from_slice(shown.as_str().as_bytes())
+        }
+        None => answer.extend_from_slice(text),
+    }
+}
+
 /// Appends the text of an item and a newline.
 fn push_item(answer: &mut Vec<u8>, item: LineItem<'_>) -> Result<(), AllocError>
-    ensures { OnOk result (answer.new.items ≡ (answer.old.items ++ shown_text item.entry.mapped item.entry.text.now) ++ 10 ∷ []) }
+    ensures { OnOk result (answer.new.items
+        ≡ (answer.old.items ++ shown_text item.entry.mapped item.entry.text.now) ++ 10 ∷ []) }
 {
-    match item.mapped {
-        Some(address) => {
-            answer.extend_from_slice(ip_addr_text(IpAddr::V4(address)).as_str().as_bytes())?;
-        }
-        None => answer.extend_from_slice(item.text)?,
-    }
+    push_shown(answer, item.mapped, item.text)?;
     answer.push(b'\n')?;
     Ok(())
 }
@@ -43,7 +52,8 @@ fn read_entry_item<'a>(
 ) -> Result<LineState<'a>, AllocError>
     ensures { IfOk result (λ after. (base : List ℕ) → (items : List Item)
         → IsLineUpTo request base items answer.old.items state.entry
-        → IsLineUpTo request base (items ++ entry_item (shown_text item.entry.mapped item.entry.text.now) ∷ []) answer.new.items after) }
+        → IsLineUpTo request base (items ++ entry_item (shown_text item.entry.mapped item.entry.text.now) ∷ [])
+        answer.new.items after) }
 {
     if request.first && state.has_entry {
         return Ok(state);

@@ -1,6 +1,6 @@
 //! The place of an entry in a word: what may be before it and after it.
-ghost use Rattle.std.specs.Prelude.{◌≡◌, ◌⊎◌, ◌↔◌, ◌==◌, ◌||◌, ◌&&◌, ◌-◌, ◌++◌, ◌∷◌, [], List, ℕ, length, take, codes, true};
-ghost use Rattle.std.specs.Prelude.{IfSome, IfNone, IsTrue, MatchOption};
+ghost use Rattle.std.specs.Prelude.{◌≡◌, ◌⊎◌, ◌↔◌, ◌==◌, ◌||◌, ◌&&◌, ◌-◌, ◌++◌, ◌∷◌, [], List, ℕ, length, take};
+ghost use Rattle.std.specs.Prelude.{codes, true, IfSome, IfNone, IsTrue, MatchOption};
 ghost use Rattle.std.specs.Char.{is_ascii_digit};
 ghost use Rattle.std.specs.List.{before_first, list_all, list_any, position_or_len, suffix_len};
 ghost use Rattle.ipnet_base.specs.Address.{ip_address};
@@ -8,10 +8,9 @@ ghost use Rattle.ipnet_lists.specs.Causes.{IsCutAt};
 ghost use Rattle.ipnet_lists.specs.Entries.{IsAddressText};
 ghost use Rattle.netset_words.specs.Places as places;
 ghost use Rattle.netset_words.specs.Places.{IsWhole, IsOnlyAddress, IsOnlyIpv4, IsSomeAddress, IsPort, IsBeforePort};
-ghost use Rattle.netset_words.specs.Places.{IsBeforeColon, IsHost, IsUrlHost, IsNamed, IsAtUser, IsAfterSlash, IsAtSlash};
-ghost use Rattle.netset_words.specs.Places.{IsAfterName, IsAtColon, AreLastParts, IsDestination, IsPacketEnd, IsAtDot, IsBeforeArrow};
-ghost use Rattle.netset_words.specs.Places.{IsBeforeLongPort, IsLongPort};
-ghost use Rattle.netset_words.specs.Places.{IsInside, IsPlace};
+ghost use Rattle.netset_words.specs.Places.{IsBeforeColon, IsHost, IsUrlHost, IsNamed, IsAtUser, IsAfterSlash};
+ghost use Rattle.netset_words.specs.Places.{IsAtSlash, IsAfterName, IsAtColon, AreLastParts, IsDestination, IsPacketEnd};
+ghost use Rattle.netset_words.specs.Places.{IsAtDot, IsBeforeArrow, IsBeforeLongPort, IsLongPort, IsInside, IsPlace};
 ghost use Rattle.netset_words.specs.PlaceSteps.{AreParts, Finds};
 ghost use Rattle.netset_words.specs.Words.{first_gap, words_of};
 ghost use Rattle.netset_words.specs.WordSteps.{word_of};
@@ -347,10 +346,25 @@ fn is_same(text: &[u8], other: &[u8]) -> bool
     text == other
 }
 
+/// Whether the bytes begin with these.
+fn has_front(bytes: &[u8], front: &[u8]) -> bool
+    ensures { IsTrue result ↔ (take (length front.now) bytes.now ≡ front.now) }
+{
+    let is_short = bytes.len() < front.len();
+    if is_short {
+        return false;
+    }
+    is_same(&bytes[..front.len()], front)
+}
+
 /// Whether these bytes are between the front and the first word of the bytes.
 fn is_gap(bytes: &[u8], gap: &[u8]) -> bool
     ensures { IsTrue result ↔ (first_gap (words_of bytes.now) ≡ gap.now) }
 {
+    // Most bytes are cheap to refuse.
+    if !has_front(bytes, gap) {
+        return false;
+    }
     match next_word(bytes) {
         Some(word) => is_same(word.before, gap),
         None => gap.is_empty(),
@@ -490,16 +504,13 @@ fn at_dot<'a>(word: NextWord<'a>, text: &'a [u8], grammar: Grammar) -> Option<Pl
     let Some(parts) = cut_at_last(text, b'.') else {
         return None;
     };
-    if !is_service(parts.back) {
-        return None;
-    }
-    let Some(place) = read_address(parts.front, grammar) else {
-        return None;
-    };
     if !is_packet_end(word) {
         return None;
     }
-    Some(place)
+    if !is_service(parts.back) {
+        return None;
+    }
+    read_address(parts.front, grammar)
 }
 
 /// Reads a host before `->`.

@@ -4,7 +4,8 @@ use Rattle.netset_words.proofs.item.place_item.Goals as goal
 
 pub returns-then-is_mask_entry-clause-item : goal.returns-then-is_mask_entry-clause-item
 returns-then-is_mask_entry-clause-item c = λ w found.
-    (found.is, (c.is_mask_entry.ensures c.args.request.grammar c.args.place.text.now found.kind).0 c.if-is_mask_entry.true)
+    let mask = c.is_mask_entry.ensures c.args.request.grammar c.args.place.text.now found.kind in
+    (found.is, mask.0 c.if-is_mask_entry.true)
 
 pub returns-clause-item : goal.returns-clause-item
 returns-clause-item c = λ w found.

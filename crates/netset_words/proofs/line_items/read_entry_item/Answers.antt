@@ -8,12 +8,14 @@ use Rattle.netset_words.proofs.line_items.read_entry_item.Goals.{else-request-vi
 
 pub returns-then-state : goal.returns-then-state
 returns-then-state c = λ base items h.
-    entry_unwanted c.args.request base c.args.answer.now.items items c.args.state (entry_item (shown_text c.args.item.mapped c.args.item.text.now)) h
+    entry_unwanted c.args.request base c.args.answer.now.items items c.args.state
+    (entry_item (shown_text c.args.item.mapped c.args.item.text.now)) h
     c.args.state refl c.if-request.true c.if-state.true c.if-state.true refl
 
 pub returns : goal.returns
 returns c = λ base items h.
-    entry_wanted c.args.request base c.args.answer.now.items items c.args.state (entry_item (shown_text c.args.item.mapped c.args.item.text.now)) h
+    entry_wanted c.args.request base c.args.answer.now.items items c.args.state
+    (entry_item (shown_text c.args.item.mapped c.args.item.text.now)) h
     c.push_item.new.answer.items _ refl
     (elim c.else-request.branch [
       | else-request-via-then-request+else-state w ↦ inr w.if-state.false

@@ -11,4 +11,5 @@ returns-in-Some c = λ grammar text is writes.
 
 pub returns-in-None : goal.returns-in-None
 returns-in-None c = λ grammar text is writes.
-    range_entry c.args.mapped grammar text None c.args.entry c.args.entry (c.in-None.ensures grammar text writes) refl is
+    range_entry c.args.mapped grammar text None c.args.entry c.args.entry (c.in-None.ensures grammar text writes) refl
+    is

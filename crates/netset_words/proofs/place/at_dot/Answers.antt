@@ -1,10 +1,10 @@
-use Rattle.std.proofs.Common.{◌≡◌, true, false, sym, ◌∙◌, subst, Some}
-use Rattle.netset_words.specs.Places.{AreLastParts, IsOnlyAddress, IsSomeAddress, is_service, trimmed}
+use Rattle.std.proofs.Common.{◌≡◌, true, false, sym, ◌∙◌, subst}
+use Rattle.netset_words.specs.Places.{AreLastParts, is_service, trimmed}
 use Rattle.netset_words.specs.WordSteps.{word_of}
 use Rattle.netset_words.proofs.Cases.{match_none}
 use Rattle.netset_words.proofs.LogEntryLaws.{not_true, not_false}
 use Rattle.netset_words.proofs.PlaceBytes.{one_last}
-use Rattle.netset_words.proofs.PlaceLaws.{dot_finds, none_found}
+use Rattle.netset_words.proofs.PlaceLaws.{dot_finds}
 use Rattle.netset_words.proofs.place.at_dot.Goals as goal
 
 pub returns-in_default : goal.returns-in_default
@@ -12,36 +12,28 @@ returns-in_default c = λ place is.
     match_none c.cut_at_last.result _ _ c.cut_at_last.ensures c.in_default.not-Some place is.port
     (subst (λ z. AreLastParts 46 z place is.port) (sym c.requires) is.parts)
 
-pub returns-then-not-is_service : goal.returns-then-not-is_service
-returns-then-not-is_service c = λ place is.
-    let same = one_last 46 (trimmed (word_of c.args.word).text) place is.port c.in-Some.parts.front.now
-    c.in-Some.parts.back.now is.parts
-    (subst (λ z. AreLastParts 46 z c.in-Some.parts.front.now c.in-Some.parts.back.now) c.requires c.in-Some.ensures) in
-    let clash : true ≡ false =
-    sym (subst (λ z. is_service z ≡ true) same.1 is.service) ∙ sym c.is_service.ensures
-    ∙ not_true c.is_service.result c.if-not-is_service.true in
-    absurd cc
-
-pub returns-in_default-read_address : goal.returns-in_default-read_address
-returns-in_default-read_address c = λ place is.
-    let g = c.args.grammar in
-    let front = c.in-Some.parts.front.now in
-    let same = one_last 46 (trimmed (word_of c.args.word).text) place is.port front c.in-Some.parts.back.now is.parts
-    (subst (λ z. AreLastParts 46 z front c.in-Some.parts.back.now) c.requires c.in-Some.ensures) in
-    none_found g (IsOnlyAddress g front) c.read_address.result c.read_address.ensures
-    c.in_default-read_address.not-Some place (same.0, subst (IsSomeAddress g) same.0 is.address)
-
 pub returns-then-not-is_packet_end : goal.returns-then-not-is_packet_end
 returns-then-not-is_packet_end c = λ place is.
     let clash : true ≡ false =
     sym (c.is_packet_end.ensures.1 is.packet) ∙ not_true c.is_packet_end.result c.if-not-is_packet_end.true in
     absurd cc
 
+pub returns-then-not-is_service : goal.returns-then-not-is_service
+returns-then-not-is_service c = λ place is.
+    let front = c.in-Some.parts.front.now in
+    let back = c.in-Some.parts.back.now in
+    let same = one_last 46 (trimmed (word_of c.args.word).text) place is.port front back is.parts
+    (subst (λ z. AreLastParts 46 z front back) c.requires c.in-Some.ensures) in
+    let clash : true ≡ false =
+    sym (subst (λ z. is_service z ≡ true) same.1 is.service) ∙ sym c.is_service.ensures
+    ∙ not_true c.is_service.result c.if-not-is_service.true in
+    absurd cc
+
 pub returns : goal.returns
 returns c =
-    dot_finds c.args.grammar (word_of c.args.word) c.in-Some.parts.front.now c.in-Some.parts.back.now
-    (Some c.in-Some-read_address.place)
-    (subst (λ z. AreLastParts 46 z c.in-Some.parts.front.now c.in-Some.parts.back.now) c.requires c.in-Some.ensures)
+    let front = c.in-Some.parts.front.now in
+    let back = c.in-Some.parts.back.now in
+    dot_finds c.args.grammar (word_of c.args.word) front back c.read_address.result
+    (subst (λ z. AreLastParts 46 z front back) c.requires c.in-Some.ensures)
     (sym c.is_service.ensures ∙ not_false c.is_service.result c.if-not-is_service.false)
-    (c.is_packet_end.ensures.0 (not_false c.is_packet_end.result c.if-not-is_packet_end.false))
-    c.in-Some-read_address.ensures
+    (c.is_packet_end.ensures.0 (not_false c.is_packet_end.result c.if-not-is_packet_end.false)) c.read_address.ensures

@@ -1,10 +1,13 @@
 use Rattle.std.proofs.Common.{◌<◌, true, false, sym, ◌∙◌, arith}
+use Rattle.netset_words.proofs.Cases.{match_none}
 use Rattle.netset_words.proofs.LogEntryLaws.{not_true, not_false}
 use Rattle.netset_words.proofs.NameLaws.{name_cut, no_name}
 use Rattle.netset_words.proofs.place.is_name.Goals as goal
 
 pub returns-in_default : goal.returns-in_default
-returns-in_default c = sym (no_name c.args.text.now (omega (arith, c.split_first.ensures.variant, c.in_default.not-Some)))
+returns-in_default c =
+    sym (no_name c.args.text.now
+    (match_none c.split_first.result _ _ c.split_first.ensures.cases c.in_default.not-Some))
 
 pub returns-then-not-is_ascii_alphabetic : goal.returns-then-not-is_ascii_alphabetic
 returns-then-not-is_ascii_alphabetic c =

@@ -67,7 +67,8 @@ returns-in-Some-at_dot c =
     (else_second g (ByColon g text) (AfterColon g w text) (Some place)
     (none_found g (ByColon g text) c.at_colon.result c.at_colon.ensures c.in_default-at_colon.not-Some)
     (else_second g (IsBeforeLongPort g text) (AfterLong g w) (Some place)
-    (none_found g (IsBeforeLongPort g text) c.read_long_port.result c.read_long_port.ensures c.in_default-read_long_port.not-Some)
+    (none_found g (IsBeforeLongPort g text) c.read_long_port.result c.read_long_port.ensures
+    c.in_default-read_long_port.not-Some)
     (else_first g (IsAtDot g w) (IsBeforeArrow g w) place c.in-Some-at_dot.ensures)))))
 
 pub returns : goal.returns
@@ -84,7 +85,8 @@ returns c =
     (else_second g (ByColon g text) (AfterColon g w text) r
     (none_found g (ByColon g text) c.at_colon.result c.at_colon.ensures c.in_default-at_colon.not-Some)
     (else_second g (IsBeforeLongPort g text) (AfterLong g w) r
-    (none_found g (IsBeforeLongPort g text) c.read_long_port.result c.read_long_port.ensures c.in_default-read_long_port.not-Some)
+    (none_found g (IsBeforeLongPort g text) c.read_long_port.result c.read_long_port.ensures
+    c.in_default-read_long_port.not-Some)
     (else_second g (IsAtDot g w) (IsBeforeArrow g w) r
     (none_found g (IsAtDot g w) c.at_dot.result c.at_dot.ensures c.in_default-at_dot.not-Some)
     c.before_arrow.ensures)))))
