@@ -5,10 +5,6 @@ use Rattle.std.proofs.Common.{◌+◌, ◌≤◌, ◌++◌, if◌then◌else◌,
 use Rattle.std.specs.Result.{is_ok}
 
 -- what nothing shows
-pub none_weaker : {V : Type 0} (A B : Type 0) (o : Option V) → (A → B) → IfNone o A → IfNone o B
-none_weaker A B (Some v) f h = tt
-none_weaker A B None f h = f h
-
 pub if_none : {V : Type 0} (A : Type 0) (o : Option V) → IfNone o A → ((v : V) → o ≡ Some v → ⊥) → A
 if_none A (Some v) h not = absurd (not v refl)
 if_none A None h not = h

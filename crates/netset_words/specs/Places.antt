@@ -3,8 +3,8 @@
 --
 -- A "/" and digits are a prefix length only if the word, without a final "." or ":", is an entry of a list. Everywhere
 -- else they are a port or a path, and the place is the address.
-use Rattle.std.specs.Prelude.{◌≡◌, ◌≢◌, ◌⊎◌, ◌<◌, ◌≤◌, ℕ, ◌+◌, ◌-◌, Bool, ◌||◌, ◌&&◌, ◌==◌, true, false, List, [], ◌∷◌, ◌++◌}
-use Rattle.std.specs.Prelude.{length, take, drop, codes, if◌then◌else◌}
+use Rattle.std.specs.Prelude.{◌≡◌, ◌≢◌, ◌⊎◌, ◌<◌, ◌≤◌, ℕ, ◌+◌, ◌-◌, Bool, ◌||◌, ◌&&◌, ◌==◌, true, false}
+use Rattle.std.specs.Prelude.{List, [], ◌∷◌, ◌++◌, length, take, drop, codes, if◌then◌else◌}
 use Rattle.std.specs.Char.{is_ascii_alphabetic, is_ascii_alphanumeric, is_ascii_digit, is_ascii_uppercase}
 use Rattle.std.specs.List.{before_first, list_all, list_any, suffix_len}
 use Rattle.ipnet_base.specs.Address.{Address, IPv4}
@@ -203,7 +203,7 @@ IsInside grammar w =
     (Else (IsBeforeLongPort grammar (trimmed w.text))
     (Else (IsAtDot grammar w) (IsBeforeArrow grammar w)))))
 
--- The word has this place: the word is an entry, or else it is one without its last signs, or else an entry is inside it.
+-- The word has this place: it is an entry, or else it is one without its last signs, or else an entry is inside it.
 -- Example: `10.0.0.0/8` in `10.0.0.0/8.`; `10.1.2.3` in `outside:10.1.2.3/22`; no place in `12:34:56` or `1.3.6.1.4.1`.
 abbrev pub IsPlace : Grammar → (w : Word) → (place : List ℕ) → Type 0
 IsPlace grammar w =
