@@ -8,16 +8,18 @@ use Rattle.std.proofs.Common.{get_or}
 use Rattle.memchr.specs.Find.{NoneBefore, Nowhere, Passes, is_byte, is_byte2}
 use Rattle.std.specs.declared.net.ipv4_addr.Ipv4Addr.{Ipv4Addr}
 use Rattle.std.specs.declared.net.ipv6_addr.Ipv6Addr.{Ipv6Addr}
+use Rattle.std.specs.declared.net.ip_addr.IpAddr.{IpAddr}
 use Rattle.std.specs.declared.net.ip_addr.IpAddr.TheVariants as Ip
 use Rattle.std.proofs.lemmas.List.{take_all}
 use Rattle.ipnet_base.specs.Address.{IPv4, IPv6, ip_address}
 use Rattle.ipnet.specs.declared.parser.Grammar.{Grammar}
 use Rattle.ipnet_lists.specs.Causes.{IsCutAt}
-use Rattle.ipnet_lists.specs.Entries.{IsAddressText, IsIpv4Text}
+use Rattle.ipnet_lists.specs.Entries.{IsAddressText, IsIpv4Text, ReadsAs}
 use Rattle.ipnet_lists.proofs.CommentLaws.{behind}
 use Rattle.ipnet_lists.proofs.EntryTexts.{one_address}
 use Rattle.netset_words.specs.declared.place.Place.{Place}
 use Rattle.netset_words.specs.Places.{Else, IsOnlyAddress, IsSomeAddress, IsSomeIpv4, url_host, AreLastParts}
+use Rattle.netset_words.specs.Places.{IsBeforePort, IsBeforeColon}
 use Rattle.netset_words.specs.Places.{IsLongPort, IsBeforeLongPort, IsHost, IsAtUser, IsAtSlash, IsAtColon, IsInside}
 use Rattle.netset_words.specs.Places.{IsAtDot, IsBeforeArrow, IsPacketEnd, is_service, trimmed}
 use Rattle.netset_words.specs.Words.{Word}
@@ -25,7 +27,7 @@ use Rattle.netset_words.specs.PlaceSteps.{AreParts, IsFound, Finds}
 use Rattle.netset_words.proofs.Cases.{match_none}
 use Rattle.netset_words.proofs.PlaceBytes.{one_last}
 use Rattle.std.proofs.Math.Seq.{take-append_seam}
-use Rattle.std.proofs.Common.{codes, length-append}
+use Rattle.std.proofs.Common.{codes, length-append, IfNone}
 
 -- ---- what was found
 
@@ -143,7 +145,12 @@ url_nowhere text none =
     (λ less. absurd (omega (arith, less))))
     ∙ take_all (length text) text (omega arith))
 
--- ---- the families
+-- ---- addresses
+
+pub no_address_read : (grammar : Grammar) (text : List ℕ) (r : Option IpAddr)
+    → ReadsAs ip_address (IsAddressText grammar) text r → IfNone r (¬ (IsSomeAddress grammar text))
+no_address_read grammar text None h = λ is. h.none.0 refl is.0 is.1
+no_address_read grammar text (Some a) h = tt
 
 pub v4_text : (grammar : Grammar) (text : List ℕ) (a : Ipv4Addr) → IsAddressText grammar text (ip_address (Ip.V4 a))
     → IsIpv4Text grammar text (ip_address (Ip.V4 a))
@@ -206,7 +213,19 @@ arrow_finds grammar w host r spelled arrow h =
         (omega (arith, ap length e, length-append xs (a ∷ []), length-append ys (a ∷ [])))
         ∙ ap (take (length ys)) e ∙ take-append_seam ys (a ∷ [])
 
--- ---- the readings inside a word, one after another
+-- ---- the readings of a host, and inside a word, one after another
+
+abbrev pub BySlashPort : Grammar → (text place : List ℕ) → Type 0
+BySlashPort g text place = IsCutAt 47 (IsBeforePort g place) text
+
+abbrev pub ByColonPort : Grammar → (text place : List ℕ) → Type 0
+ByColonPort g text place = IsCutAt 58 (IsBeforeColon g place) text
+
+abbrev pub AfterSlashPort : Grammar → (text place : List ℕ) → Type 0
+AfterSlashPort g text place = ByColonPort g text place ⊎ IsBeforeLongPort g text place
+
+abbrev pub AfterAddress : Grammar → (text place : List ℕ) → Type 0
+AfterAddress g text place = BySlashPort g text place ⊎ AfterSlashPort g text place
 
 abbrev pub ByUser : Grammar → (text place : List ℕ) → Type 0
 ByUser g text place = IsCutAt 64 (IsAtUser g place) text
