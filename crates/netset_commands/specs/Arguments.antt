@@ -1,5 +1,5 @@
 -- The words of a command line: its flags, and the names of its lists.
-use Rattle.std.specs.Prelude.{◌≡◌, ◌≤◌, ◌<◌, ◌⊎◌, ◌↔◌, ℕ, Bool, true, false, List, [], ◌∷◌, ◌++◌, length, codes}
+use Rattle.std.specs.Prelude.{◌≡◌, ◌<◌, ◌⊎◌, ◌↔◌, ℕ, Bool, true, false, List, [], ◌∷◌, ◌++◌, length, codes}
 use Rattle.std.specs.Prelude.{Some, None, option_map, unwrap_or, count_by}
 use Rattle.std.specs.Char.{is_ascii_control}
 use Rattle.std.specs.List.{list_any}
@@ -12,9 +12,6 @@ use Rattle.netset_files.specs.Files.{standard_input}
 use Rattle.netset_files.specs.declared.lists.Empties.{Empties}
 use Rattle.netset_files.specs.declared.lists.Empties.TheVariants.{Report, Allow, Refuse}
 use Rattle.ipnet_lists.specs.Names.{Names}
-use Rattle.netset_lib.specs.declared.command.Work.{Work}
-use Rattle.netset_lib.specs.declared.command.Work.TheVariants.{Combine, Ask}
-use Rattle.netset_lib.specs.declared.query.Query.TheVariants.{Count, Compare, Filter, Route}
 
 -- The values of the argument with this id, in order; none if it was not given.
 -- Example: `b`, `c` for the id `others` of `union a b c`.
@@ -52,21 +49,11 @@ input_count names = count_by (λ name. bytes_eq name.now standard_input) names
 abbrev pub have_control : Names → Bool
 have_control names = list_any (λ name. list_any is_ascii_control name.now) names
 
--- The greatest number of named lists with which the work also reads standard input: none, and one list of a filter or a
--- route.
-abbrev pub most_before_input : Work → ℕ
-most_before_input (Combine request) = 0
-most_before_input (Ask Count grammar) = 0
-most_before_input (Ask Compare grammar) = 0
-most_before_input (Ask (Filter side) grammar) = 1
-most_before_input (Ask Route grammar) = 1
-
--- The names of the lists of a call: those that are given, and then `-` for a list that is not.
--- Example: `filter a` has the names `a`, `-`; `union` has `-`; `union a` has `a`.
-abbrev pub AreListNames : Work → List (List ℕ) → List (List ℕ) → Type 0
-AreListNames work given names =
-    ((length given ≤ most_before_input work) × (names ≡ given ++ standard_input ∷ []))
-    ⊎ ((most_before_input work < length given) × (names ≡ given))
+-- The names of the lists of a command: those that are given, or `-` if there is none.
+-- Example: `union` has `-`; `union a b` has `a`, `b`.
+abbrev pub AreListNames : List (List ℕ) → List (List ℕ) → Type 0
+AreListNames given names =
+    ((length given ≡ 0) × (names ≡ given ++ standard_input ∷ [])) ⊎ ((0 < length given) × (names ≡ given))
 
 -- The addresses that no rule matches are permitted if and only if the value of `--default` is `permit`.
 abbrev pub IsDefault : ArgMatches → Action → Type 0

@@ -40,7 +40,6 @@ pub record IsFitRequest (matches : ArgMatches) (request : FitRequest) : Type 0 w
   pub limited : IsLimited ipv4 ipv6 percent
   pub ipv4_limit : request.ipv4 ≡ limit_of ipv4 (unwrap_or percent 0)
   pub ipv6_limit : request.ipv6 ≡ limit_of ipv6 (unwrap_or percent 0)
-  pub never : IsTrue request.has_never ↔ (first_value (found_of matches) (codes "never") ≢ None)
 
 -- The name of the list to avoid, if there is one.
 abbrev pub never_names : Option (List ℕ) → List (List ℕ)

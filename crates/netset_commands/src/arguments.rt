@@ -1,20 +1,20 @@
 //! The command line: the lists to read, and what to do with them.
-ghost use Rattle.std.specs.Prelude.{◌≡◌, ◌≤◌, ◌<◌, ◌↔◌, ◌∷◌, ◌++◌, [], Bool, map, codes, IsTrue, IfOk, IfErr, IsErr};
+ghost use Rattle.std.specs.Prelude.{◌≡◌, ◌<◌, ◌↔◌, ◌∷◌, ◌++◌, [], Bool, false, map, codes, IsTrue, IfOk, IfErr, IsErr};
 ghost use Rattle.std.specs.Prelude.{OnOk, IsOk, length};
 ghost use Rattle.std.specs.Char.{is_ascii_control};
 ghost use Rattle.std.specs.List.{list_any};
 ghost use Rattle.netset_commands.specs.Arguments.{values_of, list_name, IsFlag};
 ghost use Rattle.netset_commands.specs.Arguments.{AreListNames, empties_of, input_count, have_control};
-ghost use Rattle.netset_commands.specs.Arguments.{most_before_input};
-ghost use Rattle.netset_commands.specs.Calls.{IsCall, IsCallFailure, IsNameFailure, AreGoodNames, PrintsNames};
-ghost use Rattle.netset_commands.specs.Calls.{AreFlags, AreTwoNames};
-ghost use Rattle.netset_commands.specs.declared.arguments.ArgumentFailure.TheVariants.{InputTwice};
+ghost use Rattle.netset_commands.specs.Calls.{IsNameFailure, AreGoodNames, AreFlags, AreTwoNames};
+ghost use Rattle.netset_commands.specs.declared.arguments.ArgumentFailure.TheVariants.{InputTwice, ControlCharacter};
+ghost use Rattle.netset_lib.specs.Commands.{families_of};
+ghost use Rattle.netset_lib.specs.declared.command.Flags.{Flags};
 ghost use Rattle.netset_files.specs.Files.{standard_input};
 
 use crate::table::{ARGUMENT, Argument, Form};
 use clap::ArgMatches;
 use netset_files::{Empties, Reports, STANDARD_INPUT};
-use netset_lib::{Flags, ListCommand, Query, Work};
+use netset_lib::{Families, Flags, families};
 use std::alloc::{AllocError, Global};
 use std::env;
 use std::env::Env;
@@ -121,17 +121,6 @@ const MOST_ARGUMENT: usize = 131_072;
 
 /// The most bytes of an argument that a report shows.
 const MOST_SHOWN: usize = 100;
-
-/// The parsed command line.
-#[derive(Drop)]
-pub struct Call<'a> {
-    /// The operation or the query.
-    pub work: Work,
-    /// The names of the lists, in order. At most one of them is standard input.
-    pub names: Vec<&'a str>,
-    /// Whether the answers are written while the second list is read.
-    pub is_streamed: bool,
-}
 
 /// Why the arguments cannot be used, although each of them is one of the command's.
 #[derive(Clone, Copy, Debug, PartialEq, Eq, Drop, thiserror::Error)]
@@ -283,32 +272,16 @@ fn push_values<'a>(
     }
 }
 
-/// Whether the work also reads standard input if this number of lists is named: if none is, and if only the first list
-/// of a filter or a route is.
-fn reads_more(work: Work, named: usize) -> bool
-    ensures { IsTrue result ↔ (named ≤ most_before_input work) }
-{
-    match work {
-        Work::Ask(Query::Filter(_) | Query::Route, _) => named <= 1,
-        Work::Ask(Query::Count | Query::Compare, _) | Work::Combine(_) => named == 0,
-    }
-}
-
-/// The names of the lists, in order. Standard input is the list that is not named: the only one, or the second of
-/// `filter` and `route`.
-fn names_of<'a>(
-    alloc: Global,
-    work: Work,
-    matches: &ArgMatches<'a>,
-) -> Result<Vec<&'a str>, AllocError>
-    ensures { IfOk result (λ names. AreListNames work
+/// The names of any number of lists, in order. Without a name it is standard input.
+fn names_of<'a>(alloc: Global, matches: &ArgMatches<'a>) -> Result<Vec<&'a str>, AllocError>
+    ensures { IfOk result (λ names. AreListNames
         (values_of matches.now (codes "first") ++ values_of matches.now (codes "others"))
         (map (λ name. name.now) names.items)) }
 {
     let mut names = Vec::new(alloc);
     push_values(&mut names, matches, FIRST)?;
     push_values(&mut names, matches, OTHERS)?;
-    if reads_more(work, names.len()) {
+    if names.is_empty() {
         names.push(STANDARD_INPUT)?;
     }
     Ok(names)
@@ -398,51 +371,39 @@ fn have_control(names: &[&str]) -> bool
     names.iter().any(|name| has_control(name))
 }
 
-/// Whether the answer has the names of the lists.
-fn prints_names(work: Work) -> bool
-    ensures { IsTrue result ↔ PrintsNames work }
+/// Returns the names of any number of lists, in order, of which at most one is standard input.
+#[inline(never)]
+pub fn list_names<'a>(
+    alloc: Global,
+    matches: &ArgMatches<'a>,
+) -> Result<Vec<&'a str>, ArgumentFailure>
+    ensures named { IfOk result (λ names. AreGoodNames matches.now names.items) }
+    ensures failed { IfErr result (IsNameFailure matches.now) }
 {
-    match work {
-        Work::Ask(Query::Count, _) => true,
-        _ => false,
-    }
-}
-
-/// Refuses these names of the lists if two are standard input, or if one would break a line of the answer.
-fn check_names(work: Work, names: &[&str]) -> Result<(), ArgumentFailure>
-    ensures good { IsOk result ↔ AreGoodNames work names.now }
-    ensures failed { IfErr result (IsNameFailure work names.now) }
-{
-    if reads_input_twice(names) {
+    let Ok(names) = names_of(alloc, matches) else {
+        return Err(ArgumentFailure::Memory);
+    };
+    if reads_input_twice(names.as_slice()) {
         return Err(ArgumentFailure::InputTwice);
     }
-    if prints_names(work) && have_control(names) {
+    Ok(names)
+}
+
+/// Refuses these names of lists to be counted if one would break a line of the answer.
+pub fn check_counted(names: &[&str]) -> Result<(), ArgumentFailure>
+    ensures good { IsOk result ↔ (have_control names.now ≡ false) }
+    ensures failed { IfErr result (λ failure. failure ≡ ControlCharacter) }
+{
+    if have_control(names) {
         return Err(ArgumentFailure::ControlCharacter);
     }
     Ok(())
 }
 
-/// Reads the arguments of the command of this name: the work, and the names of the lists.
-#[inline(never)]
-pub fn call_of<'a>(
-    alloc: Global,
-    name: &str,
-    matches: &ArgMatches<'a>,
-) -> Result<Call<'a>, ArgumentFailure>
-    ensures called { IfOk result (IsCall name.now matches.now) }
-    ensures failed { IfErr result (IsCallFailure name.now matches.now) }
+/// The families of a complement or of a plan, by the flags `--ipv4` and `--ipv6`.
+pub fn families_of(matches: &ArgMatches) -> Families
+    ensures { (flags : Flags) × AreFlags matches.now flags × (result ≡ families_of flags.ipv4 flags.ipv6) }
 {
-    let Some(command) = ListCommand::from_name(name) else {
-        return Err(ArgumentFailure::NoCommand);
-    };
-    let work = command.work(flags_of(matches));
-    let Ok(names) = names_of(alloc, work, matches) else {
-        return Err(ArgumentFailure::Memory);
-    };
-    check_names(work, names.as_slice())?;
-    Ok(Call {
-        work,
-        names,
-        is_streamed: is_set(matches, "stream"),
-    })
+    let flags = flags_of(matches);
+    families(flags.ipv4, flags.ipv6)
 }

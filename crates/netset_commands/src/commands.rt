@@ -47,6 +47,9 @@ pub const FILTER: &str = "filter";
 
 pub const ROUTE: &str = "route";
 
+/// The name of the flag by which the answers are written while the list is read.
+pub const STREAM: &str = "stream";
+
 /// The arguments of an operation on at least two lists.
 const TWO_AND_MORE: &[&[Argument]] = &[
     SHARED,
@@ -80,8 +83,8 @@ const COMPLEMENT_ARGUMENTS: &[Argument] = &[
 
 /// The flag by which the answers are written while the list is read.
 const STREAM_FLAG: Argument = Argument {
-    id: "stream",
-    form: Form::Flag("stream"),
+    id: STREAM,
+    form: Form::Flag(STREAM),
     help: "Print each line as soon as it is known; a bad line is reported and left out, with status 2",
     conflicts: &[NO_EMPTY],
     ..ARGUMENT

@@ -4,7 +4,7 @@ ghost use Rattle.std.specs.Prelude.{◌≤◌};
 use crate::arguments::{
     FIRST, ONE_LIST, OTHER_LIST, OTHERS, SHARED, flags_of, name_of_list, two_or_report,
 };
-use crate::reading::{reading_work, session_of};
+use crate::reading::read_set;
 use crate::table::{Argument, Subcommand};
 use clap::ArgMatches;
 use netset_entries::{OverlapsCommand, RedundantCommand, SupernetCommand};
@@ -55,10 +55,14 @@ pub fn print_supernet(rt: &HostRuntime, matches: &ArgMatches, writers: &mut Writ
     ensures { result ≤ 2 }
 {
     let names = [name_of_list(matches, FIRST)];
-    match session_of(rt, reading_work(matches), &names, writers.reports) {
-        Ok(session) => {
+    match read_set(rt, matches, names[0], &names, writers) {
+        Ok(set) => {
+            let command = SupernetCommand {
+                alloc: rt.alloc(),
+                set,
+            };
             let (out, faults) = (&mut writers.answer, &mut writers.faults);
-            run_text(SupernetCommand { session }, &names, out, faults)
+            run_text(command, &names, out, faults)
         }
         Err(status) => status,
     }

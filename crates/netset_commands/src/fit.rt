@@ -5,11 +5,12 @@ ghost use Rattle.netset_commands.specs.FitOptions.{fit_names, limit_of, IsFitReq
 use crate::arguments::{
     ANY_LISTS, ArgumentFailure, FIRST, SHARED, reads_input_twice, report_argument_failure,
 };
-use crate::reading::{reading_work, session_of};
+use crate::reading::{finish, set_reader};
 use crate::table::{ARGUMENT, Argument, Form, Subcommand};
 use clap::ArgMatches;
+use ipnet_sets::IpSet;
 use netset_entries::{FitCommand, FitLimit, FitRequest, run_fit};
-use netset_files::{STANDARD_INPUT, Writers};
+use netset_files::{Lists, STANDARD_INPUT, Writers};
 use netset_lib::read_number;
 use std::alloc::{AllocError, Global};
 use std::io::Write;
@@ -114,7 +115,6 @@ fn request_of(rt: &HostRuntime, matches: &ArgMatches) -> Result<FitRequest, u8>
     Ok(FitRequest {
         ipv4: limit_of(ipv4, percent),
         ipv6: limit_of(ipv6, percent),
-        has_never: matches.get_str(NEVER).is_some(),
     })
 }
 
@@ -133,6 +133,29 @@ fn names_of<'a>(alloc: Global, matches: &ArgMatches<'a>) -> Result<Vec<&'a str>,
     Ok(names)
 }
 
+/// Reads the list to avoid, if there is one, and the others, which have these names. Returns the set to avoid, and the
+/// others. If that fails, or if lines are refused, it is reported, and the error is the exit status.
+fn read_never(
+    rt: &HostRuntime,
+    matches: &ArgMatches,
+    names: &[&str],
+    writers: &mut Writers<'_>,
+) -> Result<(IpSet, Vec<IpSet>), u8>
+    ensures { IfErr result (λ status. status ≡ 2) }
+{
+    let lists = Lists::new(set_reader(rt, matches)?, writers.reports);
+    let (lists, never, others) = match (matches.get_str(NEVER), names) {
+        (Some(name), [_, others @ ..]) => {
+            let (lists, never) = lists.read(rt, name)?;
+            (lists, never, others)
+        }
+        (_, names) => (lists, IpSet::new(rt.alloc()), names),
+    };
+    let (lists, sets) = lists.read_all(rt, others)?;
+    finish(lists.end()?, names, writers)?;
+    Ok((never, sets))
+}
+
 /// Reads the arguments and the lists, prints the networks within the limits, and returns the exit status.
 #[inline(never)]
 pub fn fit_lists(rt: &HostRuntime, matches: &ArgMatches, writers: &mut Writers<'_>) -> u8
@@ -149,10 +172,16 @@ pub fn fit_lists(rt: &HostRuntime, matches: &ArgMatches, writers: &mut Writers<'
     if reads_input_twice(names) {
         return report_argument_failure(rt, ArgumentFailure::InputTwice);
     }
-    match session_of(rt, reading_work(matches), names, writers.reports) {
-        Ok(session) => {
+    match read_never(rt, matches, names, writers) {
+        Ok((never, sets)) => {
+            let command = FitCommand {
+                alloc: rt.alloc(),
+                sets,
+                never,
+                request,
+            };
             let (out, faults) = (&mut writers.answer, &mut writers.faults);
-            run_fit(FitCommand { session, request }, names, out, faults).status
+            run_fit(command, names, out, faults).status
         }
         Err(status) => status,
     }

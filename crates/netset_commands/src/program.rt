@@ -1,16 +1,23 @@
 //! A run of the program: its arguments, its output and its command.
-ghost use Rattle.std.specs.Prelude.{◌≤◌};
+ghost use Rattle.std.specs.Prelude.{◌≡◌, ◌≤◌, codes, IfErr};
+ghost use Rattle.netset_commands.specs.Arguments.{IsFlag};
+ghost use Rattle.netset_commands.specs.Calls.{AreFlags};
 ghost use Rattle.netset_files.specs.Statuses.{IsExitStatus};
+ghost use Rattle.netset_lib.specs.Commands.{side_of};
+ghost use Rattle.netset_lib.specs.declared.command.Flags.{Flags};
+ghost use Rattle.netset_lib.specs.declared.operation.Combination.TheVariants.{Union, Intersection, Difference};
+ghost use Rattle.netset_lib.specs.declared.query.Query.TheVariants.{Filter};
 
 use crate::apply::{APPLY, apply_changes};
 use crate::arguments::{
-    ArgumentFailure, Call, OUTPUT, call_of, escaped, report_argument_failure, reports_of, words,
+    ArgumentFailure, FIRST, OUTPUT, check_counted, escaped, families_of, flags_of, is_set,
+    list_names, name_of_list, report_argument_failure, reports_of, two_or_report, words,
 };
 use crate::bar::{BAR, draw_bar};
 use crate::changes::{CHANGES, print_changes};
 use crate::commands::{
-    COMPARE, COMPLEMENT, COUNT, DIFFERENCE, FILTER, INTERSECTION, ROUTE, SYMMETRIC_DIFFERENCE,
-    UNION, matches_of,
+    COMPARE, COMPLEMENT, COUNT, DIFFERENCE, FILTER, INTERSECTION, ROUTE, STREAM,
+    SYMMETRIC_DIFFERENCE, UNION, matches_of,
 };
 use crate::entries::{
     OVERLAPS, REDUNDANT, SUPERNET, print_overlaps, print_redundant, print_supernet,
@@ -25,15 +32,16 @@ use crate::map::{MAP, draw_map};
 use crate::origins::{ORIGINS, validate_origins};
 use crate::plan::{PLAN, plan_networks};
 use crate::prefixes::{PREFIX_LIST, judge_networks};
-use crate::reading::session_of;
+use crate::reading::{finish, read_pair, read_set, read_sets, set_reader};
 use crate::rules::{PERMITTED, UNREACHED, print_permitted, print_unreached};
 use crate::shorten::{SHORTEN, shorten_table};
 use crate::texts::{has_text_flag, route_with_text};
 use crate::whole_lines::{LINES, filter_lines};
 use clap::ArgMatches;
-use netset_files::{CLOSED, Ends, Writers, stream_list};
-use netset_forms::FormCommand;
-use netset_lib::{AnswerCommand, Work, run_text};
+use ipnet_sets::IpSet;
+use netset_files::{CLOSED, Ends, Writers, read_answers, read_first, stream_list};
+use netset_forms::{FormCommand, FormRequest};
+use netset_lib::{Answer, Combination, CompareCommand, CountCommand, Query, SetReader, run_text};
 use std::io::{ErrorKind, Write};
 
 /// Runs the program that prints this version of itself, and returns its exit status.
@@ -111,9 +119,11 @@ fn run_command(rt: &HostRuntime, name: &str, matches: &ArgMatches, writers: &mut
     ensures { result ≤ 2 }
 {
     match name {
-        UNION | INTERSECTION | DIFFERENCE | SYMMETRIC_DIFFERENCE | COMPLEMENT | COUNT | COMPARE => {
-            run_call(rt, name, matches, writers)
-        }
+        UNION | INTERSECTION | DIFFERENCE => combine_lists(rt, name, matches, writers),
+        SYMMETRIC_DIFFERENCE => print_symmetric_difference(rt, matches, writers),
+        COMPLEMENT => print_complement(rt, matches, writers),
+        COUNT => count_lists(rt, matches, writers),
+        COMPARE => compare_lists(rt, matches, writers),
         CHANGES => print_changes(rt, matches, writers),
         APPLY => apply_changes(rt, matches, writers),
         EXTRACT => extract_entries(rt, matches, writers),
@@ -147,7 +157,7 @@ fn run_filter(rt: &HostRuntime, matches: &ArgMatches, writers: &mut Writers<'_>)
     if matches.get_flag(LINES) {
         filter_lines(rt, matches, writers)
     } else {
-        run_call(rt, FILTER, matches, writers)
+        run_query(rt, filter_query(matches), matches, writers)
     }
 }
 
@@ -159,67 +169,210 @@ fn run_route(rt: &HostRuntime, matches: &ArgMatches, writers: &mut Writers<'_>) 
     if has_text_flag(matches) {
         route_with_text(rt, matches, writers)
     } else {
-        run_call(rt, ROUTE, matches, writers)
+        run_query(rt, Query::Route, matches, writers)
     }
 }
 
-/// Reads the arguments and the lists, and runs the operation or the query.
+/// Prints what an operation on any number of lists makes of them, and returns the status. The name is the command's.
 #[inline(never)]
-fn run_call(rt: &HostRuntime, name: &str, matches: &ArgMatches, writers: &mut Writers<'_>) -> u8
-    ensures { result ≤ 2 }
-{
-    let call = match call_of(rt.alloc(), name, matches) {
-        Ok(call) => call,
-        Err(failure) => return report_argument_failure(rt, failure),
-    };
-    match call.work {
-        Work::Combine(_) => run_operation(rt, matches, call, writers),
-        Work::Ask(_, _) => run_query(rt, call, writers),
-    }
-}
-
-/// Reads the lists, prints what the operation makes of them, and returns the status.
-#[inline(never)]
-fn run_operation(
+fn combine_lists(
     rt: &HostRuntime,
+    name: &str,
     matches: &ArgMatches,
-    call: Call<'_>,
     writers: &mut Writers<'_>,
 ) -> u8
+    ensures { result ≤ 2 }
+{
+    let names = match list_names(rt.alloc(), matches) {
+        Ok(names) => names,
+        Err(failure) => return report_argument_failure(rt, failure),
+    };
+    let names = names.as_slice();
+    let form = match form_of(rt, matches) {
+        Ok(form) => form,
+        Err(status) => return status,
+    };
+    match read_sets(rt, matches, names, writers) {
+        Ok(sets) => print_set(rt, combination_of(name, sets), form, names, writers),
+        Err(status) => status,
+    }
+}
+
+/// The operation of the command of this name, on these sets.
+fn combination_of(name: &str, sets: Vec<IpSet>) -> Combination
+    ensures union { name.now ≡ codes "union" → result ≡ Union sets }
+    ensures intersection { name.now ≡ codes "intersection" → result ≡ Intersection sets }
+    ensures difference { name.now ≡ codes "difference" → result ≡ Difference sets }
+{
+    match name {
+        "intersection" => Combination::Intersection(sets),
+        "difference" => Combination::Difference(sets),
+        _ => Combination::Union(sets),
+    }
+}
+
+/// Prints the symmetric difference of the lists, and returns the status.
+#[inline(never)]
+fn print_symmetric_difference(
+    rt: &HostRuntime,
+    matches: &ArgMatches,
+    writers: &mut Writers<'_>,
+) -> u8
+    ensures { result ≤ 2 }
+{
+    let names = match two_or_report(rt, matches) {
+        Ok(names) => names.in_order(),
+        Err(status) => return status,
+    };
+    let form = match form_of(rt, matches) {
+        Ok(form) => form,
+        Err(status) => return status,
+    };
+    match read_pair(rt, matches, &names, writers) {
+        Ok((first, second)) => {
+            let combination = Combination::SymmetricDifference(first, second);
+            print_set(rt, combination, form, &names, writers)
+        }
+        Err(status) => status,
+    }
+}
+
+/// Prints the complement of the list, and returns the status.
+#[inline(never)]
+fn print_complement(rt: &HostRuntime, matches: &ArgMatches, writers: &mut Writers<'_>) -> u8
     ensures { result ≤ 2 }
 {
     let form = match form_of(rt, matches) {
         Ok(form) => form,
         Err(status) => return status,
     };
-    let names = call.names.as_slice();
-    match session_of(rt, call.work, names, writers.reports) {
-        Ok(session) => {
-            let (out, faults) = (&mut writers.answer, &mut writers.faults);
-            netset_lib::run(FormCommand { session, form }, names, out, faults)
+    let names = [name_of_list(matches, FIRST)];
+    match read_set(rt, matches, names[0], &names, writers) {
+        Ok(set) => {
+            let combination = Combination::Complement(families_of(matches), set);
+            print_set(rt, combination, form, &names, writers)
         }
         Err(status) => status,
     }
 }
 
-/// Reads the lists, prints the answer to the query, and returns the status.
-#[inline(never)]
-fn run_query(rt: &HostRuntime, call: Call<'_>, writers: &mut Writers<'_>) -> u8
+/// Prints the result of the operation in this form, and returns the status.
+fn print_set(
+    rt: &HostRuntime,
+    combination: Combination,
+    form: FormRequest<'_>,
+    names: &[&str],
+    writers: &mut Writers<'_>,
+) -> u8
     ensures { result ≤ 2 }
 {
-    let work = call.work;
-    let names = call.names.as_slice();
-    match names {
-        [_, name] if call.is_streamed => match session_of(rt, work, &names[..1], writers.reports) {
-            Ok(session) => stream_list(rt, session, names, name, writers),
-            Err(status) => status,
-        },
-        _ => match session_of(rt, work, names, writers.reports) {
-            Ok(session) => {
-                let (out, faults) = (&mut writers.answer, &mut writers.faults);
-                run_text(AnswerCommand { session, names }, names, out, faults)
-            }
-            Err(status) => status,
-        },
+    let command = FormCommand {
+        alloc: rt.alloc(),
+        combination,
+        form,
+    };
+    netset_lib::run(command, names, &mut writers.answer, &mut writers.faults)
+}
+
+/// Prints the number of addresses of each list, and returns the status.
+#[inline(never)]
+fn count_lists(rt: &HostRuntime, matches: &ArgMatches, writers: &mut Writers<'_>) -> u8
+    ensures { result ≤ 2 }
+{
+    let names = match list_names(rt.alloc(), matches) {
+        Ok(names) => names,
+        Err(failure) => return report_argument_failure(rt, failure),
+    };
+    let names = names.as_slice();
+    if let Err(failure) = check_counted(names) {
+        return report_argument_failure(rt, failure);
     }
+    match read_sets(rt, matches, names, writers) {
+        Ok(sets) => {
+            let command = CountCommand {
+                alloc: rt.alloc(),
+                names,
+                sets,
+            };
+            run_text(command, names, &mut writers.answer, &mut writers.faults)
+        }
+        Err(status) => status,
+    }
+}
+
+/// Prints how the two lists differ, and returns the status.
+#[inline(never)]
+fn compare_lists(rt: &HostRuntime, matches: &ArgMatches, writers: &mut Writers<'_>) -> u8
+    ensures { result ≤ 2 }
+{
+    let names = match two_or_report(rt, matches) {
+        Ok(names) => names.in_order(),
+        Err(status) => return status,
+    };
+    match read_pair(rt, matches, &names, writers) {
+        Ok((first, second)) => {
+            let command = CompareCommand {
+                alloc: rt.alloc(),
+                first,
+                second,
+            };
+            run_text(command, &names, &mut writers.answer, &mut writers.faults)
+        }
+        Err(status) => status,
+    }
+}
+
+/// Whether the answers are written while the second list is read.
+fn is_streamed(matches: &ArgMatches) -> bool
+    ensures { IsFlag matches.now (codes "stream") result }
+{
+    is_set(matches, STREAM)
+}
+
+/// The query of `filter`.
+fn filter_query(matches: &ArgMatches) -> Query
+    ensures { (flags : Flags) × AreFlags matches.now flags × (result ≡ Filter (side_of flags.outside)) }
+{
+    Query::Filter(flags_of(matches).side())
+}
+
+/// Reads the lists, prints the answer to the query, and returns the status.
+#[inline(never)]
+fn run_query(rt: &HostRuntime, query: Query, matches: &ArgMatches, writers: &mut Writers<'_>) -> u8
+    ensures { result ≤ 2 }
+{
+    let names = match two_or_report(rt, matches) {
+        Ok(names) => names.in_order(),
+        Err(status) => return status,
+    };
+    let lists = match set_reader(rt, matches) {
+        Ok(lists) => lists,
+        Err(status) => return status,
+    };
+    if is_streamed(matches) {
+        return match read_first(rt, lists, query, names[0], writers.reports) {
+            Ok(stream) => stream_list(rt, stream, &names, names[1], writers),
+            Err(status) => status,
+        };
+    }
+    match read_answer(rt, lists, query, &names, writers) {
+        Ok(answer) => run_text(answer, &names, &mut writers.answer, &mut writers.faults),
+        Err(status) => status,
+    }
+}
+
+/// Reads the two lists of the query, and returns the answer. If that fails, or if lines are refused, it is reported,
+/// and the error is the exit status.
+fn read_answer(
+    rt: &HostRuntime,
+    lists: SetReader,
+    query: Query,
+    names: &[&str; 2],
+    writers: &mut Writers<'_>,
+) -> Result<Answer, u8>
+    ensures { IfErr result (λ status. status ≡ 2) }
+{
+    let (lists, answer) = read_answers(rt, lists, query, names, writers.reports)?;
+    finish(lists, names, writers)?;
+    Ok(answer)
 }

@@ -1,5 +1,5 @@
 //! The bytes of a list, from a file or from standard input.
-ghost use Rattle.std.specs.Prelude.{◌≡◌, ◌↔◌, ◌≤◌, ◌⊎◌, length, take, false, pos, Some, IsTrue, IsErr, IfErr};
+ghost use Rattle.std.specs.Prelude.{◌≡◌, ◌↔◌, ◌≤◌, ◌⊎◌, length, take, false, pos, Some, IsTrue, IsErr, IfErr, IfOk};
 ghost use Rattle.std.specs.Prelude.{IsOkAnd};
 ghost use Rattle.std.specs.Fs.{IsDir, file_type};
 ghost use Rattle.std.specs.IoError.{raw_os_error};
@@ -26,6 +26,18 @@ pub const STANDARD_INPUT: &str = "-";
 pub struct Unread {
     failure: ReadFailure,
     code: Option<i32>,
+}
+
+impl Unread {
+    /// Memory ran out.
+    pub fn of_memory() -> Unread
+        ensures { result.failure ≡ Memory }
+    {
+        Unread {
+            failure: ReadFailure::Memory,
+            code: None,
+        }
+    }
 }
 
 /// The source of a list's bytes.
@@ -126,7 +138,9 @@ fn open_input(rt: &HostRuntime) -> Result<Stdin, Unread> {
 
 /// Opens the list of this name: standard input if it is "-", and otherwise a file.
 #[inline(never)]
-pub fn open_list(rt: &HostRuntime, name: &str) -> Result<Input, Unread> {
+pub fn open_list(rt: &HostRuntime, name: &str) -> Result<Input, Unread>
+    ensures { IfOk result (λ input. input.count ≡ 0) }
+{
     let source = if name == STANDARD_INPUT {
         Source::Standard(open_input(rt)?)
     } else {
@@ -256,7 +270,9 @@ impl Read for Log {
 
 /// Opens the log of this name: standard input if it is "-", and otherwise a file. A folder is refused. A log that
 /// begins like UTF-16 ends at once, and then `is_utf16` is true.
-pub fn open_log(rt: &HostRuntime, name: &str) -> Result<Log, Unread> {
+pub fn open_log(rt: &HostRuntime, name: &str) -> Result<Log, Unread>
+    ensures { IfOk result (λ log. log.seen ≡ 0) }
+{
     let input = open_list(rt, name)?;
     Ok(Log {
         input,

@@ -2,30 +2,8 @@
 ghost use Rattle.std.specs.Prelude.{◌≡◌, IfErr};
 
 use crate::input::report_unread;
-use crate::lists::{ListReader, Reports, read_lists, read_whole};
+use crate::lists::{Reports, read_whole};
 use ipnet_lists::has_lines;
-
-/// Reads the lists of these names, `-` for standard input. If that fails, it is reported, and the error is the exit
-/// status. So it is if a file has no entry, and that is to be refused.
-///
-/// ```text
-/// a session and the names "a", "-": the session has read the file a, and then standard input
-/// there is no file a: "netset: a: cannot be read: No such file or directory (os error 2)" is reported, the error is 2
-/// ```
-pub fn fill<L: ListReader>(
-    rt: &HostRuntime,
-    lists: &mut L,
-    names: &[&str],
-    reports: Reports,
-) -> Result<(), u8>
-    ensures { IfErr result (λ status. status ≡ 2) }
-{
-    match read_lists(rt, lists, names, reports) {
-        Ok(true) => Ok(()),
-        Ok(false) => Err(2),
-        Err((name, unread)) => Err(report_unread(rt, name, &unread)),
-    }
-}
 
 /// Reads the bytes of the list of this name, `-` for standard input. The list may have no line. If that fails, it is
 /// reported, and the error is the exit status.
