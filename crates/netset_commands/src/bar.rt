@@ -303,7 +303,7 @@ pub fn draw_bar(rt: &HostRuntime, matches: &ArgMatches, writers: &mut Writers<'_
     };
     let names = matches.get_strs(FIRST).unwrap_or(&[STANDARD_INPUT]);
     let compares = match are_compared(rt, matches, names) {
-        Ok(compares) => compares,
+        Ok(yes) => yes,
         Err(status) => return status,
     };
     match names {
