@@ -1,8 +1,7 @@
 -- The flags of a command line, the names of its lists, and the operation that it asks for.
-use Rattle.std.specs.Prelude.{◌≡◌, ◌<◌, ◌++◌, ℕ, List, map, codes}
+use Rattle.std.specs.Prelude.{◌≡◌, ◌<◌, ◌++◌, map, codes}
 use Rattle.clap.specs.declared.parser.matches.ArgMatches.{ArgMatches}
 use Rattle.ipnet_lists.specs.Names.{Names}
-use Rattle.ipnet_sets.specs.declared.set.IpSet.{IpSet}
 use Rattle.netset_commands.specs.Arguments.{AreListNames, IsFlag, input_count, list_name, values_of}
 use Rattle.netset_commands.specs.declared.arguments.ArgumentFailure.{ArgumentFailure}
 use Rattle.netset_commands.specs.declared.arguments.ArgumentFailure.TheVariants.{InputTwice, ControlCharacter}

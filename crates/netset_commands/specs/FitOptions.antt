@@ -1,5 +1,5 @@
 -- The options of `fit`: its limits, and its lists.
-use Rattle.std.specs.Prelude.{◌≡◌, ◌≢◌, ◌++◌, ◌∷◌, ◌↔◌, ℕ, List, [], Option, Some, None, codes, IsTrue}
+use Rattle.std.specs.Prelude.{◌≡◌, ◌++◌, ◌∷◌, ℕ, List, [], Option, Some, None, codes}
 use Rattle.std.specs.Prelude.{unwrap_or}
 use Rattle.clap.specs.declared.parser.matches.ArgMatches.{ArgMatches}
 use Rattle.clap.specs.Matches.{found_of, first_value}

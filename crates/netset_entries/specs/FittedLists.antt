@@ -1,8 +1,8 @@
 -- Lists within limits: the networks that contain the addresses of lists, as text, and the addresses that they add.
-use Rattle.std.specs.Prelude.{◌≡◌, ◌*◌, ◌/◌, ◌-◌, ◌^◌, min, ℕ, Bool, true, false, ⊤, List, [], ◌∷◌, ◌++◌, codes}
+use Rattle.std.specs.Prelude.{◌≡◌, ◌*◌, ◌/◌, ◌-◌, ◌^◌, min, ℕ, ⊤, List, ◌++◌, codes}
 use Rattle.std.specs.Prelude.{Option}
 use Rattle.std.specs.Io.KnownBytes.{Appends}
-use Rattle.ipnet_base.specs.Address.{Family, IPv4, IPv6, Address}
+use Rattle.ipnet_base.specs.Address.{IPv4, IPv6, Address}
 use Rattle.ipnet_base.specs.Network.{Network}
 use Rattle.ipnet_sets.specs.Members.{IsCountOf, IsMember}
 use Rattle.ipnet_shortest.specs.Covers.{IsAdded, IsBestCover, HasCoverWithin, IsFewestCover, HasCoverAdding}
