@@ -18,6 +18,7 @@ use crate::table::{ARGUMENT, Argument, Form, Subcommand};
 use clap::ArgMatches;
 use ipnet_bars::Frame;
 use ipnet_routes::RouteTable;
+use ipnet_sets::IpSet;
 use netset_files::{Lists, Reports, STANDARD_INPUT, Writers, bytes_of};
 use netset_lib::{run_text, table_or_report};
 use netset_pictures::{ChangeMapCommand, MapCommand, MapRequest, SetsMapCommand, read_theme};
@@ -235,6 +236,25 @@ fn draw_change(
     Ok(run_text(command, names, &mut writers.answer, &mut writers.faults))
 }
 
+/// Prints the map of the sets, which have these names, and returns the exit status.
+fn print_sets_map(
+    rt: &HostRuntime,
+    sets: Vec<IpSet>,
+    request: MapRequest<'_>,
+    names: &[&str],
+    writers: &mut Writers<'_>,
+) -> u8
+    ensures { result ≤ 2 }
+{
+    let command = SetsMapCommand {
+        alloc: rt.alloc(),
+        sets,
+        request,
+        names,
+    };
+    run_text(command, names, &mut writers.answer, &mut writers.faults)
+}
+
 /// Reads the lists of these names, prints the map of all, and returns the exit status.
 fn draw_sets(
     rt: &HostRuntime,
@@ -249,13 +269,8 @@ fn draw_sets(
     let lists = noted_lists(rt, matches, request.frame, writers.reports)?;
     let (lists, sets) = lists.read_all(rt, names)?;
     let entries = end_noted(rt, lists, names, writers)?;
-    let command = SetsMapCommand {
-        alloc: rt.alloc(),
-        sets,
-        request: with_entries(request, &entries),
-        names,
-    };
-    Ok(run_text(command, names, &mut writers.answer, &mut writers.faults))
+    let request = with_entries(request, &entries);
+    Ok(print_sets_map(rt, sets, request, names, writers))
 }
 
 /// Reads the lists of these names, prints the map, and returns the exit status.
