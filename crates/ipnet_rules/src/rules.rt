@@ -33,6 +33,8 @@ pub enum Addresses {
     Range(IpAddr, IpAddr),
     /// The addresses of the set.
     Set(IpSet),
+    /// Every address, of both families.
+    Any,
 }
 
 /// An action, and the addresses that it is for.
@@ -81,6 +83,7 @@ impl Addresses {
             Addresses::Network(network) => network.contains(ip),
             Addresses::Range(first, last) => is_from_to(first, last, ip),
             Addresses::Set(set) => set.contains(ip),
+            Addresses::Any => true,
         }
     }
 
@@ -96,6 +99,7 @@ impl Addresses {
             Addresses::Network(network) => block_set(alloc, network),
             Addresses::Range(first, last) => IpSet::from_range(alloc, *first, *last),
             Addresses::Set(set) => set.clone(),
+            Addresses::Any => IpSet::new(alloc).complement(alloc),
         }
     }
 }
