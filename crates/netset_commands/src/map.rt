@@ -177,7 +177,9 @@ fn end_noted(
 }
 
 /// The request with these entries.
-fn with_entries<'a>(request: MapRequest<'a>, entries: &'a TitledEntries) -> MapRequest<'a> {
+fn with_entries<'a>(request: MapRequest<'a>, entries: &'a TitledEntries) -> MapRequest<'a>
+    ensures { result.frame ≡ request.frame }
+{
     let MapRequest { frame, look } = request;
     let look = Look {
         theme: look.theme,
