@@ -2,12 +2,15 @@
 ghost use Rattle.std.specs.Prelude.{◌≡◌, ◌↔◌, List, ℕ, IsTrue, IfOk, OnOk, Any};
 ghost use Rattle.ipnet.specs.Lines.{lines_of};
 ghost use Rattle.ipnet_lists.specs.ContentLines as lists;
-ghost use Rattle.ipnet_lists.specs.ContentLines.{IsSomeLine, IsTaken, IsTakenList, AddsTaken};
+ghost use Rattle.ipnet_lists.specs.ContentLines.{IsSomeLine, IsTaken, IsTakenList, AddsTaken, refused_line};
 ghost use Rattle.ipnet_lists.specs.ContentLineOf.{line_of};
+ghost use Rattle.ipnet_lists.specs.Entries.{HasReturn};
 ghost use Rattle.ipnet_lists.specs.Lists.{after_mark};
 ghost use Rattle.ipnet_lists.specs.RefusedLines.{AreRefused};
+ghost use Rattle.ipnet_lists.specs.RefusedParts.{refusal_in};
 ghost use Rattle.ipnet_lists.specs.declared.content_line.ListFailure.TheVariants.{Memory};
 
+use crate::cause_bytes::has_byte;
 use crate::comment::contents_of;
 use crate::mark::skip_mark;
 use crate::number::next_number;
@@ -36,6 +39,11 @@ pub trait LineHandler<'a, M, C> {
 
     /// Why a line with these contents is refused.
     ghost is_cause: { Self → List ℕ → C → Type 0 };
+
+    /// Returns why a line with a carriage return in its contents is refused.
+    fn refuse_broken(&self, text: &[u8]) -> C
+        requires { HasReturn text.now }
+        ensures { is_cause self.now text.now result };
 
     /// Takes the line, or returns why it is refused. Fails if memory runs out.
     fn take(&self, made: &mut M, line: ContentLine<'a>) -> Result<Result<(), C>, AllocError>
@@ -79,8 +87,20 @@ pub fn has_lines(bytes: &[u8]) -> bool
     false
 }
 
-/// Hands the line over, unless it is empty, and keeps it if it is refused. Fails if memory runs out, or if there are
-/// more lines than a `usize` counts.
+/// The line, refused for this cause.
+fn refused_part<'a, C>(line: ContentLine<'a>, cause: C) -> RefusedPart<'a, C>
+    ensures { refusal_in result ≡ refused_line (line_of line.entry) cause }
+{
+    RefusedPart {
+        list: 0,
+        number: line.number,
+        text: line.text,
+        cause,
+    }
+}
+
+/// Hands the line over, unless it is empty or has a carriage return in its contents, and keeps it if it is refused.
+/// Fails if memory runs out, or if there are more lines than a `usize` counts.
 fn take_line<'a, M, C: Drop, H: LineHandler<'a, M, C>>(
     alloc: Global,
     handler: &H,
@@ -94,22 +114,19 @@ fn take_line<'a, M, C: Drop, H: LineHandler<'a, M, C>>(
     if line.text.is_empty() {
         return Ok(());
     }
+    if has_byte(line.text, b'\r') {
+        let cause = handler.refuse_broken(line.text);
+        return refused.push(alloc, refused_part(line, cause));
+    }
     match handler.take(made, line)? {
         Ok(()) => Ok(()),
-        Err(cause) => {
-            let part = RefusedPart {
-                list: 0,
-                number: line.number,
-                text: line.text,
-                cause,
-            };
-            refused.push(alloc, part)
-        }
+        Err(cause) => refused.push(alloc, refused_part(line, cause)),
     }
 }
 
 /// Hands over the lines of the bytes that are not empty, without comments and blanks around their contents, and returns
-/// the refused lines. A byte order mark at the start is skipped. Fails if memory runs out.
+/// the refused lines. A line with a carriage return between other bytes than blanks is refused. A byte order mark at
+/// the start is skipped. Fails if memory runs out.
 ///
 /// ```text
 /// "10.0.0.0/8 # ours\n\n::1\n": line 1, "10.0.0.0/8", and line 3, "::1"
