@@ -1,5 +1,5 @@
 -- Whether a byte is among the bytes of a text.
-use Rattle.std.proofs.Common.{◌≡◌, ◌≢◌, ℕ, ◌==◌, Bool, true, false, List, All, length, get_or}
+use Rattle.std.proofs.Common.{◌≡◌, ◌≢◌, ℕ, ◌==◌, true, false, List, All, length, get_or}
 use Rattle.std.proofs.Common.{sym, ap, ◌∙◌, arith, ne_eqb}
 use Rattle.std.specs.Char.{is_ascii_whitespace}
 use Rattle.std.specs.List.{list_any}

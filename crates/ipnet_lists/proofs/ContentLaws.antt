@@ -6,9 +6,9 @@ use Rattle.ipnet.specs.Lines.{lines_of}
 use Rattle.ipnet_sets.proofs.SetRangeLaws.{any_cases, any_there}
 use Rattle.ipnet_lists.specs.declared.refused.Refusals.{Refusals}
 use Rattle.ipnet_lists.specs.ContentLines.{ContentLine, IsSomeLine, AreItems, IsItemList, AreTaken}
-use Rattle.ipnet_lists.specs.ContentLines.{IsTakenList, AddsTaken, TakesUnbroken}
+use Rattle.ipnet_lists.specs.ContentLines.{IsTakenList, AddsTaken, TakesUnbroken, refused_line}
 use Rattle.ipnet_lists.specs.Lists.{IsContents, AreContents, RefusalFor}
-use Rattle.ipnet_lists.specs.RefusedLines.{AreRefused}
+use Rattle.ipnet_lists.specs.RefusedLines.{AreRefused, HasMore}
 use Rattle.ipnet_lists.proofs.OneReading.{one_contents}
 use Rattle.ipnet_lists.proofs.RefusalLaws.{HasMore-nil, more_refused}
 
@@ -44,6 +44,24 @@ module _ {M C : Type 0} (Takes : ContentLine → M → M → Type 0) (IsCause : 
       → TakesUnbroken Takes line old new → AddsTaken Takes IsCause line old new refused refused
   adds_taken line old new refused some takes =
       ([], some_taken line.number line.text old new some takes, HasMore-nil refused refused.few)
+
+  some_refused : (number : ℕ) (text : List ℕ) (made : M) (cause : C) → 0 < length text → IsCause text cause
+      → AreTaken Takes IsCause number (text ∷ []) made made
+      (refused_line (record { number = number; text = text }) cause ∷ [])
+  some_refused number [] made cause some is = absurd (omega (arith, some))
+  some_refused number (b ∷ text) made cause some is =
+      inr ([], record { cause = cause; reported = is; next = refl }, (refl, refl))
+
+  pub adds_refused : (line : ContentLine) (old new : M) (cause : C) (refused refused_after : Refusals C)
+      → 0 < length line.text → IsCause line.text cause → new ≡ old
+      → HasMore refused refused_after (refused_line line cause ∷ [])
+      → AddsTaken Takes IsCause line old new refused refused_after
+  adds_refused line old new cause refused refused_after some is same more = (
+    refused_line line cause ∷ [],
+    subst (λ z. AreTaken Takes IsCause line.number (line.text ∷ []) old z (refused_line line cause ∷ [])) (sym same)
+        (some_refused line.number line.text old cause some is),
+    more,
+  )
 
   -- the line and those after it
   taken_cons : (number : ℕ) (text : List ℕ) (texts : List (List ℕ)) (old mid new : M)

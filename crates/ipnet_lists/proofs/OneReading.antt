@@ -1,6 +1,6 @@
 -- A list can be read in only one way.
 use Rattle.std.proofs.Common.{◌≡◌, ◌≢◌, ℕ, ◌+◌, ◌<◌, List, [], ◌∷◌, ◌++◌, All, refl, sym, ap, ◌∙◌, subst}
-use Rattle.std.proofs.Common.{arith, inl, inr, append_assoc, take, drop, Option, ◌⊎◌, ap₂}
+use Rattle.std.proofs.Common.{arith, inl, inr, append_assoc, take, Option, ◌⊎◌, ap₂}
 use Rattle.std.proofs.lemmas.Bool.{cases_order}
 use Rattle.std.specs.Char.{digit_value}
 use Rattle.std.specs.Str.Parse.{AllDigits}

@@ -2,7 +2,7 @@
 use Rattle.std.proofs.Common.{◌≡◌, ◌≢◌, ℕ, ◌+◌, ◌-◌, ◌<◌, Bool, true, false, List, [], ◌∷◌, ◌++◌, All, length, get_or}
 use Rattle.std.proofs.Common.{take}
 use Rattle.std.proofs.Common.{drop, refl, sym, ap, ◌∙◌, subst, arith, inl, inr, append_assoc, take_all, add-one}
-use Rattle.std.proofs.Common.{length-drop, length-take-le, get_or-take}
+use Rattle.std.proofs.Common.{length-take-le, get_or-take}
 use Rattle.std.specs.Char.{is_ascii_whitespace}
 use Rattle.std.specs.List.{prefix_len, suffix_len}
 use Rattle.std.proofs.lemmas.List.Elements.{All-append, All-cons, All-weaker, All-get_or}
@@ -11,7 +11,6 @@ use Rattle.ipnet.specs.declared.parser.Grammar.{Grammar}
 use Rattle.ipnet.specs.Lines.{lines_of}
 use Rattle.ipnet.proofs.LineLaws.{lines_at}
 use Rattle.ipnet_text.proofs.FrontTexts.{rest_from, rest_is}
-use Rattle.ipnet_text.proofs.LineCuts.{empty_text}
 use Rattle.ipnet_lists.specs.Entries.{IsEntryText, IsEntryWord}
 use Rattle.ipnet_lists.specs.Comments.{Opens}
 use Rattle.ipnet_lists.specs.Lists.{without_blanks, IsContents}

@@ -35,6 +35,12 @@ pub record IsNextItem {T : Type 0} (Is : ContentLine → T → Type 0) (line : C
   pub is : Is line item
   pub next : items ≡ item ∷ more
 
+-- Why a line with these contents is refused: for `broken` if a carriage return is in them, and else for a cause that is
+-- true of them. Example: for `7\r7`, `broken`.
+abbrev pub OrBroken : {C : Type 0} → C → (List ℕ → C → Type 0) → List ℕ → C → Type 0
+OrBroken broken IsCause text cause =
+    (HasReturn text × (cause ≡ broken)) ⊎ ((¬ (HasReturn text)) × IsCause text cause)
+
 -- Lines with these contents, the first with this number, are items or are refused. These are the items and the refused
 -- lines, in order. Empty lines are skipped.
 abbrev pub AreItems : {T C : Type 0} → (ContentLine → T → Type 0) → (List ℕ → C → Type 0) → ℕ → List (List ℕ) → List T

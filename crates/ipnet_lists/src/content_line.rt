@@ -2,9 +2,8 @@
 ghost use Rattle.std.specs.Prelude.{◌≡◌, ◌↔◌, List, ℕ, IsTrue, IfOk, OnOk, Any};
 ghost use Rattle.ipnet.specs.Lines.{lines_of};
 ghost use Rattle.ipnet_lists.specs.ContentLines as lists;
-ghost use Rattle.ipnet_lists.specs.ContentLines.{IsSomeLine, IsTaken, IsTakenList, AddsTaken, refused_line};
+ghost use Rattle.ipnet_lists.specs.ContentLines.{IsSomeLine, IsTaken, IsTakenList, AddsTaken, OrBroken, refused_line};
 ghost use Rattle.ipnet_lists.specs.ContentLineOf.{line_of};
-ghost use Rattle.ipnet_lists.specs.Entries.{HasReturn};
 ghost use Rattle.ipnet_lists.specs.Lists.{after_mark};
 ghost use Rattle.ipnet_lists.specs.RefusedLines.{AreRefused};
 ghost use Rattle.ipnet_lists.specs.RefusedParts.{refusal_in};
@@ -37,13 +36,15 @@ pub trait LineHandler<'a, M, C> {
     /// The line makes the second value of the first.
     ghost takes: { Self → lists.ContentLine → M → M → Type 0 };
 
-    /// Why a line with these contents is refused.
+    /// Why a line with these contents, without a carriage return in them, is refused.
     ghost is_cause: { Self → List ℕ → C → Type 0 };
 
+    /// Why a line with a carriage return in its contents is refused.
+    ghost broken: { Self → C };
+
     /// Returns why a line with a carriage return in its contents is refused.
-    fn refuse_broken(&self, text: &[u8]) -> C
-        requires { HasReturn text.now }
-        ensures { is_cause self.now text.now result };
+    fn refuse_broken(&self) -> C
+        ensures { result ≡ broken self.now };
 
     /// Takes the line, or returns why it is refused. Fails if memory runs out.
     fn take(&self, made: &mut M, line: ContentLine<'a>) -> Result<Result<(), C>, AllocError>
@@ -108,14 +109,14 @@ fn take_line<'a, M, C: Drop, H: LineHandler<'a, M, C>>(
     refused: &mut Refusals<C>,
     line: ContentLine<'a>,
 ) -> Result<(), AllocError>
-    ensures { OnOk result (AddsTaken (H.takes handler.now) (H.is_cause handler.now) (line_of line.entry) made.old
-        made.new refused.old refused.new) }
+    ensures { OnOk result (AddsTaken (H.takes handler.now) (OrBroken (H.broken handler.now) (H.is_cause handler.now))
+        (line_of line.entry) made.old made.new refused.old refused.new) }
 {
     if line.text.is_empty() {
         return Ok(());
     }
     if has_byte(line.text, b'\r') {
-        let cause = handler.refuse_broken(line.text);
+        let cause = handler.refuse_broken();
         return refused.push(alloc, refused_part(line, cause));
     }
     match handler.take(made, line)? {
@@ -138,7 +139,8 @@ pub fn read_lines<'a, M, C: Drop, H: LineHandler<'a, M, C>>(
     made: &mut M,
 ) -> Result<Refusals<C>, AllocError>
     ensures { IfOk result (λ refused. (refusals : _)
-        × IsTakenList (H.takes handler.now) (H.is_cause handler.now) bytes.now made.old made.new refusals
+        × IsTakenList (H.takes handler.now) (OrBroken (H.broken handler.now) (H.is_cause handler.now)) bytes.now made.old
+        made.new refusals
         × AreRefused refused refusals) }
 {
     let mut refused = Refusals::new(alloc);
