@@ -37,6 +37,14 @@ impl<'a> LineHandler<'a, Vec<EntryLine<'a>>, NotEntry> for EntryReader {
 
     ghost is_cause = { λ h. IsRefusedFor h.grammar };
 
+    ghost broken = { λ h. record { grammar = h.grammar } };
+
+    fn refuse_broken(&self) -> NotEntry {
+        NotEntry {
+            grammar: self.grammar,
+        }
+    }
+
     fn take(
         &self,
         made: &mut Vec<EntryLine<'a>>,

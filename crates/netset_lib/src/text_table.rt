@@ -43,6 +43,14 @@ impl<'a> LineHandler<'a, Vec<(IpNet, &'a str)>, NotTextLine> for TableLines {
 
     ghost is_cause = { λ h. IsNoTextLine h.grammar };
 
+    ghost broken = { λ h. record { grammar = h.grammar } };
+
+    fn refuse_broken(&self) -> NotTextLine {
+        NotTextLine {
+            grammar: self.grammar,
+        }
+    }
+
     fn take(
         &self,
         made: &mut Vec<(IpNet, &'a str)>,

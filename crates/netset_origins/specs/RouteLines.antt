@@ -5,7 +5,9 @@ use Rattle.std.specs.Char.{is_ascii_digit, is_ascii_whitespace}
 use Rattle.std.specs.List.{list_all}
 use Rattle.ipnet_base.specs.Network.{Network}
 use Rattle.ipnet.specs.declared.parser.Grammar.{Grammar}
-use Rattle.ipnet_lists.specs.ContentLines.{IsItemList}
+use Rattle.ipnet_lists.specs.declared.cause.Cause.TheVariants.{CarriageReturn}
+use Rattle.ipnet_lists.specs.ContentLines.{IsItemList, OrBroken}
+use Rattle.netset_lib.specs.declared.network_entry.ArgumentCause.TheVariants.{NoEntry}
 use Rattle.ipnet_lists.specs.Entries.{IsNetworkOrMasked}
 use Rattle.ipnet_lists.specs.Lists.{RefusalFor}
 use Rattle.ipnet_lists.specs.Words.{leading_word, after_word}
@@ -67,7 +69,12 @@ IsRouteCause grammar text (NoNetwork cause) = IsArgumentCause grammar (network_p
 IsRouteCause grammar text NoOrigin =
     HasNetwork grammar text × ((origin : Option ℕ) → ¬ (IsOrigin (origin_part text) origin))
 
+-- Why a line of a list of routes is refused: it has a carriage return in it, or it is not a route.
+-- Example: `192.0.2.0/24 64496 # a\r::/0 64496`; `192.0.2.0/24 x`.
+abbrev pub IsRouteLineCause : Grammar → List ℕ → RouteCause → Type 0
+IsRouteLineCause grammar = OrBroken (NoNetwork (NoEntry (Some CarriageReturn))) (IsRouteCause grammar)
+
 -- The bytes are a list of routes: each line is a route, or is refused. Blanks, comments and a byte order mark are as in
 -- lists of entries. Example: of `192.0.2.0/24 64496\n192.0.2.0 64496\n`, line 2 is refused.
 abbrev pub IsRouteList : Grammar → List ℕ → List ListRoute → List (RefusalFor RouteCause) → Type 0
-IsRouteList grammar = IsItemList (λ line. IsRouteText grammar line.text) (IsRouteCause grammar)
+IsRouteList grammar = IsItemList (λ line. IsRouteText grammar line.text) (IsRouteLineCause grammar)
