@@ -9,7 +9,7 @@ use crate::arguments::{flags_of, is_set, two_or_report};
 use crate::reading::read_set;
 use crate::table::{ARGUMENT, Argument, Form};
 use clap::ArgMatches;
-use netset_files::{Writers, open_log, report_unread};
+use netset_files::{Writers, open_log, report_output, report_unread};
 use netset_lib::Failure;
 use netset_lib::runs::end_with;
 use netset_words::{LineFilter, LinesRequest, run_lines};
@@ -96,8 +96,10 @@ fn filter_named(
 ) -> u8
     ensures { result ≤ 2 }
 {
+    let is_standard = writers.answer.is_standard();
     let (out, faults) = (&mut writers.answer, &mut writers.faults);
     match open_log(rt, log) {
+        Ok(input) if is_standard && input.is_output(rt) => report_output(rt, log),
         Ok(mut input) => {
             let status = run_lines(filter, names, &mut input, out, faults);
             if !input.is_utf16() {

@@ -20,13 +20,17 @@ pub record IsEntryOfLine (grammar : Grammar) (line : ContentLine) (entry : Numbe
   pub text : entry.text ≡ line.text
   pub writes : IsEntryText grammar line.text entry.range
 
+-- The cause of a line that is not an entry of this grammar.
+abbrev pub not_entry : Grammar → NotEntry
+not_entry grammar = record { grammar = grammar }
+
 -- The text is not an entry. It and the grammar decide which cause can be named (`IsReportedCause`).
 abbrev pub IsRefusedFor : Grammar → List ℕ → NotEntry → Type 0
-IsRefusedFor grammar text cause = IsNoEntry grammar text × (cause ≡ record { grammar = grammar })
+IsRefusedFor grammar text cause = IsNoEntry grammar text × (cause ≡ not_entry grammar)
 
 -- Why a line is refused: it has a carriage return in it, or it is not an entry. An entry has no carriage return.
 abbrev pub IsEntryLineCause : Grammar → List ℕ → NotEntry → Type 0
-IsEntryLineCause grammar = OrBroken (record { grammar = grammar }) (IsRefusedFor grammar)
+IsEntryLineCause grammar = OrBroken (not_entry grammar) (IsRefusedFor grammar)
 
 -- The bytes are a list with these entries and refused lines.
 -- Example: `10.0.0.1\n\nx # y\n` has one entry, on line 1, and line 3, `x`, is refused.

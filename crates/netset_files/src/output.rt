@@ -52,6 +52,8 @@ enum Destination<'a> {
 pub struct AnswerWriter<'a> {
     destination: Destination<'a>,
     is_published: bool,
+    /// Whether the command has no answer, so that the file stays as it is.
+    is_withheld: bool,
     ends: &'a Ends,
 }
 
@@ -62,6 +64,11 @@ impl AnswerWriter<'_> {
             Destination::Standard(out) => out.is_terminal(),
             Destination::File(_) => false,
         }
+    }
+
+    /// Returns whether the answer is written to standard output.
+    pub fn is_standard(&self) -> bool {
+        matches!(&self.destination, Destination::Standard(_))
     }
 
     /// Notes that a write failed: that the reader of standard output has closed it, or reports that the file cannot be
@@ -179,6 +186,7 @@ impl<'a> Writers<'a> {
         let answer = AnswerWriter {
             destination,
             is_published: false,
+            is_withheld: false,
             ends,
         };
         let err = rt.stderr();
@@ -189,8 +197,19 @@ impl<'a> Writers<'a> {
         })
     }
 
+    /// Notes that the command has no answer if it ends with status 1, and returns the status. Then the file stays as it
+    /// is.
+    pub fn without_answer_at_1(&mut self, status: u8) -> u8
+        ensures { result ≡ status }
+    {
+        if status == 1 {
+            self.answer.is_withheld = true;
+        }
+        status
+    }
+
     /// Ends a command with this status, and returns the exit status of the program. The file is replaced at status 0
-    /// or 1; otherwise it stays as it is.
+    /// or 1, if the command has an answer; otherwise it stays as it is.
     #[inline(never)]
     pub fn end(self, status: u8) -> u8
         ensures { status ≤ 2 → IsExitStatus result }
@@ -200,7 +219,11 @@ impl<'a> Writers<'a> {
             mut faults,
             ..
         } = self;
-        let status = finish(status, &mut answer, &mut faults);
+        let status = if answer.is_withheld {
+            status
+        } else {
+            finish(status, &mut answer, &mut faults)
+        };
         if let Destination::File(file) = &answer.destination {
             if !answer.is_published {
                 file.discard();

@@ -1,5 +1,6 @@
 -- Why a table with texts has no answers to the entries of a list.
 use Rattle.std.specs.Prelude.{ℕ, List, [], ◌∷◌, Option}
+use Rattle.std.specs.Borrow.{Bor}
 use Rattle.ipnet.specs.declared.parser.Grammar.{Grammar}
 use Rattle.netset_lib.specs.declared.text_route.TextFailure.{TextFailure}
 use Rattle.netset_lib.specs.declared.text_route.TextFailure.TheVariants as Failures
@@ -24,7 +25,8 @@ IsTextFailure grammar table list Failures.Memory = Unit {0}
 -- perhaps all. The table has this name.
 -- Example: for the bytes `10.0.0.0/33 x\n` and the name `a`,
 -- `a:1: not an entry, with or without text: 10.0.0.0/33 x (the prefix length is above 32)`.
-abbrev pub IsTableReported : Grammar → (bytes name : List ℕ) → Option (List ℕ) → Option (List ℕ) → Type 0
+abbrev pub IsTableReported : Grammar → (bytes : List ℕ) → (name : Bor (List ℕ)) → Option (List ℕ) → Option (List ℕ)
+    → Type 0
 IsTableReported grammar bytes name held held_after = (failure : TextFailure)
     × ((list : List ℕ) → IsTextFailure grammar bytes list failure)
     × IsFrontWritten (IsRouteBegun failure (name ∷ [])) held held_after

@@ -69,15 +69,19 @@ IsTextCause grammar contents cause =
     (IsRefusedWhole grammar contents × IsReportedCause grammar contents cause)
     ⊎ ((¬ (IsRefusedWhole grammar contents)) × IsReportedCause grammar (leading_word contents) cause)
 
+-- The cause of a line that is refused in this grammar.
+abbrev pub not_text_line : Grammar → NotTextLine
+not_text_line grammar = record { grammar = grammar }
+
 -- The contents are not such a line. They and the grammar decide which cause can be named (`IsTextCause`).
 abbrev pub IsNoTextLine : Grammar → List ℕ → NotTextLine → Type 0
 IsNoTextLine grammar contents cause =
-    ((line : TextLine) → ¬ (IsTextLine grammar contents line)) × (cause ≡ record { grammar = grammar })
+    ((line : TextLine) → ¬ (IsTextLine grammar contents line)) × (cause ≡ not_text_line grammar)
 
 -- Why a line of a table is refused: it has a carriage return in it, or its contents are not such a line.
 -- Example: `10.0.0.0/8 eth0\r::/0 eth1`; `10.0.0.0/33 eth0`.
 abbrev pub IsTextLineCause : Grammar → List ℕ → NotTextLine → Type 0
-IsTextLineCause grammar = OrBroken (record { grammar = grammar }) (IsNoTextLine grammar)
+IsTextLineCause grammar = OrBroken (not_text_line grammar) (IsNoTextLine grammar)
 
 -- The bytes are a table: each line is an entry with or without a text, or is refused. Blanks, comments and a byte order
 -- mark are as in lists of entries.

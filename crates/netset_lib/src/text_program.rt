@@ -115,7 +115,7 @@ pub fn table_or_report<'a, X: Write>(
     ensures table { IfSome result (IsTableOfTexts grammar bytes.now) }
     ensures faultless { IfSome result (λ _. Keeps (X.contents faults.old) (X.contents faults.new)) }
     ensures reported { IsNone result
-        → IsTableReported grammar bytes.now name.now (X.contents faults.old) (X.contents faults.new) }
+        → IsTableReported grammar bytes.now name.entry (X.contents faults.old) (X.contents faults.new) }
 {
     match table_of_texts(alloc, bytes, grammar) {
         Ok(table) => Some(table),

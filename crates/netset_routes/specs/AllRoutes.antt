@@ -72,7 +72,8 @@ IsEntryListFailure grammar bytes Failures.Memory = Unit {0}
 -- The list has this name.
 -- Example: for the bytes `10.0.0.0/33\n` and the name `a`,
 -- `a:1: not a network, an address or a range: 10.0.0.0/33 (the prefix length is above 32)`.
-abbrev pub IsEntriesReported : Grammar → (bytes name : List ℕ) → Option (List ℕ) → Option (List ℕ) → Type 0
+abbrev pub IsEntriesReported : Grammar → (bytes : List ℕ) → (name : Bor (List ℕ)) → Option (List ℕ)
+    → Option (List ℕ) → Type 0
 IsEntriesReported grammar bytes name held held_after = (failure : ListFailure NotEntry)
     × IsEntryListFailure grammar bytes failure
     × IsFrontWritten (IsListBegun ExplainsEntry failure (name ∷ [])) held held_after

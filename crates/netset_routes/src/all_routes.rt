@@ -268,8 +268,8 @@ pub fn plain_table_or_report<'a, X: Write>(
     ensures table { IfSome result (IsTableOfTexts grammar bytes.now) }
     ensures faultless { IfSome result (λ _. Keeps (X.contents faults.old) (X.contents faults.new)) }
     ensures reported { IsNone result
-        → IsEntriesReported grammar bytes.now name.now (X.contents faults.old) (X.contents faults.new)
-        ⊎ IsTableReported grammar bytes.now name.now (X.contents faults.old) (X.contents faults.new) }
+        → IsEntriesReported grammar bytes.now name.entry (X.contents faults.old) (X.contents faults.new)
+        ⊎ IsTableReported grammar bytes.now name.entry (X.contents faults.old) (X.contents faults.new) }
 {
     match check_entries(alloc, bytes, grammar) {
         Ok(()) => table_or_report(alloc, bytes, grammar, name, faults),

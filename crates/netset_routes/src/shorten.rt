@@ -114,7 +114,7 @@ impl<'a> ShortenRequest<'a> {
         ensures never_one { result ≢ 1 }
         ensures faultless { result ≡ 0 → Keeps (X.contents faults.old) (X.contents faults.new) }
         ensures reported { result ≡ 2 → (Keeps (W.contents out.old) (W.contents out.new)
-            × IsTableReported self.now.grammar self.now.bytes.now self.now.name.now (X.contents faults.old)
+            × IsTableReported self.now.grammar self.now.bytes.now self.now.name (X.contents faults.old)
             (X.contents faults.new))
             ⊎ ((Keeps (W.contents out.old) (W.contents out.new)
             × IsFrontWritten (λ t. t ≡ memory_line) (X.contents faults.old) (X.contents faults.new))
