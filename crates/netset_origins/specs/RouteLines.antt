@@ -2,7 +2,7 @@
 -- that announced the network, or a set of AS numbers in braces.
 use Rattle.std.specs.Prelude.{◌≡◌, ◌||◌, ◌==◌, ℕ, Bool, true, List, [], ◌∷◌, ◌++◌, codes, Option, Some, None}
 use Rattle.std.specs.Char.{is_ascii_digit, is_ascii_whitespace}
-use Rattle.std.specs.List.{list_all}
+use Rattle.std.specs.List.{list_all, list_any}
 use Rattle.ipnet_base.specs.Network.{Network}
 use Rattle.ipnet.specs.declared.parser.Grammar.{Grammar}
 use Rattle.ipnet_lists.specs.declared.cause.Cause.TheVariants.{CarriageReturn}
@@ -27,9 +27,11 @@ pub record ListRoute : Type 0 where
 abbrev pub is_set_byte : ℕ → Bool
 is_set_byte b = is_ascii_digit b || (b == 44 || is_ascii_whitespace b)
 
--- The text is a set of AS numbers: braces around digits, commas and blanks. Example: `{64496,64497}`.
+-- The text is a set of AS numbers: braces around digits, commas and blanks, with at least one digit.
+-- Example: `{64496,64497}`; not `{}` or `{,}`.
 abbrev pub IsAsSet : List ℕ → Type 0
 IsAsSet text = (inner : List ℕ) × (text ≡ codes "{" ++ inner ++ codes "}") × (list_all is_set_byte inner ≡ true)
+    × (list_any is_ascii_digit inner ≡ true)
 
 -- The text is this origin. Example: `AS64496` is 64496, and `{64496,64497}` is `None`.
 abbrev pub IsOrigin : List ℕ → Option ℕ → Type 0
