@@ -24,7 +24,7 @@ no_byte c text none =
 -- ---- carriage returns
 
 -- no byte of the text is one
-pub no_return : (text : List ℕ) → All (λ b. b ≢ 13) text → ¬ (HasReturn text)
+no_return : (text : List ℕ) → All (λ b. b ≢ 13) text → ¬ (HasReturn text)
 no_return text h has =
     let none : list_any (λ b. b == 13) text ≡ false =
     list_any_none (λ b. b == 13) text

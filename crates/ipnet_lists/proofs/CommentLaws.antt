@@ -10,7 +10,7 @@ use Rattle.ipnet_base.proofs.ResultLaws.{false_gives}
 use Rattle.ipnet_text.proofs.LineCuts.{empty_text}
 use Rattle.ipnet_lists.specs.Comments.{IsCommentAt, Opens, BeginsWithEntry, BeginsWithRule, HidesEntry, comment_text}
 use Rattle.ipnet_lists.specs.Entries.{HasReturn}
-use Rattle.ipnet_lists.specs.Lists.{IsBroken, IsContents, without_blanks}
+use Rattle.ipnet_lists.specs.Lists.{IsContents, IsUndivided, without_blanks}
 use Rattle.ipnet_lists.specs.Words.{after_leading, ends_word, from_word}
 
 -- no comment begins at one index more
@@ -101,6 +101,10 @@ begins_so comment text entry rule some semicolon is first none second = (
   ],
 )
 
+-- nothing is behind all of a line
+behind_all : (line : List ℕ) → drop (length line) line ≡ []
+behind_all line = empty_text (drop (length line) line) (omega (arith, length-drop (length line) line))
+
 -- a line without a comment contains all that it is
 pub whole_contents : (line whole : List ℕ) → IsCommentAt line (length line) → whole ≡ without_blanks line
     → IsContents line whole
@@ -115,14 +119,16 @@ whole_contents line whole comment is = of (list_any (λ b. b == 13) (without_bla
         is ∙ ap without_blanks (sym (take_all (length line) line (omega arith))),
         λ undivided. elim undivided [
           | inl broken ↦ absurd (let clash : true ≡ false = sym broken ∙ e in cc)
-          | inr hides ↦ hides.1.some (empty_text (drop (length line) line) (omega (arith, length-drop (length line) line)))
+          | inr hides ↦ hides.1.some (behind_all line)
         ],
       );
     }
 
--- a line is not broken if the text without blanks at its ends has no carriage return
-pub not_broken : (line whole : List ℕ) (has : Bool) → whole ≡ without_blanks line
-    → has ≡ list_any (λ b. b == 13) whole → has ≡ false → ¬ (IsBroken line)
-not_broken line whole has is same none broken =
+-- a line is divided at its comment if it has no carriage return between other bytes, and its comment hides no entry
+pub divided : (line whole : List ℕ) (start : ℕ) (has : Bool) → whole ≡ without_blanks line
+    → has ≡ list_any (λ b. b == 13) whole → has ≡ false
+    → ¬ ((without_blanks (take start line) ≢ []) × HidesEntry (drop start line)) → ¬ (IsUndivided line start)
+divided line whole start has is same none shown (inl broken) =
     let clash : true ≡ false = sym (subst HasReturn (sym is) broken) ∙ sym same ∙ none in
     absurd cc
+divided line whole start has is same none shown (inr hides) = shown hides

@@ -18,7 +18,8 @@ use Rattle.ipnet_lists.specs.declared.entry.Entry.TheVariants as Entries
 use Rattle.ipnet_lists.specs.EntryOf.{IsWrittenAs}
 use Rattle.ipnet_lists.specs.EntrySteps.{HasEnds}
 use Rattle.ipnet_lists.specs.Entries.{IsAddressText, IsMaskedBy, IsNetworkOrMasked, IsPlainEntry, IsRangeFrom}
-use Rattle.ipnet_lists.specs.Entries.{HasReturn, IsEntryText, ReadsAs, WriteMasked, WriteRange, after_blanks, before_blanks}
+use Rattle.ipnet_lists.specs.Entries.{HasReturn, IsEntryText, ReadsAs, WriteMasked, WriteRange, after_blanks}
+use Rattle.ipnet_lists.specs.Entries.{before_blanks}
 use Rattle.ipnet_lists.proofs.AddressBytes.{IsAddressByte, ipv4_bytes, ipv6_bytes, decimal_bytes, one_front, one_back}
 use Rattle.ipnet_lists.proofs.AddressBytes.{IsPlainByte, middle}
 use Rattle.ipnet_lists.proofs.BlankTexts.{undashed_front}
@@ -196,7 +197,7 @@ plain_no_dash grammar text range (inl h) =
 plain_no_dash grammar text range (inr h) = no_dashes text (address_bytes grammar text h.address h.writes)
 
 -- an entry has no carriage return
-pub entry_unbroken : (grammar : Grammar) (text : List ℕ) (range : AddressRange) → IsEntryText grammar text range
+entry_unbroken : (grammar : Grammar) (text : List ℕ) (range : AddressRange) → IsEntryText grammar text range
     → ¬ (HasReturn text)
 entry_unbroken grammar text range (inl (inl h)) =
     let cut = network_cut grammar text h.network h.writes in

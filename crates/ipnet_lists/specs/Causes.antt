@@ -241,10 +241,11 @@ Explains text Causes.HostName = IsHostName text
 abbrev pub causes : List Cause
 causes =
     Causes.NulByte ∷ Causes.NotUtf8 ∷ Causes.CarriageReturn ∷ Causes.LegacyAlone ∷ Causes.LengthAbove32
-    ∷ Causes.LengthAbove128 ∷ Causes.EndsBeforeStart ∷ Causes.TwoFamilies ∷ Causes.RangeOfNetworks ∷ Causes.OtherDash ∷ Causes.NoLastAddress
-    ∷ Causes.WildcardMask ∷ Causes.MaskAfterBlank ∷ Causes.TwoEntries ∷ Causes.CommaFollows ∷ Causes.SemicolonFollows
-    ∷ Causes.TextFollows ∷ Causes.InBrackets ∷ Causes.InQuotes ∷ Causes.Excluded ∷ Causes.DashFirst ∷ Causes.HasZone
-    ∷ Causes.HasPort ∷ Causes.NotFourNumbers ∷ Causes.HasStar ∷ Causes.AllAddresses ∷ Causes.HostName ∷ []
+    ∷ Causes.LengthAbove128 ∷ Causes.EndsBeforeStart ∷ Causes.TwoFamilies ∷ Causes.RangeOfNetworks ∷ Causes.OtherDash
+    ∷ Causes.NoLastAddress ∷ Causes.WildcardMask ∷ Causes.MaskAfterBlank ∷ Causes.TwoEntries ∷ Causes.CommaFollows
+    ∷ Causes.SemicolonFollows ∷ Causes.TextFollows ∷ Causes.InBrackets ∷ Causes.InQuotes ∷ Causes.Excluded
+    ∷ Causes.DashFirst ∷ Causes.HasZone ∷ Causes.HasPort ∷ Causes.NotFourNumbers ∷ Causes.HasStar
+    ∷ Causes.AllAddresses ∷ Causes.HostName ∷ []
 
 -- The first of the causes whose sentence is true of the text, or `None` if no sentence is.
 abbrev pub IsFirstOf : List Cause → List ℕ → Option Cause → Type 0

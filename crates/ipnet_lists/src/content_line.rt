@@ -139,8 +139,8 @@ pub fn read_lines<'a, M, C: Drop, H: LineHandler<'a, M, C>>(
     made: &mut M,
 ) -> Result<Refusals<C>, AllocError>
     ensures { IfOk result (λ refused. (refusals : _)
-        × IsTakenList (H.takes handler.now) (OrBroken (H.broken handler.now) (H.is_cause handler.now)) bytes.now made.old
-        made.new refusals
+        × IsTakenList (H.takes handler.now) (OrBroken (H.broken handler.now) (H.is_cause handler.now)) bytes.now
+        made.old made.new refusals
         × AreRefused refused refusals) }
 {
     let mut refused = Refusals::new(alloc);

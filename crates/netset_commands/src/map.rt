@@ -171,11 +171,7 @@ fn end_noted(
     match entries_of(rt.alloc(), notes, names) {
         Ok(entries) => {
             finish(sets, names, writers)?;
-            if allowed {
-                Ok(entries)
-            } else {
-                Err(2)
-            }
+            if allowed { Ok(entries) } else { Err(2) }
         }
         Err(_) => Err(report_argument_failure(rt, ArgumentFailure::Memory)),
     }

@@ -86,11 +86,7 @@ fn read_both(
     let vrps = whole_of(rt, names[0], reports)?;
     let allowed = has_vrp_lines(vrps.as_slice()) || reports.report_empty(rt, names[0], "VRPs");
     let routes = bytes_of(rt, names[1], "routes", reports)?;
-    if allowed {
-        Ok((vrps, routes))
-    } else {
-        Err(2)
-    }
+    if allowed { Ok((vrps, routes)) } else { Err(2) }
 }
 
 /// Reads the arguments and both lists, prints the validity of the routes, and returns the exit status.

@@ -10,8 +10,8 @@ use crate::entry_options::entries_or_report;
 use clap::ArgMatches;
 use ipnet_sets::IpSet;
 use netset_files::{Lists, Reports, Writers, bytes_with_entries, may_have_lines, whole_of};
-use netset_lib::{SetReader, TextCommand};
 use netset_lib::runs::end_with;
+use netset_lib::{SetReader, TextCommand};
 
 /// Returns a reader of lists in the grammar of the command line. If memory runs out, it is reported, and the error is
 /// the exit status.
@@ -156,9 +156,5 @@ pub fn two_bytes(
     let first = whole_of(rt, names[0], reports)?;
     let allowed = may_have_lines(rt, names[0], first.as_slice(), what, reports);
     let second = last_bytes(rt, matches, names[1], reports)?;
-    if allowed {
-        Ok((first, second))
-    } else {
-        Err(2)
-    }
+    if allowed { Ok((first, second)) } else { Err(2) }
 }

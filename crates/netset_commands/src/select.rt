@@ -153,8 +153,8 @@ fn request_of(rt: &HostRuntime, matches: &ArgMatches) -> Result<SelectRequest, u
     })
 }
 
-/// Reads the lists of these names into the selection, and returns whether they may be as they are. If there are entries,
-/// they are the last list. If that fails, it is reported, and the error is the exit status.
+/// Reads the lists of these names into the selection, and returns whether they may be as they are. If there are
+/// entries, they are the last list. If that fails, it is reported, and the error is the exit status.
 fn read_selected(
     rt: &HostRuntime,
     matches: &ArgMatches,

@@ -9,7 +9,7 @@ use crate::arguments::{flags_of, is_set, two_or_report};
 use crate::reading::read_set;
 use crate::table::{ARGUMENT, Argument, Form};
 use clap::ArgMatches;
-use netset_files::{Writers, open_log, report_output, report_unread};
+use netset_files::{Writers, open_log, report_unread};
 use netset_lib::Failure;
 use netset_lib::runs::end_with;
 use netset_words::{LineFilter, LinesRequest, run_lines};
@@ -96,22 +96,22 @@ fn filter_named(
 ) -> u8
     ensures { result ≤ 2 }
 {
-    let is_standard = writers.answer.is_standard();
-    let (out, faults) = (&mut writers.answer, &mut writers.faults);
-    match open_log(rt, log) {
-        Ok(input) if is_standard && input.is_output(rt) => report_output(rt, log),
-        Ok(mut input) => {
-            let status = run_lines(filter, names, &mut input, out, faults);
-            if !input.is_utf16() {
-                return status;
-            }
-            let shown = log.as_bytes().escape_ascii();
-            let _ = writeln!(
-                faults,
-                "netset: {shown}: begins like UTF-16: is the file UTF-16?"
-            );
-            2
-        }
-        Err(unread) => report_unread(rt, log, &unread),
+    let mut input = match open_log(rt, log) {
+        Ok(input) => input,
+        Err(unread) => return report_unread(rt, log, &unread),
+    };
+    if let Err(status) = writers.check_input(rt, log, input.input()) {
+        return status;
     }
+    let (out, faults) = (&mut writers.answer, &mut writers.faults);
+    let status = run_lines(filter, names, &mut input, out, faults);
+    if !input.is_utf16() {
+        return status;
+    }
+    let shown = log.as_bytes().escape_ascii();
+    let _ = writeln!(
+        faults,
+        "netset: {shown}: begins like UTF-16: is the file UTF-16?"
+    );
+    2
 }

@@ -2,7 +2,7 @@
 ghost use Rattle.std.specs.Prelude.{◌≡◌, ◌≤◌, IfErr};
 ghost use Rattle.netset_lib.specs.SetReaders.{has_entry, refused_count};
 
-use crate::input::{open_list, report_output, report_unread};
+use crate::input::{open_list, report_unread};
 use crate::lists::{ListReader, Lists};
 use crate::output::Writers;
 use ipnet_lists::ReadFailure;
@@ -121,11 +121,13 @@ pub fn stream_list(
 ) -> u8
     ensures { result ≤ 2 }
 {
-    let is_standard = writers.answer.is_standard();
-    let (out, faults) = (&mut writers.answer, &mut writers.faults);
-    match open_list(rt, name) {
-        Ok(input) if is_standard && input.is_output(rt) => report_output(rt, name),
-        Ok(mut input) => run_stream(stream, names, &mut input, out, faults),
-        Err(unread) => report_unread(rt, name, &unread),
+    let mut input = match open_list(rt, name) {
+        Ok(input) => input,
+        Err(unread) => return report_unread(rt, name, &unread),
+    };
+    if let Err(status) = writers.check_input(rt, name, &input) {
+        return status;
     }
+    let (out, faults) = (&mut writers.answer, &mut writers.faults);
+    run_stream(stream, names, &mut input, out, faults)
 }

@@ -1,7 +1,8 @@
 //! The output of a command: standard output, or a file that only a whole answer replaces.
-ghost use Rattle.std.specs.Prelude.{◌≤◌, IsTrue};
+ghost use Rattle.std.specs.Prelude.{◌≡◌, ◌≤◌, IfErr, IsTrue};
 ghost use Rattle.netset_files.specs.Statuses.{IsExitStatus};
 
+use crate::input::Input;
 use crate::lists::Reports;
 use crate::replacement::{OutputFailure, Replacement};
 use netset_lib::{Output, finish};
@@ -64,11 +65,6 @@ impl AnswerWriter<'_> {
             Destination::Standard(out) => out.is_terminal(),
             Destination::File(_) => false,
         }
-    }
-
-    /// Returns whether the answer is written to standard output.
-    pub fn is_standard(&self) -> bool {
-        matches!(&self.destination, Destination::Standard(_))
     }
 
     /// Notes that a write failed: that the reader of standard output has closed it, or reports that the file cannot be
@@ -195,6 +191,17 @@ impl<'a> Writers<'a> {
             faults: Faults { err, ends },
             reports,
         })
+    }
+
+    /// Refuses a list, which has this name, if the answer is written into it while it is read, as `Input::check_output`
+    /// does. The error is the exit status.
+    pub fn check_input(&self, rt: &HostRuntime, name: &str, input: &Input) -> Result<(), u8>
+        ensures { IfErr result (λ status. status ≡ 2) }
+    {
+        match &self.answer.destination {
+            Destination::Standard(_) => input.check_output(rt, name),
+            Destination::File(_) => Ok(()),
+        }
     }
 
     /// Notes that the command has no answer if it ends with status 1, and returns the status. Then the file stays as it

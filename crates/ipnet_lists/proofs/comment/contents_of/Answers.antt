@@ -2,7 +2,7 @@ use Rattle.std.proofs.Common.{◌≡◌, ◌<◌, [], take, length, inl, inr, sy
 use Rattle.ipnet_text.proofs.LineCuts.{no_bytes, some_bytes, empty_text}
 use Rattle.ipnet_lists.specs.Comments.{HidesEntry, IsCommentAt}
 use Rattle.ipnet_lists.specs.Entries.{HasReturn}
-use Rattle.ipnet_lists.proofs.CommentLaws.{behind, not_broken, whole_contents}
+use Rattle.ipnet_lists.proofs.CommentLaws.{behind, divided, whole_contents}
 use Rattle.ipnet_lists.proofs.ListLines.{trimmed}
 use Rattle.ipnet_lists.proofs.comment.contents_of.Goals as goal
 
@@ -30,12 +30,12 @@ returns-then-is_empty c =
     let front = trimmed (take c.comment_start-start.result line) text c.trim_ascii-text.ensures.value in record {
       start = c.comment_start-start.result;
       comment = c.comment_start-start.ensures;
-      is = inl (front, λ undivided. elim undivided [
-        | inl broken ↦
-            not_broken line whole c.has_byte.result (trimmed line whole c.trim_ascii-whole.ensures.value)
-            c.has_byte.ensures c.if-has_byte.false broken
-        | inr hides ↦ hides.0 (sym front ∙ empty_text text (no_bytes (length text) c.if-is_empty.ensures))
-      ]);
+      is = inl (
+        front,
+        divided line whole c.comment_start-start.result c.has_byte.result
+            (trimmed line whole c.trim_ascii-whole.ensures.value) c.has_byte.ensures c.if-has_byte.false
+            (λ hides. hides.0 (sym front ∙ empty_text text (no_bytes (length text) c.if-is_empty.ensures))),
+      );
     }
 
 pub returns-then-hides_entry : goal.returns-then-hides_entry
@@ -66,15 +66,11 @@ returns c =
       comment = c.comment_start-start.ensures;
       is = inl (
         trimmed (take c.comment_start-start.result line) c.trim_ascii-text.result.now c.trim_ascii-text.ensures.value,
-        λ undivided. elim undivided [
-          | inl broken ↦
-              not_broken line whole c.has_byte.result (trimmed line whole c.trim_ascii-whole.ensures.value)
-              c.has_byte.ensures c.if-has_byte.false broken
-          | inr hides ↦
-              let is = c.hides_entry.ensures.1
-              (subst HidesEntry (sym (behind line c.comment_start-start.result)) hides.1) in
-              let not = c.if-hides_entry.false in
-              absurd cc
-        ],
+        divided line whole c.comment_start-start.result c.has_byte.result
+            (trimmed line whole c.trim_ascii-whole.ensures.value) c.has_byte.ensures c.if-has_byte.false
+            (λ hides. let is = c.hides_entry.ensures.1
+            (subst HidesEntry (sym (behind line c.comment_start-start.result)) hides.1) in
+            let not = c.if-hides_entry.false in
+            absurd cc),
       );
     }

@@ -11,8 +11,8 @@ use Rattle.ipnet_lists.proofs.content_line.take_line.Goals as goal
 pub returns-then-is_empty : goal.returns-then-is_empty
 returns-then-is_empty g c =
     adds_none (g.H.LineHandler.takes c.args.handler.now)
-    (OrBroken (g.H.LineHandler.broken c.args.handler.now) (g.H.LineHandler.is_cause c.args.handler.now)) (line_of c.args.line)
-    c.args.made.now c.args.refused.now
+    (OrBroken (g.H.LineHandler.broken c.args.handler.now) (g.H.LineHandler.is_cause c.args.handler.now))
+    (line_of c.args.line) c.args.made.now c.args.refused.now
     (empty_text c.args.line.text.now (no_bytes (length c.args.line.text.now) c.if-is_empty.ensures))
 
 pub returns-then-has_byte : goal.returns-then-has_byte

@@ -13,7 +13,8 @@ returns c =
     let grammar = c.args.grammar in
     let Has = IsAnswerNetwork (IsMember c.args.set.now) in
     let (refusals, taken, kept) = c.in_ok-refused.ensures in
-    let (changes, read, are) = list_taken (λ line. IsFittingChange grammar Has line.text) (IsChangeLineCause grammar Has)
+    let (changes, read, are) = list_taken (λ line. IsFittingChange grammar Has line.text)
+    (IsChangeLineCause grammar Has)
     (λ line old new. (change : ListChange) × IsFittingChange grammar Has line.text change
     × AddsPart change (parts_of old) (parts_of new))
     (λ parts changes. AreParts changes (parts_of parts))

@@ -15,7 +15,8 @@ returns c =
       invalid = (λ no. absurd cc, λ (i, r, l, e, h). absurd (omega (arith, l)));
     } in
     let (refusals, taken, kept) = c.in_ok-refused.ensures in
-    let (routes, read, are) = list_taken (λ line. IsRouteText request.grammar line.text) (IsRouteLineCause request.grammar)
+    let (routes, read, are) = list_taken (λ line. IsRouteText request.grammar line.text)
+    (IsRouteLineCause request.grammar)
     (λ line old new. (r : ListRoute) × IsRouteText request.grammar line.text r × AddsRoute vrps request r old new)
     (AreAnswersBy vrps request)
     (λ line old new (r, is, adds). (r, is, λ routes h. route_added vrps request r old new routes adds h))
