@@ -9,6 +9,7 @@ use crate::arguments::{
     ANY_LISTS, ArgumentFailure, FIRST, SHARED, flags_of, is_set, reads_input_twice,
     report_argument_failure,
 };
+use crate::reading::report_only;
 use crate::table::{ARGUMENT, Argument, Form, Subcommand};
 use clap::ArgMatches;
 use netset_files::{Lists, Reports, STANDARD_INPUT, Writers};
@@ -61,13 +62,14 @@ fn request_of(matches: &ArgMatches) -> ExtractRequest
     }
 }
 
-/// Reads the texts of these names. If that fails, it is reported, and the error is the exit status.
+/// Reads the texts of these names, and returns whether they may be as they are. If that fails, it is reported, and the
+/// error is the exit status.
 fn read_texts(
     rt: &HostRuntime,
     extraction: Extraction,
     names: &[&str],
     reports: Reports,
-) -> Result<Extraction, u8>
+) -> Result<(Extraction, bool), u8>
     ensures { IfErr result (λ status. status ≡ 2) }
 {
     let mut lists = Lists::new(extraction, reports);
@@ -75,7 +77,7 @@ fn read_texts(
         let (next, ()) = lists.read(rt, name)?;
         lists = next;
     }
-    lists.end()
+    Ok(lists.into_reader())
 }
 
 /// Reads the arguments and the texts, prints the entries, and returns the exit status.
@@ -91,7 +93,8 @@ pub fn extract_entries(rt: &HostRuntime, matches: &ArgMatches, writers: &mut Wri
         return report_argument_failure(rt, ArgumentFailure::Memory);
     };
     match read_texts(rt, extraction, names, writers.reports) {
-        Ok(extraction) => {
+        Ok((extraction, false)) => report_only(extraction, names, writers),
+        Ok((extraction, true)) => {
             let (out, faults) = (&mut writers.answer, &mut writers.faults);
             run_text(extraction, names, out, faults)
         }

@@ -96,20 +96,22 @@ fn filter_named(
 ) -> u8
     ensures { result ≤ 2 }
 {
-    let (out, faults) = (&mut writers.answer, &mut writers.faults);
-    match open_log(rt, log) {
-        Ok(mut input) => {
-            let status = run_lines(filter, names, &mut input, out, faults);
-            if !input.is_utf16() {
-                return status;
-            }
-            let shown = log.as_bytes().escape_ascii();
-            let _ = writeln!(
-                faults,
-                "netset: {shown}: begins like UTF-16: is the file UTF-16?"
-            );
-            2
-        }
-        Err(unread) => report_unread(rt, log, &unread),
+    let mut input = match open_log(rt, log) {
+        Ok(input) => input,
+        Err(unread) => return report_unread(rt, log, &unread),
+    };
+    if let Err(status) = writers.check_input(rt, log, input.input()) {
+        return status;
     }
+    let (out, faults) = (&mut writers.answer, &mut writers.faults);
+    let status = run_lines(filter, names, &mut input, out, faults);
+    if !input.is_utf16() {
+        return status;
+    }
+    let shown = log.as_bytes().escape_ascii();
+    let _ = writeln!(
+        faults,
+        "netset: {shown}: begins like UTF-16: is the file UTF-16?"
+    );
+    2
 }

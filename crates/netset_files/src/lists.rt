@@ -293,6 +293,16 @@ impl<L: ListReader> Lists<L> {
         Ok((lists, all))
     }
 
+    /// Returns the reader, and whether the lists may be as they are: `false` if a list has no entry, and that is to be
+    /// refused.
+    pub fn into_reader(self) -> (L, bool)
+        ensures reader { result.0 ≡ self.reader }
+        ensures allowed { self.reports.empties ≢ Refuse → IsTrue result.1 }
+    {
+        let allowed = self.allowed;
+        (self.reader, allowed)
+    }
+
     /// Returns the reader. If a list has no entry, and that is to be refused, the error is the exit status.
     pub fn end(self) -> Result<L, u8>
         ensures allowed { self.reports.empties ≢ Refuse → IsOk result }
