@@ -160,7 +160,8 @@ fn are_in_symbol(bytes: &[u8]) -> bool
 }
 
 /// Returns whether the text is a symbol of BIRD: at most 64 bytes, a letter or "_", and then letters, digits and "_".
-/// BIRD also has keywords, such as `table`, which it refuses itself.
+/// BIRD itself refuses two kinds of these texts: keywords, such as `table`, and 32, 34 or more hexadecimal digits in
+/// pairs, which it reads as bytes.
 ///
 /// ```text
 /// "ALLOWED4", "_a":  true
