@@ -26,14 +26,9 @@ loop-range-init g c =
 
 pub walk_of-walk-requires : goal.walk_of-walk-requires
 walk_of-walk-requires g c =
-    let held = g.W.Write.contents in
-    let p = c.args.part.now in
-    let fit : IsFitting p.min_length (ip_range c.in-Some.range) =
-    first_fits (layout_of p.frame) p.item p.min_length (IsMember p.set) (held c.args.out.now)
-    (held c.loop-range.out) c.args.piece.now.bytes c.loop-range.piece.bytes
-    c.loop-range.place.none c.loop-range.place.number
-    (ranges_left c.loop-range.range-iterator) (ranges_left c.next.new.self) (ip_range c.in-Some.range)
-    c.in-Some.ensures.steps c.loop-range.invariant in record { some = fit.some; fits = fit.fits }
+    let fit : IsFitting c.args.part.now.min_length (ip_range c.in-Some.range) =
+    first_fits _ _ _ _ _ _ _ _ _ _ _ _ _ c.in-Some.ensures.steps c.loop-range.invariant in
+    record { some = fit.some; fits = fit.fits }
 
 pub loop-range-preserved : goal.loop-range-preserved
 loop-range-preserved g c =
@@ -50,14 +45,8 @@ loop-range-preserved g c =
 
 pub returns-in_err-place-clause-cut : goal.returns-in_err-place-clause-cut
 returns-in_err-place-clause-cut g c =
-    let held = g.W.Write.contents in
-    let p = c.args.part.now in
     if_err c.from_residual.result
-    (putting_cut (layout_of p.frame) p.item p.min_length (IsMember p.set) (held c.args.out.now)
-    (held c.loop-range.out) (held c.put_walk.new.out) c.args.piece.now.bytes c.loop-range.piece.bytes
-    c.loop-range.place.none c.loop-range.place.number
-    (ranges_left c.loop-range.range-iterator) (ranges_left c.next.new.self) (ip_range c.in-Some.range)
-    (ip_subnets_left c.walk_of-walk.result) c.in-Some.ensures.steps c.walk_of-walk.ensures.blocks
+    (putting_cut _ _ _ _ _ _ _ _ _ _ _ _ _ _ _ c.in-Some.ensures.steps c.walk_of-walk.ensures.blocks
     c.in_err-place.ensures.cut c.requires c.loop-range.invariant)
 
 pub returns-clause-ok : goal.returns-clause-ok
