@@ -44,8 +44,8 @@ class Places:
         """An address before the first sign, if only digits follow."""
         return self.part("([^{0}]*){0}[0-9]+".format(sign), text)
 
-    def before_long_port(self, text):
-        return self.part("(.*):[0-9]{5,}", text)
+    def before_last_port(self, text):
+        return self.part("(.*):[0-9]+", text)
 
     def before_colon(self, text):
         front, sign, _ = text.partition(":")
@@ -53,7 +53,7 @@ class Places:
 
     def host(self, text):
         return (self.address(text) or self.ipv4(re.match("[^:/]*", text)[0]) or self.before_port(text, "/")
-                or self.before_long_port(text))
+                or self.before_last_port(text))
 
     def at_user(self, text):
         return self.host(text.partition("@")[2]) or self.before_port(text, "@") if "@" in text else None
@@ -66,10 +66,9 @@ class Places:
             return self.host(back[1:])
         if not front:
             return self.host(back)
-        is_way = re.fullmatch("[A-Z_]*_[A-Z_]*", front)
         if not re.fullmatch(NAME, front):
             return None
-        return self.before_colon(back) or (self.address(back) if is_way or after == "(" else None)
+        return self.before_colon(back) or (self.host(back) if set("._") & set(front) or after == "(" else None)
 
     def at_colon(self, text):
         front, sign, back = text.partition(":")
@@ -89,7 +88,7 @@ class Places:
             if is_entry(whole, self.legacy):
                 return whole
         return (self.at_user(text) or self.at_slash(text, after) or self.at_colon(text)
-                or self.before_long_port(text) or self.at_dot(before, word, text, after))
+                or self.before_last_port(text) or self.at_dot(before, word, text, after))
 
 
 def unmapped(text, legacy):

@@ -3,7 +3,7 @@ use Rattle.std.proofs.Common.{◌≡◌, ◌≢◌, ◌≤◌, ◌==◌, ◌&&�
 use Rattle.std.proofs.Common.{ap, ◌∙◌, arith}
 use Rattle.std.specs.Char.{is_ascii_alphabetic}
 use Rattle.std.specs.List.{list_all, list_any}
-use Rattle.netset_words.specs.Places.{begins_with_slash, is_name, is_name_byte, is_way, is_way_byte}
+use Rattle.netset_words.specs.Places.{begins_with_slash, is_name, is_name_byte}
 
 pub name_cut : (text : List ℕ) (b : ℕ) (rest : List ℕ) (letter : Bool) → text ≡ b ∷ rest
     → is_ascii_alphabetic b ≡ letter → is_name text ≡ (letter && list_all is_name_byte rest)
@@ -12,10 +12,6 @@ name_cut text b rest letter is e = ap is_name is ∙ ap (λ t. t && list_all is_
 pub no_name : (text : List ℕ) → length text ≡ 0 → is_name text ≡ false
 no_name [] none = refl
 no_name (b ∷ text) none = absurd (omega (arith, none))
-
-pub way_cut : (text : List ℕ) (has : Bool) → list_any (λ b. b == 95) text ≡ has
-    → is_way text ≡ (has && list_all is_way_byte text)
-way_cut text has e = ap (λ t. t && list_all is_way_byte text) e
 
 pub no_slash : (text : List ℕ) → length text ≡ 0 → begins_with_slash text ≡ false
 no_slash [] none = refl

@@ -18,8 +18,8 @@ use Rattle.ipnet_lists.specs.Entries.{IsAddressText, IsIpv4Text, ReadsAs}
 use Rattle.ipnet_lists.proofs.CommentLaws.{behind}
 use Rattle.ipnet_lists.proofs.EntryTexts.{one_address}
 use Rattle.netset_words.specs.declared.host.Place.{Place}
-use Rattle.netset_words.specs.Places.{AreLastParts, Else, IsAtColon, IsAtDot, IsAtSlash, IsAtUser, IsBeforeLongPort}
-use Rattle.netset_words.specs.Places.{IsBeforePort, IsHost, IsInside, IsLongPort, IsNamed, IsOnlyAddress, IsOnlyIpv4}
+use Rattle.netset_words.specs.Places.{AreLastParts, Else, IsAtColon, IsAtDot, IsAtSlash, IsAtUser, IsBeforeLastPort}
+use Rattle.netset_words.specs.Places.{IsBeforePort, IsHost, IsInside, IsPort, IsNamed, IsOnlyAddress, IsOnlyIpv4}
 use Rattle.netset_words.specs.Places.{IsPacketEnd, IsSomeAddress, IsSomeIpv4, before_sign, begins_with_slash, is_name}
 use Rattle.netset_words.specs.Places.{trimmed}
 use Rattle.netset_words.specs.Words.{Word}
@@ -170,20 +170,20 @@ v6_is_no_ipv4 grammar text a h (x, writes) =
 
 -- ---- the last place of a sign
 
-pub long_port_finds : (grammar : Grammar) (text front back : List ℕ) (r : Option Place)
-    → AreLastParts 58 text front back → IsLongPort back → Finds grammar (IsOnlyAddress grammar front) r
-    → Finds grammar (IsBeforeLongPort grammar text) r
-long_port_finds grammar text front back r parts long h =
-    finds_as grammar (IsOnlyAddress grammar front) (IsBeforeLongPort grammar text) r
+pub last_port_finds : (grammar : Grammar) (text front back : List ℕ) (r : Option Place)
+    → AreLastParts 58 text front back → Finds grammar (λ place. IsBeforePort grammar place front back) r
+    → Finds grammar (IsBeforeLastPort grammar text) r
+last_port_finds grammar text front back r parts h =
+    finds_as grammar (λ place. IsBeforePort grammar place front back) (IsBeforeLastPort grammar text) r
     (λ place is. record {
       port = back;
-      parts = subst (λ z. AreLastParts 58 text z back) (sym is.0) parts;
-      long = long;
-      address = subst (IsSomeAddress grammar) (sym is.0) is.1;
+      parts = subst (λ z. AreLastParts 58 text z back) (sym is.0.0) parts;
+      digits = is.1;
+      address = subst (IsSomeAddress grammar) (sym is.0.0) is.0.1;
     })
     (λ place is.
     let same = one_last 58 text place is.port front back is.parts parts in
-    (same.0, subst (IsSomeAddress grammar) same.0 is.address))
+    ((same.0, subst (IsSomeAddress grammar) same.0 is.address), subst IsPort same.1 is.digits))
     h
 
 pub dot_finds : (grammar : Grammar) (w : Word) (front back : List ℕ) (r : Option Place)
@@ -211,10 +211,10 @@ abbrev pub BySlashPort : Grammar → (text place : List ℕ) → Type 0
 BySlashPort g text place = IsCutAt 47 (IsBeforePort g place) text
 
 abbrev pub AfterSign : Grammar → (text place : List ℕ) → Type 0
-AfterSign g text place = BySlashPort g text place ⊎ IsBeforeLongPort g text place
+AfterSign g text place = BySlashPort g text place ⊎ IsBeforeLastPort g text place
 
 abbrev pub AfterAddress : Grammar → (text place : List ℕ) → Type 0
-AfterAddress g text place = BySign g text place ⊎ AfterSign g text place
+AfterAddress g text place = BySign g text place ⊎ BySlashPort g text place ⊎ IsBeforeLastPort g text place
 
 abbrev pub AfterSlashes : Grammar → (back place : List ℕ) → Type 0
 AfterSlashes g back place = (begins_with_slash back ≡ true) × IsHost g (drop 1 back) place
@@ -236,7 +236,7 @@ abbrev pub ByColon : Grammar → (text place : List ℕ) → Type 0
 ByColon g text place = IsCutAt 58 (IsAtColon g place) text
 
 abbrev pub AfterColon : Grammar → Word → List ℕ → List ℕ → Type 0
-AfterColon g w text = Else (IsBeforeLongPort g text) (IsAtDot g w)
+AfterColon g w text = Else (IsBeforeLastPort g text) (IsAtDot g w)
 
 abbrev pub AfterSlash : Grammar → Word → List ℕ → List ℕ → Type 0
 AfterSlash g w text = Else (ByColon g text) (AfterColon g w text)

@@ -14,7 +14,7 @@ use Rattle.ipnet.proofs.Ipv4Texts.{Dots-from}
 use Rattle.ipnet_lists.specs.Entries.{IsAddressText, IsEntryText, IsNetworkOrMasked, before_blanks}
 use Rattle.ipnet_lists.proofs.AddressBytes.{cut_at, middle}
 use Rattle.ipnet_lists.specs.Causes.{IsCutAt}
-use Rattle.netset_words.specs.Places.{HasNoPlace, IsAtColon, IsAtSlash, IsAtUser, IsBefore, IsHost, IsInside}
+use Rattle.netset_words.specs.Places.{HasNoPlace, IsAtColon, IsAtSlash, IsAtUser, IsBefore, IsBeforeLastPort, IsHost, IsInside}
 use Rattle.netset_words.specs.Places.{IsOnlyAddress, IsOnlyIpv4, before_sign, trimmed}
 use Rattle.netset_words.specs.Words.{Word}
 
@@ -130,14 +130,17 @@ front_of_cut sign text h = All-take IsOther (position_or_len (λ c. c == sign) t
 back_of_cut : (sign : ℕ) (text : List ℕ) → All IsOther text → All IsOther (after_first (λ c. c == sign) text)
 back_of_cut sign text h = All-drop IsOther (position_or_len (λ c. c == sign) text + 1) text h
 
+no_last_port : (grammar : Grammar) (text place : List ℕ) → All IsOther text → IsBeforeLastPort grammar text place → ⊥
+no_last_port grammar text place h is = no_colon text place is.port h is.parts.spelled
+
 no_host : (grammar : Grammar) (text place : List ℕ) → All IsOther text → IsHost grammar text place → ⊥
 no_host grammar text place h (inl is) = lone_address grammar text place h is
-no_host grammar text place h (inr (inl is)) =
+no_host grammar text place h (inr (no_address, inl is)) =
     lone_ipv4 grammar (before_sign text) place
     (All-take IsOther (position_or_len (λ b. (b == 58) || (b == 47)) text) text h) is
-no_host grammar text place h (inr (inr (inl is))) =
+no_host grammar text place h (inr (no_address, inr (inl is))) =
     lone_address grammar (before_first (λ c. c == 47) text) place (front_of_cut 47 text h) is.1.0
-no_host grammar text place h (inr (inr (inr is))) = no_colon text place is.port h is.parts.spelled
+no_host grammar text place h (inr (no_address, inr (inr is))) = no_last_port grammar text place h is
 
 no_user : (grammar : Grammar) (text place : List ℕ) → All IsOther text → IsCutAt 64 (IsAtUser grammar place) text → ⊥
 no_user grammar text place h (within, inl is) =
@@ -157,7 +160,7 @@ no_slash grammar w text place h (within, inr (inr (inl is))) =
 no_slash grammar w text place h (within, inr (inr (inr (other, name, inl is)))) =
     colon_cut (IsBefore grammar place) (after_first (λ c. c == 47) text) (back_of_cut 47 text h) is
 no_slash grammar w text place h (within, inr (inr (inr (other, name, inr is)))) =
-    lone_address grammar (after_first (λ c. c == 47) text) place (back_of_cut 47 text h) is.1
+    no_host grammar (after_first (λ c. c == 47) text) place (back_of_cut 47 text h) is.1
 
 no_inside : (grammar : Grammar) (w : Word) (place : List ℕ) → All IsOther w.text → IsInside grammar w place → ⊥
 no_inside grammar w place h is = elim is [
@@ -167,7 +170,7 @@ no_inside grammar w place h is = elim is [
     | inr more ↦ elim more.1 [
       | inl colon ↦ colon_cut (IsAtColon grammar place) (trimmed w.text) low colon
       | inr last ↦ elim last.1 [
-        | inl long ↦ no_colon (trimmed w.text) place long.port low long.parts.spelled
+        | inl port ↦ no_last_port grammar (trimmed w.text) place low port
         | inr dot ↦ no_dot (trimmed w.text) place dot.1.port low dot.1.parts.spelled
       ]
     ]

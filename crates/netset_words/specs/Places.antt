@@ -5,7 +5,7 @@
 -- Everywhere else they are a port or a path, and the place is the address.
 use Rattle.std.specs.Prelude.{◌≡◌, ◌≢◌, ◌⊎◌, ◌<◌, ◌≤◌, ℕ, ◌+◌, ◌-◌, Bool, ◌||◌, ◌&&◌, ◌==◌, true, false}
 use Rattle.std.specs.Prelude.{List, [], ◌∷◌, ◌++◌, length, slice_index, take, drop, codes, if◌then◌else◌}
-use Rattle.std.specs.Char.{is_ascii_alphabetic, is_ascii_alphanumeric, is_ascii_digit, is_ascii_uppercase}
+use Rattle.std.specs.Char.{is_ascii_alphabetic, is_ascii_alphanumeric, is_ascii_digit}
 use Rattle.std.specs.List.{before_first, list_all, list_any, suffix_len}
 use Rattle.ipnet_base.specs.Address.{Address, IPv4}
 use Rattle.ipnet_base.specs.Ranges.{AddressRange}
@@ -75,27 +75,24 @@ pub record AreLastParts (sign : ℕ) (text front back : List ℕ) : Type 0 where
   pub spelled : text ≡ front ++ sign ∷ back
   pub last : list_any (λ b. b == sign) back ≡ false
 
--- The text is five decimal digits or more.
-abbrev pub IsLongPort : List ℕ → Type 0
-IsLongPort text = (5 ≤ length text) × (list_all is_ascii_digit text ≡ true)
-
--- An address, ":" and a port of five digits or more. With fewer digits the port would be a group of an IPv6 address:
--- `2001:db8::9:443` is an address. Example: `2001:db8::9:53412`.
-pub record IsBeforeLongPort (grammar : Grammar) (text place : List ℕ) : Type 0 where
+-- An address, the last ":" and a port. Example: `2001:db8::9:53412`, `2001:db8:0:1:2:3:4:9:443`. Only texts that are
+-- not addresses are read so: `2001:db8::9:443` is an address.
+pub record IsBeforeLastPort (grammar : Grammar) (text place : List ℕ) : Type 0 where
   pub port : List ℕ
   pub parts : AreLastParts 58 text place port
-  pub long : IsLongPort port
+  pub digits : IsPort port
   pub address : IsSomeAddress grammar place
 
 -- The text up to its first ":" or "/".
 abbrev pub before_sign : List ℕ → List ℕ
 before_sign = before_first (λ b. (b == 58) || (b == 47))
 
--- An address, with or without a port; or an IPv4 address before ":" or "/" and anything.
+-- An address; or else an IPv4 address before ":" or "/" and anything, or an address before a port.
 -- Example: `203.0.113.9`, `203.0.113.9:8080/x`, `203.0.113.9/24/x`, `2001:db8::9/443`, `2001:db8::9:53412`.
 abbrev pub IsHost : Grammar → (text place : List ℕ) → Type 0
-IsHost grammar text place = IsOnlyAddress grammar text place ⊎ IsOnlyIpv4 grammar (before_sign text) place
-    ⊎ IsCutAt 47 (IsBeforePort grammar place) text ⊎ IsBeforeLongPort grammar text place
+IsHost grammar text =
+    Else (IsOnlyAddress grammar text) (λ place. IsOnlyIpv4 grammar (before_sign text) place
+    ⊎ IsCutAt 47 (IsBeforePort grammar place) text ⊎ IsBeforeLastPort grammar text place)
 
 -- The byte may be in a name: a letter, a digit, "+", "-", "." or "_".
 abbrev pub is_name_byte : ℕ → Bool
@@ -111,21 +108,17 @@ is_name (b ∷ text) = is_ascii_alphabetic b && list_all is_name_byte text
 abbrev pub IsAtUser : Grammar → (place front back : List ℕ) → Type 0
 IsAtUser grammar place front back = IsHost grammar back place ⊎ IsBeforePort grammar place front back
 
--- The byte is a capital letter or "_".
-abbrev pub is_way_byte : ℕ → Bool
-is_way_byte b = is_ascii_uppercase b || (b == 95)
+-- The name has a "." or a "_", as names of hosts and Squid's names of ways to a server have. Example: `host.example` and
+-- `HIER_DIRECT`, and not `Chrome`.
+abbrev pub is_host_name : List ℕ → Bool
+is_host_name = list_any (λ b. (b == 46) || (b == 95))
 
--- The text is in capital letters and "_", and has a "_", as the names of Squid's ways to a server. Example:
--- `HIER_DIRECT`.
-abbrev pub is_way : List ℕ → Bool
-is_way text = list_any (λ b. b == 95) text && list_all is_way_byte text
-
--- After a name and "/": an IPv4 address before ":"; or an address, if "(" follows its word, or if the name is one of
--- Squid's. Example: after `host.example/`, `outside/` and `HIER_DIRECT/`: `203.0.113.9:443`, `203.0.113.9` before
--- `(443)`, and `203.0.113.9`. After `Chrome/`, `120.0.0.0` is a version.
+-- After a name and "/": an IPv4 address before ":"; or a host, if "(" follows its word, or if the name is of a host.
+-- Example: in `client/203.0.113.9:443`, `outside/203.0.113.9(443)`, `host.example/203.0.113.9`. In `Chrome/120.0.0.0`,
+-- `120.0.0.0` is a version.
 abbrev pub IsNamed : Grammar → (w : Word) → (place name back : List ℕ) → Type 0
 IsNamed grammar w place name back = IsCutAt 58 (IsBefore grammar place) back
-    ⊎ (((w.after ≡ codes "(") ⊎ (is_way name ≡ true)) × IsOnlyAddress grammar back place)
+    ⊎ (((w.after ≡ codes "(") ⊎ (is_host_name name ≡ true)) × IsHost grammar back place)
 
 -- The first byte of the text is "/".
 abbrev pub begins_with_slash : List ℕ → Bool
@@ -167,14 +160,14 @@ pub record IsAtDot (grammar : Grammar) (w : Word) (place : List ℕ) : Type 0 wh
   pub parts : AreLastParts 46 (trimmed w.text) place port
   pub address : IsSomeAddress grammar place
 
--- The place in a word that is not an entry: of the readings at "@", "/" and ":", before a long port, and at ".", the
+-- The place in a word that is not an entry: of the readings at "@", "/" and ":", before a last port, and at ".", the
 -- first that has one.
 abbrev pub IsInside : Grammar → (w : Word) → (place : List ℕ) → Type 0
 IsInside grammar w =
     Else (λ place. IsCutAt 64 (IsAtUser grammar place) (trimmed w.text))
     (Else (λ place. IsCutAt 47 (IsAtSlash grammar w place) (trimmed w.text))
     (Else (λ place. IsCutAt 58 (IsAtColon grammar place) (trimmed w.text))
-    (Else (IsBeforeLongPort grammar (trimmed w.text)) (IsAtDot grammar w))))
+    (Else (IsBeforeLastPort grammar (trimmed w.text)) (IsAtDot grammar w))))
 
 -- The word has this place: it is an entry, or else it is one without its last signs, or else an entry is inside it.
 -- Example: `10.0.0.0/8` in `10.0.0.0/8.`; `10.1.2.3` in `outside:10.1.2.3/22`; no place in `12:34:56` or `1.3.6.1.4.1`.

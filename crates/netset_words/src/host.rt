@@ -5,8 +5,8 @@ ghost use Rattle.ipnet_base.specs.Address.{ip_address};
 ghost use Rattle.ipnet_lists.specs.Causes.{IsCutAt};
 ghost use Rattle.ipnet_lists.specs.Entries.{IsAddressText};
 ghost use Rattle.netset_words.specs.Places as places;
-ghost use Rattle.netset_words.specs.Places.{AreLastParts, IsBefore, IsBeforeLongPort, IsBeforePort, IsHost};
-ghost use Rattle.netset_words.specs.Places.{IsLongPort, IsOnlyAddress, IsOnlyIpv4, IsPort, IsSomeAddress, IsWhole};
+ghost use Rattle.netset_words.specs.Places.{AreLastParts, IsBefore, IsBeforeLastPort, IsBeforePort, IsHost};
+ghost use Rattle.netset_words.specs.Places.{IsOnlyAddress, IsOnlyIpv4, IsPort, IsSomeAddress, IsWhole};
 ghost use Rattle.netset_words.specs.PlaceSteps.{AreParts, Finds};
 
 use ipnet::{Grammar, IpAddr};
@@ -133,7 +133,7 @@ pub(crate) fn before_port<'a>(front: &'a [u8], back: &[u8], grammar: Grammar) ->
 }
 
 /// Reads an address before "/" and a port.
-fn read_slash_port(text: &[u8], grammar: Grammar) -> Option<Place<'_>>
+fn before_slash_port(text: &[u8], grammar: Grammar) -> Option<Place<'_>>
     ensures { Finds grammar (λ place. IsCutAt 47 (IsBeforePort grammar place) text.now) result }
 {
     match cut_at(text, b'/') {
@@ -152,24 +152,14 @@ pub(crate) fn before_colon(text: &[u8], grammar: Grammar) -> Option<Place<'_>>
     }
 }
 
-/// Whether the text is five decimal digits or more.
-fn is_long_port(text: &[u8]) -> bool
-    ensures { IsTrue result ↔ IsLongPort text.now }
-{
-    text.len() >= 5 && are_digits(text)
-}
-
-/// Reads an address before ":" and a port of five digits or more.
-pub(crate) fn read_long_port(text: &[u8], grammar: Grammar) -> Option<Place<'_>>
-    ensures { Finds grammar (IsBeforeLongPort grammar text.now) result }
+/// Reads an address before the last ":" and a port.
+pub(crate) fn before_last_port(text: &[u8], grammar: Grammar) -> Option<Place<'_>>
+    ensures { Finds grammar (IsBeforeLastPort grammar text.now) result }
 {
     let Some(parts) = cut_at_last(text, b':') else {
         return None;
     };
-    if !is_long_port(parts.back) {
-        return None;
-    }
-    read_address(parts.front, grammar)
+    before_port(parts.front, parts.back, grammar)
 }
 
 /// Returns the text up to its first ":" or "/".
@@ -182,7 +172,7 @@ fn before_sign(text: &[u8]) -> &[u8]
     }
 }
 
-/// Reads an address, which a port may follow, or an IPv4 address before ":" or "/" and anything.
+/// Reads an address, or an IPv4 address before ":" or "/" and anything, or an address before a port.
 pub(crate) fn read_host(text: &[u8], grammar: Grammar) -> Option<Place<'_>>
     ensures { Finds grammar (IsHost grammar text.now) result }
 {
@@ -192,8 +182,8 @@ pub(crate) fn read_host(text: &[u8], grammar: Grammar) -> Option<Place<'_>>
     if let Some(place) = read_ipv4(before_sign(text), grammar) {
         return Some(place);
     }
-    if let Some(place) = read_slash_port(text, grammar) {
+    if let Some(place) = before_slash_port(text, grammar) {
         return Some(place);
     }
-    read_long_port(text, grammar)
+    before_last_port(text, grammar)
 }

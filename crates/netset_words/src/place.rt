@@ -12,11 +12,10 @@ ghost use Rattle.netset_words.specs.WordSteps.{word_of};
 
 use crate::host::{
     Parts, Place, before_colon, before_port, cut_at, cut_at_last, has_separator, read_address,
-    read_host, read_ipv4, read_long_port, read_whole,
+    read_host, read_ipv4, before_last_port, read_whole,
 };
 use crate::word::{NextWord, next_word};
 use ipnet::Grammar;
-use ipnet_lists::has_byte;
 
 /// Whether the last byte of the text is ":".
 fn ends_in_colon(text: &[u8]) -> bool
@@ -83,22 +82,11 @@ fn is_name(text: &[u8]) -> bool
     are_name_bytes(rest)
 }
 
-/// Whether each byte may be in the name of one of Squid's ways to a server.
-fn are_way_bytes(text: &[u8]) -> bool
-    ensures { result ≡ list_all places.is_way_byte text.now }
+/// Whether the name has a "." or a "_", as names of hosts and Squid's names of ways to a server have.
+fn is_host_name(name: &[u8]) -> bool
+    ensures { result ≡ places.is_host_name name.now }
 {
-    text.iter()
-        .all(|byte| byte.is_ascii_uppercase() || *byte == b'_')
-}
-
-/// Whether the name is one of Squid's ways to a server.
-fn is_way(name: &[u8]) -> bool
-    ensures { result ≡ places.is_way name.now }
-{
-    if !has_byte(name, b'_') {
-        return false;
-    }
-    are_way_bytes(name)
+    name.iter().any(|byte| *byte == b'.' || *byte == b'_')
 }
 
 /// Whether the texts have the same bytes.
@@ -146,11 +134,11 @@ fn at_user(text: &[u8], grammar: Grammar) -> Option<Place<'_>>
     before_port(parts.front, parts.back, grammar)
 }
 
-/// Whether the address after this name and "/" may lack a port: "(" follows its word, or the name is one of Squid's.
-fn may_lack_port(word: NextWord<'_>, name: &[u8]) -> bool
-    ensures { IsTrue result ↔ (((word_of word.entry).after ≡ codes "(") ⊎ (places.is_way name.now ≡ true)) }
+/// Whether a host can be after this name and "/": "(" follows its word, or the name is of a host.
+fn may_have_host(word: NextWord<'_>, name: &[u8]) -> bool
+    ensures { IsTrue result ↔ (((word_of word.entry).after ≡ codes "(") ⊎ (places.is_host_name name.now ≡ true)) }
 {
-    if is_way(name) {
+    if is_host_name(name) {
         return true;
     }
     is_gap(word.after, b"(")
@@ -164,10 +152,10 @@ fn read_named<'a>(word: NextWord<'a>, parts: Parts<'a>, grammar: Grammar) -> Opt
     if let Some(place) = before_colon(parts.back, grammar) {
         return Some(place);
     }
-    if !may_lack_port(word, parts.front) {
+    if !may_have_host(word, parts.front) {
         return None;
     }
-    read_address(parts.back, grammar)
+    read_host(parts.back, grammar)
 }
 
 /// Whether the first byte of the text is "/".
@@ -284,7 +272,7 @@ fn read_inside<'a>(word: NextWord<'a>, body: &'a [u8], grammar: Grammar) -> Opti
     if let Some(place) = at_colon(body, grammar) {
         return Some(place);
     }
-    if let Some(place) = read_long_port(body, grammar) {
+    if let Some(place) = before_last_port(body, grammar) {
         return Some(place);
     }
     at_dot(word, body, grammar)

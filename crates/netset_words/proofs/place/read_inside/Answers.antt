@@ -1,5 +1,5 @@
 use Rattle.std.proofs.Common.{Some}
-use Rattle.netset_words.specs.Places.{IsBeforeLongPort, IsAtDot}
+use Rattle.netset_words.specs.Places.{IsBeforeLastPort, IsAtDot}
 use Rattle.netset_words.specs.WordSteps.{word_of}
 use Rattle.netset_words.proofs.PlaceLaws.{ByUser, BySlash, ByColon, AfterUser, AfterSlash, AfterColon}
 use Rattle.netset_words.proofs.PlaceLaws.{else_first, else_second, inside_so, none_found}
@@ -38,12 +38,12 @@ returns-in-Some-at_colon c =
     (none_found g (BySlash g w text) c.at_slash.result c.at_slash.ensures c.in_default-at_slash.not-Some)
     (else_first g (ByColon g text) (AfterColon g w text) place c.in-Some-at_colon.ensures)))
 
-pub returns-in-Some-read_long_port : goal.returns-in-Some-read_long_port
-returns-in-Some-read_long_port c =
+pub returns-in-Some-before_last_port : goal.returns-in-Some-before_last_port
+returns-in-Some-before_last_port c =
     let g = c.args.grammar in
     let w = word_of c.args.word in
     let text = c.args.body.now in
-    let place = c.in-Some-read_long_port.place in
+    let place = c.in-Some-before_last_port.place in
     inside_so g w text c.requires (Some place)
     (else_second g (ByUser g text) (AfterUser g w text) (Some place)
     (none_found g (ByUser g text) c.at_user.result c.at_user.ensures c.in_default.not-Some)
@@ -51,7 +51,7 @@ returns-in-Some-read_long_port c =
     (none_found g (BySlash g w text) c.at_slash.result c.at_slash.ensures c.in_default-at_slash.not-Some)
     (else_second g (ByColon g text) (AfterColon g w text) (Some place)
     (none_found g (ByColon g text) c.at_colon.result c.at_colon.ensures c.in_default-at_colon.not-Some)
-    (else_first g (IsBeforeLongPort g text) (IsAtDot g w) place c.in-Some-read_long_port.ensures))))
+    (else_first g (IsBeforeLastPort g text) (IsAtDot g w) place c.in-Some-before_last_port.ensures))))
 
 pub returns : goal.returns
 returns c =
@@ -66,6 +66,6 @@ returns c =
     (none_found g (BySlash g w text) c.at_slash.result c.at_slash.ensures c.in_default-at_slash.not-Some)
     (else_second g (ByColon g text) (AfterColon g w text) r
     (none_found g (ByColon g text) c.at_colon.result c.at_colon.ensures c.in_default-at_colon.not-Some)
-    (else_second g (IsBeforeLongPort g text) (IsAtDot g w) r
-    (none_found g (IsBeforeLongPort g text) c.read_long_port.result c.read_long_port.ensures
-    c.in_default-read_long_port.not-Some) c.at_dot.ensures))))
+    (else_second g (IsBeforeLastPort g text) (IsAtDot g w) r
+    (none_found g (IsBeforeLastPort g text) c.before_last_port.result c.before_last_port.ensures
+    c.in_default-before_last_port.not-Some) c.at_dot.ensures))))

@@ -1,6 +1,6 @@
 use Rattle.std.proofs.Common.{◌≡◌, ◌⊎◌, true, false, sym, ◌∙◌, codes}
 use Rattle.ipnet_lists.specs.Causes.{IsCutAt}
-use Rattle.netset_words.specs.Places.{IsBefore, IsOnlyAddress, is_way}
+use Rattle.netset_words.specs.Places.{IsBefore, IsHost, is_host_name}
 use Rattle.netset_words.specs.WordSteps.{word_of}
 use Rattle.netset_words.proofs.LogEntryLaws.{not_true, not_false}
 use Rattle.netset_words.proofs.PlaceLaws.{none_found, or_first, or_second, with_so}
@@ -11,11 +11,11 @@ returns-in-Some c =
     let g = c.args.grammar in
     let back = c.args.parts.back.now in
     or_first g (λ z. IsCutAt 58 (IsBefore g z) back)
-    (λ z. (((word_of c.args.word).after ≡ codes "(") ⊎ (is_way c.args.parts.front.now ≡ true)) × IsOnlyAddress g back z)
+    (λ z. (((word_of c.args.word).after ≡ codes "(") ⊎ (is_host_name c.args.parts.front.now ≡ true)) × IsHost g back z)
     c.in-Some.place c.in-Some.ensures
 
-pub returns-then-not-may_lack_port : goal.returns-then-not-may_lack_port
-returns-then-not-may_lack_port c = λ place is.
+pub returns-then-not-may_have_host : goal.returns-then-not-may_have_host
+returns-then-not-may_have_host c = λ place is.
     let g = c.args.grammar in
     let back = c.args.parts.back.now in
     elim is [
@@ -23,7 +23,7 @@ returns-then-not-may_lack_port c = λ place is.
           c.before_colon.ensures c.in_default.not-Some place port
       | inr other ↦
           let clash : true ≡ false =
-          sym (c.may_lack_port.ensures.1 other.0) ∙ not_true c.may_lack_port.result c.if-not-may_lack_port.true in
+          sym (c.may_have_host.ensures.1 other.0) ∙ not_true c.may_have_host.result c.if-not-may_have_host.true in
           absurd cc
     ]
 
@@ -31,9 +31,9 @@ pub returns : goal.returns
 returns c =
     let g = c.args.grammar in
     let back = c.args.parts.back.now in
-    let So = ((word_of c.args.word).after ≡ codes "(") ⊎ (is_way c.args.parts.front.now ≡ true) in
-    or_second g (λ z. IsCutAt 58 (IsBefore g z) back) (λ z. So × IsOnlyAddress g back z) c.read_address.result
+    let So = ((word_of c.args.word).after ≡ codes "(") ⊎ (is_host_name c.args.parts.front.now ≡ true) in
+    or_second g (λ z. IsCutAt 58 (IsBefore g z) back) (λ z. So × IsHost g back z) c.read_host.result
     (none_found g (λ z. IsCutAt 58 (IsBefore g z) back) c.before_colon.result c.before_colon.ensures
     c.in_default.not-Some)
-    (with_so g So (IsOnlyAddress g back) c.read_address.result
-    (c.may_lack_port.ensures.0 (not_false c.may_lack_port.result c.if-not-may_lack_port.false)) c.read_address.ensures)
+    (with_so g So (IsHost g back) c.read_host.result
+    (c.may_have_host.ensures.0 (not_false c.may_have_host.result c.if-not-may_have_host.false)) c.read_host.ensures)

@@ -1,6 +1,6 @@
 use Rattle.netset_words.specs.Places.{IsBeforePort}
 use Rattle.netset_words.proofs.PlaceLaws.{cut_finds, no_cut}
-use Rattle.netset_words.proofs.host.read_slash_port.Goals as goal
+use Rattle.netset_words.proofs.host.before_slash_port.Goals as goal
 
 pub returns-in-Some : goal.returns-in-Some
 returns-in-Some c =
