@@ -22,16 +22,16 @@ pub address_mask : (grammar : Grammar) (text : List ℕ) (x : Address) (r : Bool
     → (IsTrue r ↔ IsMask x) → IsTrue r ↔ IsMaskText grammar text
 address_mask grammar text x r writes h = (
   λ t. (x, writes, h.0 t),
-  λ m. h.1 (subst IsMask (one_address grammar text m.0 x m.1.0 writes) m.1.1),
+  λ m. h.1 (subst IsMask (one_address grammar text m.0 x m.1 writes) m.2),
 )
 
 pub network_is_no_mask : (grammar : Grammar) (text : List ℕ) (n : Network) → IsNetworkOrMasked grammar text n
     → ¬ (IsMaskText grammar text)
-network_is_no_mask grammar text n is m = network_is_no_address grammar text n m.0 is m.1.0
+network_is_no_mask grammar text n is m = network_is_no_address grammar text n m.0 is m.1
 
 pub range_is_no_mask : (grammar : Grammar) (text : List ℕ) (first last : Address)
     → JoinsAddresses grammar text first last → ¬ (IsMaskText grammar text)
-range_is_no_mask grammar text first last is m = range_is_no_address grammar text first last m.0 is m.1.0
+range_is_no_mask grammar text first last is m = range_is_no_address grammar text first last m.0 is m.1
 
 -- the text that is printed for a place
 pub shown_entry : (mapped : Bool) (grammar : Grammar) (text : List ℕ) (r : Option Ipv4Addr)
@@ -39,7 +39,7 @@ pub shown_entry : (mapped : Bool) (grammar : Grammar) (text : List ℕ) (r : Opt
     (λ a. (mapped ≡ true) × IsMappedText grammar text (ipv4_bits a))
     → IsShownAs mapped grammar text (shown_text r text)
 shown_entry mapped grammar text None h = inr (h, refl)
-shown_entry mapped grammar text (Some a) h = inl (h.0, (ipv4_bits a, h.1, refl))
+shown_entry mapped grammar text (Some a) h = inl (h.0, ipv4_bits a, h.1, refl)
 
 -- the range of a place
 pub range_entry : (mapped : Bool) (grammar : Grammar) (text : List ℕ) (r : Option Ipv4Addr) (entry result : Entry)
@@ -50,4 +50,4 @@ pub range_entry : (mapped : Bool) (grammar : Grammar) (text : List ℕ) (r : Opt
 range_entry mapped grammar text None entry result h is writes =
     inr (h, subst (λ z. IsEntryText grammar text (entry_range z)) (sym is) writes)
 range_entry mapped grammar text (Some a) entry result h is writes =
-    inl (h.0, (ipv4_bits a, h.1, ap entry_range is))
+    inl (h.0, ipv4_bits a, h.1, ap entry_range is)

@@ -63,36 +63,34 @@ range_is_not_mapped mapped grammar text first last is on ipv4 m =
     let (x, writes) = mapped_is_address grammar text ipv4 m in range_is_no_address grammar text first last x is writes
 
 -- an address of IPv4
-family_is_not_mapped : (grammar : Grammar) (text : List ℕ) (x : Address) → IsAddressText grammar text x
-    → x.family ≡ IPv4 → (ipv4 : ℕ) → ¬ (IsMappedText grammar text ipv4)
-family_is_not_mapped grammar text x is family ipv4 (y, writes, number, low) =
+pub ipv4_is_not_mapped : (grammar : Grammar) (text : List ℕ) (x : Address) → x.family ≡ IPv4
+    → IsAddressText grammar text x → (ipv4 : ℕ) → ¬ (IsMappedText grammar text ipv4)
+ipv4_is_not_mapped grammar text x family is ipv4 (y, writes, number, low) =
     let same = one_address grammar text x y is (inr writes) in
     let clash : IPv4 ≡ IPv6 = sym family ∙ ap (λ z. z.family) same ∙ writes.family in
     absurd cc
 
-pub ipv4_is_not_mapped : (mapped : Bool) (grammar : Grammar) (text : List ℕ) (x : Address)
-    → IsIpv4Text grammar text x → mapped ≡ true → (ipv4 : ℕ) → ¬ (IsMappedText grammar text ipv4)
-ipv4_is_not_mapped mapped grammar text x is on = family_is_not_mapped grammar text x (inl is) is.family
-
-pub v4_is_not_mapped : (mapped : Bool) (grammar : Grammar) (text : List ℕ) (a : Ipv4Addr)
-    → IsAddressText grammar text (ip_address (Ip.V4 a)) → mapped ≡ true → (ipv4 : ℕ)
-    → ¬ (IsMappedText grammar text ipv4)
-v4_is_not_mapped mapped grammar text a is on = family_is_not_mapped grammar text (ip_address (Ip.V4 a)) is refl
-
 -- an address of IPv6
-pub v6_mapped : (mapped : Bool) (grammar : Grammar) (text : List ℕ) (a : Ipv6Addr) (r : Option Ipv4Addr)
-    → mapped ≡ true → IsAddressText grammar text (ip_address (Ip.V6 a))
+pub ipv6_mapped : (grammar : Grammar) (text : List ℕ) (a : Ipv6Addr) (r : Option Ipv4Addr)
+    → IsAddressText grammar text (ip_address (Ip.V6 a))
     → MatchOption r ((ipv4 : ℕ) → ipv4 < 4294967296 → ¬ (ipv6_bits a ≡ 281470681743360 + ipv4))
     (λ b. (ipv6_bits a ≡ 281470681743360 + ipv4_bits b) × (ipv4_bits b < 4294967296))
-    → MatchOption r (mapped ≡ true → (ipv4 : ℕ) → ¬ (IsMappedText grammar text ipv4))
-    (λ b. (mapped ≡ true) × IsMappedText grammar text (ipv4_bits b))
-v6_mapped mapped grammar text a None on is h = λ again ipv4 m.
+    → MatchOption r ((ipv4 : ℕ) → ¬ (IsMappedText grammar text ipv4))
+    (λ b. IsMappedText grammar text (ipv4_bits b))
+ipv6_mapped grammar text a None is h = λ ipv4 m.
     let (y, writes, number, low) = m in
     let same = one_address grammar text (ip_address (Ip.V6 a)) y is (inr writes) in
     h ipv4 low (ap (λ z. z.number) same ∙ number)
-v6_mapped mapped grammar text a (Some b) on (inl is) h =
-    let clash : IPv6 ≡ IPv4 = is.family in absurd cc
-v6_mapped mapped grammar text a (Some b) on (inr is) h = (on, (ip_address (Ip.V6 a), is, h.0, h.1))
+ipv6_mapped grammar text a (Some b) (inl is) h = let clash : IPv6 ≡ IPv4 = is.family in absurd cc
+ipv6_mapped grammar text a (Some b) (inr is) h = (ip_address (Ip.V6 a), is, h.0, h.1)
+
+-- if that is asked for
+pub mapped_asked : (mapped : Bool) (grammar : Grammar) (text : List ℕ) (r : Option Ipv4Addr) → mapped ≡ true
+    → MatchOption r ((ipv4 : ℕ) → ¬ (IsMappedText grammar text ipv4)) (λ b. IsMappedText grammar text (ipv4_bits b))
+    → MatchOption r (mapped ≡ true → (ipv4 : ℕ) → ¬ (IsMappedText grammar text ipv4))
+    (λ b. (mapped ≡ true) × IsMappedText grammar text (ipv4_bits b))
+mapped_asked mapped grammar text None on h = λ again. h
+mapped_asked mapped grammar text (Some b) on h = (on, h)
 
 -- ---- numbers
 

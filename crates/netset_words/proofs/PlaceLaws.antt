@@ -7,11 +7,10 @@ use Rattle.std.proofs.lemmas.Bool.{false_from_ne_true}
 use Rattle.std.proofs.Common.{get_or}
 use Rattle.memchr.specs.Find.{NoneBefore, Nowhere, Passes, is_byte, is_byte2}
 use Rattle.std.specs.declared.net.ipv4_addr.Ipv4Addr.{Ipv4Addr}
-use Rattle.std.specs.declared.net.ipv6_addr.Ipv6Addr.{Ipv6Addr}
 use Rattle.std.specs.declared.net.ip_addr.IpAddr.{IpAddr}
 use Rattle.std.specs.declared.net.ip_addr.IpAddr.TheVariants as Ip
 use Rattle.std.proofs.lemmas.List.{take_all}
-use Rattle.ipnet_base.specs.Address.{IPv4, IPv6, ip_address}
+use Rattle.ipnet_base.specs.Address.{Address, IPv4, IPv6, ip_address}
 use Rattle.ipnet.specs.declared.parser.Grammar.{Grammar}
 use Rattle.ipnet_lists.specs.Causes.{IsCutAt}
 use Rattle.ipnet_lists.specs.Entries.{IsAddressText, IsIpv4Text, ReadsAs}
@@ -161,11 +160,11 @@ pub v4_text : (grammar : Grammar) (text : List ℕ) (a : Ipv4Addr) → IsAddress
 v4_text grammar text a (inl h) = h
 v4_text grammar text a (inr h) = let clash : IPv4 ≡ IPv6 = h.family in absurd cc
 
-pub v6_is_no_ipv4 : (grammar : Grammar) (text : List ℕ) (a : Ipv6Addr)
-    → IsAddressText grammar text (ip_address (Ip.V6 a)) → ¬ (IsSomeIpv4 grammar text)
-v6_is_no_ipv4 grammar text a h (x, writes) =
-    let same = one_address grammar text x (ip_address (Ip.V6 a)) (inl writes) h in
-    let clash : IPv4 ≡ IPv6 = sym writes.family ∙ ap (λ z. z.family) same in
+pub ipv6_is_no_ipv4 : (grammar : Grammar) (text : List ℕ) (x : Address) → x.family ≡ IPv6
+    → IsAddressText grammar text x → ¬ (IsSomeIpv4 grammar text)
+ipv6_is_no_ipv4 grammar text x family h (y, writes) =
+    let same = one_address grammar text y x (inl writes) h in
+    let clash : IPv4 ≡ IPv6 = sym writes.family ∙ ap (λ z. z.family) same ∙ family in
     absurd cc
 
 -- ---- the last place of a sign

@@ -1,7 +1,7 @@
 -- Each entry in a log has a "." or a ":".
 use Rattle.std.proofs.Common.{◌≡◌, ℕ, ◌||◌, ◌==◌, Bool, true, false, List, [], ◌∷◌, ◌++◌, All, refl, ◌∙◌}
 use Rattle.std.proofs.Common.{subst}
-use Rattle.std.proofs.Common.{length, append_assoc, drop, inl, inr, arith, ◌-◌, ◌+◌}
+use Rattle.std.proofs.Common.{length, append_assoc, drop, inl, inr, take, arith, ◌-◌, ◌+◌, if◌then◌else◌}
 use Rattle.std.specs.Char.{is_ascii_whitespace}
 use Rattle.std.specs.List.{after_first, before_first, list_any, position_or_len, suffix_len}
 use Rattle.std.proofs.lemmas.List.Elements.{All-nil, All-cons, All-head, All-tail, All-take, All-drop}
@@ -15,7 +15,7 @@ use Rattle.ipnet_lists.specs.Entries.{IsAddressText, IsEntryText, IsNetworkOrMas
 use Rattle.ipnet_lists.proofs.AddressBytes.{cut_at, middle}
 use Rattle.ipnet_lists.specs.Causes.{IsCutAt}
 use Rattle.netset_words.specs.Places.{HasNoPlace, IsAtColon, IsAtSlash, IsAtUser, IsBefore, IsBeforeLastPort, IsHost, IsInside}
-use Rattle.netset_words.specs.Places.{IsOnlyAddress, IsOnlyIpv4, before_sign, trimmed}
+use Rattle.netset_words.specs.Places.{IsOnlyAddress, IsOnlyIpv4, before_sign, ends_in_colon, is_end, trimmed}
 use Rattle.netset_words.specs.Words.{Word}
 
 -- the byte is "." or ":"
@@ -162,10 +162,18 @@ no_slash grammar w text place h (within, inr (inr (inr (other, name, inl is)))) 
 no_slash grammar w text place h (within, inr (inr (inr (other, name, inr is)))) =
     no_host grammar (after_first (λ c. c == 47) text) place (back_of_cut 47 text h) is.1
 
+trimmed_low : (text : List ℕ) → All IsOther text → All IsOther (trimmed text)
+trimmed_low text h = by (ends_in_colon text)
+  where
+    by : (t : Bool) → All IsOther (if t then take (length text - 1) text
+        else take (length text - suffix_len is_end text) text)
+    by true = All-take IsOther (length text - 1) text h
+    by false = All-take IsOther (length text - suffix_len is_end text) text h
+
 no_inside : (grammar : Grammar) (w : Word) (place : List ℕ) → All IsOther w.text → IsInside grammar w place → ⊥
 no_inside grammar w place h is = elim is [
   | inl user ↦ no_user grammar (trimmed w.text) place low user
-  | inr others ↦ elim others.1 [
+  | inr next ↦ elim next.1 [
     | inl slash ↦ no_slash grammar w (trimmed w.text) place low slash
     | inr more ↦ elim more.1 [
       | inl colon ↦ colon_cut (IsAtColon grammar place) (trimmed w.text) low colon
@@ -178,12 +186,12 @@ no_inside grammar w place h is = elim is [
 ]
   where
     low : All IsOther (trimmed w.text)
-    low = All-take IsOther _ w.text h
+    low = trimmed_low w.text h
 
 -- a word without one has no place
 pub no_place_without : (grammar : Grammar) (w : Word) → list_any is_separator w.text ≡ false → HasNoPlace grammar w
 no_place_without grammar w none place (inl is) = no_entry grammar w.text is.1.0 (others w.text none) is.1.1
 no_place_without grammar w none place (inr (not_whole, inl is)) =
-    no_entry grammar (trimmed w.text) is.1.0 (All-take IsOther _ w.text (others w.text none)) is.1.1
+    no_entry grammar (trimmed w.text) is.1.0 (trimmed_low w.text (others w.text none)) is.1.1
 no_place_without grammar w none place (inr (not_whole, inr (not_trimmed, is))) =
     no_inside grammar w place (others w.text none) is

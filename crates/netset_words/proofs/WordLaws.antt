@@ -145,17 +145,17 @@ cut_gap : (b : ℕ) (line rest : List ℕ) (words : List Word) → line ≡ firs
 cut_gap b line rest [] is = (b ∷ line, refl)
 cut_gap b line rest (w ∷ words) is = (rest, ap (λ z. b ∷ z) is)
 
+first_front : (b : ℕ) (line rest : List ℕ) (t : Bool) → cuts b ≡ t → line ≡ first_gap (words_of line) ++ rest
+    → (more : List ℕ) × ((b ∷ line) ≡ first_gap (words_of (b ∷ line)) ++ more)
+first_front b line rest true e is =
+    let more = cut_gap b line rest (words_of line) is in
+    (more.0, more.1 ∙ ap (λ z. first_gap z ++ more.0) (sym (after_gap b line e)))
+first_front b line rest false e is =
+    (b ∷ line, ap (λ z. z ++ (b ∷ line)) (sym (ap first_gap (after_letter b line e) ∙ no_gap b (words_of line))))
+
 front_gap : (bytes : List ℕ) → (rest : List ℕ) × (bytes ≡ first_gap (words_of bytes) ++ rest)
 front_gap [] = ([], refl)
-front_gap (b ∷ line) = by (cuts b) refl
-  where
-    by : (t : Bool) → cuts b ≡ t → (rest : List ℕ) × ((b ∷ line) ≡ first_gap (words_of (b ∷ line)) ++ rest)
-    by true e =
-        let before = front_gap line in
-        let more = cut_gap b line before.0 (words_of line) before.1 in
-        (more.0, more.1 ∙ ap (λ z. first_gap z ++ more.0) (sym (after_gap b line e)))
-    by false e =
-        (b ∷ line, ap (λ z. z ++ (b ∷ line)) (sym (ap first_gap (after_letter b line e) ∙ no_gap b (words_of line))))
+front_gap (b ∷ line) = let (rest, is) = front_gap line in first_front b line rest (cuts b) refl is
 
 pub gap_is_front : (bytes gap : List ℕ) → first_gap (words_of bytes) ≡ gap → take (length gap) bytes ≡ gap
 gap_is_front bytes gap is =

@@ -1,5 +1,5 @@
 //! The place of an entry in a word: what may be before it and after it.
-ghost use Rattle.std.specs.Prelude.{◌≡◌, ◌⊎◌, ◌↔◌, ◌==◌, ◌||◌, ◌++◌, ◌∷◌, [], List, ℕ, length, take, codes};
+ghost use Rattle.std.specs.Prelude.{◌≡◌, ◌≤◌, ◌⊎◌, ◌↔◌, ◌-◌, List, ℕ, length, take, codes};
 ghost use Rattle.std.specs.Prelude.{true, IsTrue};
 ghost use Rattle.std.specs.List.{list_all, suffix_len};
 ghost use Rattle.ipnet_lists.specs.Causes.{IsCutAt};
@@ -233,7 +233,7 @@ fn is_packet_end(word: NextWord<'_>) -> bool
 
 /// Reads an address before "." and a port, as tcpdump prints them.
 fn at_dot<'a>(word: NextWord<'a>, text: &'a [u8], grammar: Grammar) -> Option<Place<'a>>
-    requires { text.now ≡ places.trimmed word.entry.text.now }
+    requires { text.now ≡ places.trimmed word.text.now }
     ensures { Finds grammar (IsAtDot grammar (word_of word.entry)) result }
 {
     if !is_packet_end(word) {
@@ -260,7 +260,7 @@ fn read_trimmed<'a>(text: &[u8], body: &'a [u8], grammar: Grammar) -> Option<Pla
 
 /// Reads an entry in a word that is not an entry, without its last signs either.
 fn read_inside<'a>(word: NextWord<'a>, body: &'a [u8], grammar: Grammar) -> Option<Place<'a>>
-    requires { body.now ≡ places.trimmed word.entry.text.now }
+    requires { body.now ≡ places.trimmed word.text.now }
     ensures { Finds grammar (IsInside grammar (word_of word.entry)) result }
 {
     if let Some(place) = at_user(body, grammar) {

@@ -2,24 +2,17 @@ use Rattle.std.proofs.Common.{◌≡◌, true, false, sym, ◌∙◌, subst}
 use Rattle.ipnet.specs.NetworkOf.{ip_network}
 use Rattle.ipnet_base.specs.Address.{ipv4_address, ipv6_address}
 use Rattle.ipnet_lists.specs.EntryOf.{IsWrittenAs}
-use Rattle.netset_words.proofs.LogEntryLaws.{not_true, not_false}
-use Rattle.netset_words.proofs.MappedLaws.{network_is_not_mapped, range_is_not_mapped, v4_is_not_mapped, v6_mapped}
+use Rattle.netset_words.proofs.MappedLaws.{mapped_asked, network_is_not_mapped, range_is_not_mapped}
 use Rattle.netset_words.proofs.mapped.mapped_ipv4.Goals as goal
 
 pub returns-then-not-mapped : goal.returns-then-not-mapped
 returns-then-not-mapped c = λ grammar text writes on.
-    let clash : true ≡ false = sym on ∙ not_true c.args.mapped c.if-not-mapped.true in absurd cc
+    let clash : true ≡ false = sym on ∙ c.if-not-mapped.true in absurd cc
 
-pub returns-in-Address-V6 : goal.returns-in-Address-V6
-returns-in-Address-V6 c = λ grammar text writes.
-    v6_mapped c.args.mapped grammar text c.in-Address-V6.address c.unmapped.result
-    (not_false c.args.mapped c.if-not-mapped.false)
-    (subst (IsWrittenAs grammar text) c.in-Address-V6.is writes) c.unmapped.ensures
-
-pub returns-in-Address-V4 : goal.returns-in-Address-V4
-returns-in-Address-V4 c = λ grammar text writes.
-    v4_is_not_mapped c.args.mapped grammar text c.in-Address-V4.field-0
-    (subst (IsWrittenAs grammar text) c.in-Address-V4.is writes)
+pub returns-in-Address : goal.returns-in-Address
+returns-in-Address c = λ grammar text writes.
+    mapped_asked c.args.mapped grammar text c.mapped_address.result c.if-not-mapped.false
+    (c.mapped_address.ensures grammar text (subst (IsWrittenAs grammar text) c.in-Address.is writes))
 
 pub returns-in-Network : goal.returns-in-Network
 returns-in-Network c = λ grammar text writes.

@@ -1,9 +1,10 @@
-use Rattle.std.proofs.Common.{◌≡◌, ◌⊎◌, true, false, refl, sym, ap, ◌∙◌, [], List, ℕ, drop, subst}
+use Rattle.std.proofs.Common.{inl, inr, ◌≡◌, ◌⊎◌, true, false, refl, sym, ap, ◌∙◌, [], List, ℕ, drop, subst}
 use Rattle.std.proofs.lemmas.Bool.{eqb-true, eqb-false}
 use Rattle.netset_words.specs.Places.{IsHost, IsNamed, begins_with_slash, is_name}
 use Rattle.netset_words.specs.PlaceSteps.{Finds}
 use Rattle.netset_words.specs.WordSteps.{word_of}
-use Rattle.netset_words.proofs.LogEntryLaws.{empty_length, no_items, not_true, not_false}
+use Rattle.netset_words.proofs.LogEntryLaws.{empty_length, no_items}
+use Rattle.ipnet_lists.proofs.CommentLaws.{behind}
 use Rattle.netset_words.proofs.PlaceLaws.{AfterSlashes, AtStart, AfterName, only_first, or_second, with_both, with_so}
 use Rattle.netset_words.proofs.place.after_slash.Goals as goal
 
@@ -19,7 +20,8 @@ returns-then-begins_with_slash c =
       | inl start ↦ let clash : true ≡ false = sym so ∙ start.0 in absurd cc
       | inr name ↦ let clash : true ≡ false = sym so ∙ name.0 in absurd cc
     ])
-    (with_so g (begins_with_slash back ≡ true) (IsHost g (drop 1 back)) c.read_host.result so c.read_host.ensures)
+    (with_so g (begins_with_slash back ≡ true) (IsHost g (drop 1 back)) c.read_host.result so
+    (subst (λ z. Finds g (IsHost g z) c.read_host.result) (behind back 1) c.read_host.ensures))
 
 pub returns-then-is_empty : goal.returns-then-is_empty
 returns-then-is_empty c =
@@ -29,12 +31,12 @@ returns-then-is_empty c =
     let back = c.args.parts.back.now in
     let other : begins_with_slash back ≡ false = sym c.begins_with_slash.ensures ∙ c.if-begins_with_slash.false in
     let empty : front ≡ [] = no_items front (eqb-true _ 0 (sym c.is_empty.ensures ∙ c.if-is_empty.true)) in
-    or_second g (AfterSlashes g back) (λ z. AtStart g front back z ⊎ AfterName g w front back z) c.read_host.result
+    or_second g (AfterSlashes g back) (λ z. AtStart g front back z ⊎ AfterName g w front back z) c.read_host-then-is_empty.result
     (λ place is. let clash : true ≡ false = sym is.0 ∙ other in absurd cc)
-    (only_first g (AtStart g front back) (AfterName g w front back) c.read_host.result
+    (only_first g (AtStart g front back) (AfterName g w front back) c.read_host-then-is_empty.result
     (λ place is. let clash : true ≡ false = sym is.1 ∙ ap is_name empty in absurd cc)
-    (with_both g (begins_with_slash back ≡ false) (IsHost g back) (front ≡ []) c.read_host.result other empty
-    c.read_host.ensures))
+    (with_both g (begins_with_slash back ≡ false) (IsHost g back) (front ≡ []) c.read_host-then-is_empty.result other empty
+    c.read_host-then-is_empty.ensures))
 
 pub returns-then-not-is_name : goal.returns-then-not-is_name
 returns-then-not-is_name c = λ place is.
@@ -46,7 +48,7 @@ returns-then-not-is_name c = λ place is.
         | inl start ↦ eqb-false _ 0 (sym c.is_empty.ensures ∙ c.if-is_empty.false) (empty_length start.1)
         | inr named ↦
             let clash : true ≡ false =
-            sym named.1 ∙ sym c.is_name.ensures ∙ not_true c.is_name.result c.if-not-is_name.true in
+            sym named.1 ∙ sym c.is_name.ensures ∙ c.if-not-is_name.true in
             absurd cc
       ]
     ]
@@ -63,5 +65,5 @@ returns c =
     (or_second g (AtStart g front back) (AfterName g w front back) c.read_named.result
     (λ place is. eqb-false _ 0 (sym c.is_empty.ensures ∙ c.if-is_empty.false) (empty_length is.1))
     (with_both g (begins_with_slash back ≡ false) (λ z. IsNamed g w z front back) (is_name front ≡ true)
-    c.read_named.result other (sym c.is_name.ensures ∙ not_false c.is_name.result c.if-not-is_name.false)
+    c.read_named.result other (sym c.is_name.ensures ∙ c.if-not-is_name.false)
     c.read_named.ensures))

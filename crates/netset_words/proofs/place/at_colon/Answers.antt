@@ -1,7 +1,6 @@
 use Rattle.std.proofs.Common.{◌≡◌, true, false, sym, ◌∙◌}
 use Rattle.netset_words.specs.Places.{IsAtColon, IsBefore, IsHost, is_name}
 use Rattle.netset_words.proofs.Cases.{match_none}
-use Rattle.netset_words.proofs.LogEntryLaws.{not_true, not_false}
 use Rattle.netset_words.proofs.PlaceLaws.{cut_finds, no_cut, only_first, or_second, with_so}
 use Rattle.netset_words.proofs.place.at_colon.Goals as goal
 
@@ -15,7 +14,7 @@ returns-then-not-is_name c =
     let g = c.args.grammar in
     let front = c.in-Some.parts.front.now in
     let back = c.in-Some.parts.back.now in
-    let other : is_name front ≡ false = sym c.is_name.ensures ∙ not_true c.is_name.result c.if-not-is_name.true in
+    let other : is_name front ≡ false = sym c.is_name.ensures ∙ c.if-not-is_name.true in
     cut_finds g 58 (IsAtColon g) c.args.text.now front back c.read_ipv4.result c.in-Some.ensures
     (only_first g (λ z. (is_name front ≡ false) × IsBefore g z front back)
     (λ z. (is_name front ≡ true) × IsHost g back z) c.read_ipv4.result
@@ -27,7 +26,7 @@ returns c =
     let g = c.args.grammar in
     let front = c.in-Some.parts.front.now in
     let back = c.in-Some.parts.back.now in
-    let so : is_name front ≡ true = sym c.is_name.ensures ∙ not_false c.is_name.result c.if-not-is_name.false in
+    let so : is_name front ≡ true = sym c.is_name.ensures ∙ c.if-not-is_name.false in
     cut_finds g 58 (IsAtColon g) c.args.text.now front back c.read_host.result c.in-Some.ensures
     (or_second g (λ z. (is_name front ≡ false) × IsBefore g z front back)
     (λ z. (is_name front ≡ true) × IsHost g back z) c.read_host.result

@@ -1,5 +1,4 @@
 use Rattle.std.proofs.Common.{◌≡◌, true, false, sym, ◌∙◌}
-use Rattle.netset_words.proofs.LogEntryLaws.{not_true, not_false}
 use Rattle.netset_words.proofs.place.is_destination.Goals as goal
 
 pub returns-then-not-ends_in_colon : goal.returns-then-not-ends_in_colon
@@ -7,7 +6,7 @@ returns-then-not-ends_in_colon c = (
   λ t. absurd cc,
   λ so.
       let clash : true ≡ false =
-      sym so.1 ∙ sym c.ends_in_colon.ensures ∙ not_true c.ends_in_colon.result c.if-not-ends_in_colon.true in
+      sym so.1 ∙ sym c.ends_in_colon.ensures ∙ c.if-not-ends_in_colon.true in
       absurd cc,
 )
 
@@ -15,7 +14,7 @@ pub returns : goal.returns
 returns c = (
   λ t. (
     c.is_same.ensures.0 t,
-    sym c.ends_in_colon.ensures ∙ not_false c.ends_in_colon.result c.if-not-ends_in_colon.false,
+    sym c.ends_in_colon.ensures ∙ c.if-not-ends_in_colon.false,
   ),
   λ so. c.is_same.ensures.1 so.0,
 )

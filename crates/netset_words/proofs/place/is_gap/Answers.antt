@@ -1,7 +1,7 @@
 use Rattle.std.proofs.Common.{◌≡◌, true, false, sym, ap, ◌∙◌, length, eq-eqb}
 use Rattle.std.proofs.lemmas.Bool.{eqb-true}
 use Rattle.netset_words.specs.Words.{first_gap}
-use Rattle.netset_words.proofs.LogEntryLaws.{no_items, not_true}
+use Rattle.netset_words.proofs.LogEntryLaws.{no_items}
 use Rattle.netset_words.proofs.WordLaws.{gap_is_front}
 use Rattle.netset_words.proofs.place.is_gap.Goals as goal
 
@@ -11,7 +11,7 @@ returns-then-not-has_front c = (
   λ e.
       let clash : true ≡ false =
       sym (c.has_front.ensures.1 (gap_is_front c.args.bytes.now c.args.gap.now e))
-      ∙ not_true c.has_front.result c.if-not-has_front.true in
+      ∙ c.if-not-has_front.true in
       absurd cc,
 )
 

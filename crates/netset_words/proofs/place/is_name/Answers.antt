@@ -1,6 +1,5 @@
 use Rattle.std.proofs.Common.{◌<◌, true, false, sym, ◌∙◌, arith}
 use Rattle.netset_words.proofs.Cases.{match_none}
-use Rattle.netset_words.proofs.LogEntryLaws.{not_true, not_false}
 use Rattle.netset_words.proofs.NameLaws.{name_cut, no_name}
 use Rattle.netset_words.proofs.place.is_name.Goals as goal
 
@@ -12,10 +11,10 @@ returns-in_default c =
 pub returns-then-not-is_ascii_alphabetic : goal.returns-then-not-is_ascii_alphabetic
 returns-then-not-is_ascii_alphabetic c =
     sym (name_cut c.args.text.now _ _ false c.in-Some.ensures.cases.0
-    (sym c.is_ascii_alphabetic.ensures ∙ not_true c.is_ascii_alphabetic.result c.if-not-is_ascii_alphabetic.true))
+    (sym c.is_ascii_alphabetic.ensures.value ∙ c.if-not-is_ascii_alphabetic.true))
 
 pub returns : goal.returns
 returns c =
     c.are_name_bytes.ensures
     ∙ sym (name_cut c.args.text.now _ _ true c.in-Some.ensures.cases.0
-    (sym c.is_ascii_alphabetic.ensures ∙ not_false c.is_ascii_alphabetic.result c.if-not-is_ascii_alphabetic.false))
+    (sym c.is_ascii_alphabetic.ensures.value ∙ c.if-not-is_ascii_alphabetic.false))

@@ -1,8 +1,7 @@
-use Rattle.std.proofs.Common.{◌≡◌, ◌⊎◌, true, false, sym, ◌∙◌, codes}
+use Rattle.std.proofs.Common.{inl, inr, ◌≡◌, ◌⊎◌, true, false, sym, ◌∙◌, codes}
 use Rattle.ipnet_lists.specs.Causes.{IsCutAt}
 use Rattle.netset_words.specs.Places.{IsBefore, IsHost, is_host_name}
 use Rattle.netset_words.specs.WordSteps.{word_of}
-use Rattle.netset_words.proofs.LogEntryLaws.{not_true, not_false}
 use Rattle.netset_words.proofs.PlaceLaws.{none_found, or_first, or_second, with_so}
 use Rattle.netset_words.proofs.place.read_named.Goals as goal
 
@@ -23,7 +22,7 @@ returns-then-not-may_have_host c = λ place is.
           c.before_colon.ensures c.in_default.not-Some place port
       | inr other ↦
           let clash : true ≡ false =
-          sym (c.may_have_host.ensures.1 other.0) ∙ not_true c.may_have_host.result c.if-not-may_have_host.true in
+          sym (c.may_have_host.ensures.1 other.0) ∙ c.if-not-may_have_host.true in
           absurd cc
     ]
 
@@ -36,4 +35,4 @@ returns c =
     (none_found g (λ z. IsCutAt 58 (IsBefore g z) back) c.before_colon.result c.before_colon.ensures
     c.in_default.not-Some)
     (with_so g So (IsHost g back) c.read_host.result
-    (c.may_have_host.ensures.0 (not_false c.may_have_host.result c.if-not-may_have_host.false)) c.read_host.ensures)
+    (c.may_have_host.ensures.0 c.if-not-may_have_host.false) c.read_host.ensures)
