@@ -1,7 +1,7 @@
 -- The items of a line, one after another.
 use Rattle.std.proofs.Common.{◌≡◌, ℕ, Bool, true, false, List, [], ◌∷◌, ◌++◌, refl, sym}
 use Rattle.std.proofs.Common.{ap, ◌∙◌, subst, append_assoc, append-nil, Some, None, ◌⊎◌, inl, inr}
-use Rattle.std.proofs.Common.{Bor, Option, MatchOption}
+use Rattle.std.proofs.Common.{Bor}
 use Rattle.netset_words.specs.declared.item.ExtractRequest.{ExtractRequest}
 use Rattle.netset_words.specs.declared.item.Kind.TheVariants as Kinds
 use Rattle.netset_words.specs.declared.line_items.LineState.{LineState}

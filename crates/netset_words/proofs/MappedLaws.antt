@@ -1,5 +1,5 @@
 -- The texts of entries that are not addresses, and IPv4-mapped addresses.
-use Rattle.std.proofs.Common.{◌≡◌, ◌<◌, ◌+◌, ◌/◌, ◌%◌, ◌^◌, ℕ, Bool, true, false, List, ◌∷◌, ◌++◌, []}
+use Rattle.std.proofs.Common.{◌≡◌, ◌<◌, ◌+◌, ◌/◌, ◌%◌, ◌^◌, ℕ, Bool, true, List, ◌∷◌, ◌++◌, []}
 use Rattle.std.proofs.Common.{All, refl, sym, ap, ◌∙◌, arith}
 use Rattle.std.proofs.Common.{inl, inr, subst, append_assoc, Option, Some, None, MatchOption}
 use Rattle.std.specs.Net.Addr.{ipv4_bits, ipv6_bits}
@@ -9,7 +9,7 @@ use Rattle.std.specs.declared.net.ip_addr.IpAddr.TheVariants as Ip
 use Rattle.ipnet_base.specs.Address.{Address, IPv4, IPv6, ip_address}
 use Rattle.ipnet_base.specs.Network.{Network}
 use Rattle.ipnet.specs.declared.parser.Grammar.{Grammar}
-use Rattle.ipnet_lists.specs.Entries.{IsAddressText, IsIpv4Text, IsNetworkOrMasked, JoinsAddresses}
+use Rattle.ipnet_lists.specs.Entries.{IsAddressText, IsNetworkOrMasked, JoinsAddresses}
 use Rattle.ipnet_lists.proofs.AddressBytes.{IsAddressByte, ipv4_bytes, ipv6_bytes, middle}
 use Rattle.ipnet_lists.proofs.EntryTexts.{one_address}
 use Rattle.netset_words.specs.Places.{IsMappedText}

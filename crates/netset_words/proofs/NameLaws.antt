@@ -1,8 +1,8 @@
 -- Names, ports and signs at the front of a text.
-use Rattle.std.proofs.Common.{◌≡◌, ◌≢◌, ◌≤◌, ◌==◌, ◌&&◌, ℕ, Bool, true, false, List, [], ◌∷◌, length, get_or, refl, sym}
+use Rattle.std.proofs.Common.{◌≡◌, ◌&&◌, ℕ, Bool, false, List, [], ◌∷◌, length, refl}
 use Rattle.std.proofs.Common.{ap, ◌∙◌, arith}
 use Rattle.std.specs.Char.{is_ascii_alphabetic}
-use Rattle.std.specs.List.{list_all, list_any}
+use Rattle.std.specs.List.{list_all}
 use Rattle.netset_words.specs.Places.{begins_with_slash, is_name, is_name_byte}
 
 pub name_cut : (text : List ℕ) (b : ℕ) (rest : List ℕ) (letter : Bool) → text ≡ b ∷ rest

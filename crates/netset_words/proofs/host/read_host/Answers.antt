@@ -1,5 +1,5 @@
 use Rattle.std.proofs.Common.{Some, subst}
-use Rattle.netset_words.specs.Places.{IsOnlyAddress, IsBeforeLastPort, IsOnlyIpv4, before_sign}
+use Rattle.netset_words.specs.Places.{IsOnlyAddress, IsBeforeLastPort, IsOnlyIpv4}
 use Rattle.netset_words.specs.PlaceSteps.{Finds, IsFound}
 use Rattle.netset_words.proofs.PlaceLaws.{BySlashPort, BySign, AfterAddress, AfterSign}
 use Rattle.netset_words.proofs.PlaceLaws.{else_first, else_second, none_found, or_first, or_second}

@@ -1,4 +1,4 @@
-use Rattle.std.proofs.Common.{◌≡◌, true, false, subst}
+use Rattle.std.proofs.Common.{subst}
 use Rattle.ipnet.specs.NetworkOf.{ip_network}
 use Rattle.ipnet_base.specs.Address.{ip_address, ipv4_address, ipv6_address}
 use Rattle.ipnet_lists.specs.EntryOf.{IsWrittenAs}

@@ -1,4 +1,4 @@
-use Rattle.std.proofs.Common.{◌≡◌, true, false, sym, ◌∙◌, subst}
+use Rattle.std.proofs.Common.{◌≡◌, true, false, sym, ◌∙◌}
 use Rattle.netset_words.proofs.KindLaws.{shown_entry}
 use Rattle.netset_words.proofs.item.place_item.Goals as goal
 

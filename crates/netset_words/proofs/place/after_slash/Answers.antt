@@ -1,4 +1,4 @@
-use Rattle.std.proofs.Common.{inl, inr, ◌≡◌, ◌⊎◌, true, false, refl, sym, ap, ◌∙◌, [], List, ℕ, drop, subst}
+use Rattle.std.proofs.Common.{inl, inr, ◌≡◌, ◌⊎◌, true, false, sym, ap, ◌∙◌, [], drop, subst}
 use Rattle.std.proofs.lemmas.Bool.{eqb-true, eqb-false}
 use Rattle.netset_words.specs.Places.{IsHost, IsNamed, begins_with_slash, is_name}
 use Rattle.netset_words.specs.PlaceSteps.{Finds}

@@ -1,4 +1,4 @@
-use Rattle.std.proofs.Common.{◌<◌, true, false, sym, ◌∙◌, arith}
+use Rattle.std.proofs.Common.{true, false, sym, ◌∙◌}
 use Rattle.netset_words.proofs.Cases.{match_none}
 use Rattle.netset_words.proofs.NameLaws.{name_cut, no_name}
 use Rattle.netset_words.proofs.place.is_name.Goals as goal

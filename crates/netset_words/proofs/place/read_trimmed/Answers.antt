@@ -1,4 +1,4 @@
-use Rattle.std.proofs.Common.{◌≡◌, ◌<◌, arith, subst, length, ap}
+use Rattle.std.proofs.Common.{arith, subst}
 use Rattle.netset_words.specs.Places.{IsWhole}
 use Rattle.netset_words.proofs.PlaceBytes.{untrimmed}
 use Rattle.netset_words.proofs.place.read_trimmed.Goals as goal

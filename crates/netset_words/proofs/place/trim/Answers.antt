@@ -1,4 +1,4 @@
-use Rattle.std.proofs.Common.{sym, ap, ◌∙◌, take, true, false}
+use Rattle.std.proofs.Common.{sym, ap, ◌∙◌, take}
 use Rattle.netset_words.proofs.PlaceBytes.{trimmed_colon, trimmed_ends}
 use Rattle.netset_words.proofs.place.trim.Goals as goal
 
