@@ -11,8 +11,8 @@ ghost use Rattle.netset_words.specs.Words.{first_gap, words_of};
 ghost use Rattle.netset_words.specs.WordSteps.{word_of};
 
 use crate::host::{
-    Parts, Place, before_colon, before_port, cut_at, cut_at_last, has_separator, read_address,
-    read_host, read_ipv4, before_last_port, read_whole,
+    Parts, Place, before_colon, before_last_port, before_port, cut_at, cut_at_last, has_separator,
+    read_address, read_host, read_ipv4, read_whole,
 };
 use crate::word::{NextWord, next_word};
 use ipnet::Grammar;
