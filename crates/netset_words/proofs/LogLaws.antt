@@ -93,7 +93,7 @@ address_front how bytes len a some within letters next writes =
     let entry : IsEntryText grammar text (entry_range (Entries.Address (Ip.V4 a))) =
     inl (inr record { address = ipv4_address a; writes = inl is; is = refl }) in
     front_entry how bytes len (entry_range (Entries.Address (Ip.V4 a))) some within letters next entry
-    (inr (ipv4_is_not_mapped how.mapped grammar text (ipv4_address a) is, entry))
+    (inr (λ on. ipv4_is_not_mapped grammar text (ipv4_address a) refl (inl is), entry))
 
 -- words that are not entries were passed
 pub record IsPassed (grammar : Grammar) (bytes rest : List ℕ) : Type 0 where
