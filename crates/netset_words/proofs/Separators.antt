@@ -14,7 +14,8 @@ use Rattle.ipnet.proofs.Ipv4Texts.{Dots-from}
 use Rattle.ipnet_lists.specs.Entries.{IsAddressText, IsEntryText, IsNetworkOrMasked, before_blanks}
 use Rattle.ipnet_lists.proofs.AddressBytes.{cut_at, middle}
 use Rattle.ipnet_lists.specs.Causes.{IsCutAt}
-use Rattle.netset_words.specs.Places.{HasNoPlace, IsAtColon, IsAtSlash, IsAtUser, IsBefore, IsBeforeLastPort, IsHost, IsInside}
+use Rattle.netset_words.specs.Places.{HasNoPlace, IsAtColon, IsAtSlash, IsAtUser, IsBefore, IsBeforeLastPort, IsHost}
+use Rattle.netset_words.specs.Places.{IsInside}
 use Rattle.netset_words.specs.Places.{IsOnlyAddress, IsOnlyIpv4, before_sign, ends_in_colon, is_end, trimmed}
 use Rattle.netset_words.specs.Words.{Word}
 

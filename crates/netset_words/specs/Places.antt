@@ -108,8 +108,8 @@ is_name (b ∷ text) = is_ascii_alphabetic b && list_all is_name_byte text
 abbrev pub IsAtUser : Grammar → (place front back : List ℕ) → Type 0
 IsAtUser grammar place front back = IsHost grammar back place ⊎ IsBeforePort grammar place front back
 
--- The name has a "." or a "_", as names of hosts and Squid's names of ways to a server have. Example: `host.example` and
--- `HIER_DIRECT`, and not `Chrome`.
+-- The name has a "." or a "_", as names of hosts and Squid's names of ways to a server have.
+-- Example: `host.example` and `HIER_DIRECT`, and not `Chrome`.
 abbrev pub is_host_name : List ℕ → Bool
 is_host_name = list_any (λ b. (b == 46) || (b == 95))
 

@@ -29,14 +29,15 @@ returns-then-is_empty c =
     let w = word_of c.args.word in
     let front = c.args.parts.front.now in
     let back = c.args.parts.back.now in
+    let read_host = c.read_host-then-is_empty in
     let other : begins_with_slash back ≡ false = sym c.begins_with_slash.ensures ∙ c.if-begins_with_slash.false in
     let empty : front ≡ [] = no_items front (eqb-true _ 0 (sym c.is_empty.ensures ∙ c.if-is_empty.true)) in
-    or_second g (AfterSlashes g back) (λ z. AtStart g front back z ⊎ AfterName g w front back z) c.read_host-then-is_empty.result
+    or_second g (AfterSlashes g back) (λ z. AtStart g front back z ⊎ AfterName g w front back z) read_host.result
     (λ place is. let clash : true ≡ false = sym is.0 ∙ other in absurd cc)
-    (only_first g (AtStart g front back) (AfterName g w front back) c.read_host-then-is_empty.result
+    (only_first g (AtStart g front back) (AfterName g w front back) read_host.result
     (λ place is. let clash : true ≡ false = sym is.1 ∙ ap is_name empty in absurd cc)
-    (with_both g (begins_with_slash back ≡ false) (IsHost g back) (front ≡ []) c.read_host-then-is_empty.result other empty
-    c.read_host-then-is_empty.ensures))
+    (with_both g (begins_with_slash back ≡ false) (IsHost g back) (front ≡ []) read_host.result other empty
+    read_host.ensures))
 
 pub returns-then-not-is_name : goal.returns-then-not-is_name
 returns-then-not-is_name c = λ place is.
