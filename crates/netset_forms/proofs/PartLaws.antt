@@ -1,6 +1,6 @@
 -- The parts of an answer: their sets, and their texts.
 use Rattle.std.proofs.Common.{◌≡◌, ℕ, ◌/◌, ◌≤◌, ◌<◌, ◌^◌, ◌↔◌, List, ◌++◌, Option, Some, None, refl, sym, ap, ◌∙◌}
-use Rattle.std.proofs.Common.{subst, arith, append-nil, max, Result, IfErr}
+use Rattle.std.proofs.Common.{subst, arith, append-nil, max, Result, IfOk, IfErr}
 use Rattle.std.proofs.lemmas.Result.{IfErr-weaker}
 use Rattle.std.proofs.Math.Nat.{div-eq_of_lt, zero-div}
 use Rattle.std.specs.Borrow.{Bor}
@@ -15,11 +15,12 @@ use Rattle.netset_forms.specs.declared.form.FormFailure.TheVariants as Failures
 use Rattle.netset_forms.specs.declared.form.SetNames.{SetNames}
 use Rattle.netset_forms.specs.declared.frame.Commands.{Commands}
 use Rattle.netset_forms.specs.declared.frame.Commands.TheVariants as Sets
+use Rattle.netset_forms.specs.declared.parts.Item.{Item}
 use Rattle.netset_forms.specs.declared.parts.Part.{Part}
 use Rattle.netset_forms.specs.declared.parts.Parts.{Parts}
 use Rattle.netset_forms.specs.Forms.{FitsFamilies, IsOfFamily, HasOne, IsFamilyText, AreFamilyTexts, AreBlocksIn}
-use Rattle.netset_forms.specs.Forms.{names_in, IsFormFailure}
-use Rattle.netset_forms.specs.FormSteps.{IsItemsText, named_item, named_items}
+use Rattle.netset_forms.specs.Forms.{names_in, IsFormText, IsFormFailure}
+use Rattle.netset_forms.specs.FormSteps.{IsItemsText, named_item, named_items, least_in}
 use Rattle.netset_forms.specs.FormSteps.{IsNamedText, MakesPart, MakeParts, ArePartTexts, IsPartText, IsNamedFailure}
 use Rattle.netset_forms.specs.Layouts.{Layout}
 
@@ -109,6 +110,30 @@ fits_one InSet least fits x m = one x.family (fits x m)
     one : (f : Family) → least ≤ width f → max least 1 ≤ width f
     one IPv4 h = omega (arith, h)
     one IPv6 h = omega (arith, h)
+
+-- ---- the parts of a form
+
+module _ (form : AnswerForm) (n : ℕ) (InSet : Address → Type 0) where
+  -- one part in the layout of the form, by networks of its least prefix length
+  pub one_of_form : (f : AnswerForm) (item : Item) (layout known : Layout) (least : ℕ) (parts : Parts)
+      → form ≡ f → layout ≡ known → least ≡ least_in form n → least_in f n ≡ n
+      → IsItemsText item known n InSet ≡ IsFormText f n InSet
+      → MakeParts (IsItemsText item layout least InSet) parts → MakeParts (IsFormText form n InSet) parts
+  one_of_form f item layout known least parts is same least_is low text h =
+      subst (λ z. MakeParts (IsFormText z n InSet) parts) (sym is)
+      (subst (λ T. MakeParts T parts) text
+      (subst (λ l. MakeParts (IsItemsText item l n InSet) parts) same
+      (subst (λ m. MakeParts (IsItemsText item layout m InSet) parts)
+      (least_is ∙ ap (λ z. least_in z n) is ∙ low) h)))
+
+  -- the parts of the families of the form, by networks of its least prefix length
+  pub named_of_form : (f : AnswerForm) (least : ℕ) (IsText : ℕ → List ℕ → Type 0) (r : Result Parts FormFailure)
+      → form ≡ f → least ≡ least_in form n → least_in f n ≡ n → IsText n ≡ IsFormText f n InSet
+      → IfOk r (MakeParts (IsText least)) → IfOk r (MakeParts (IsFormText form n InSet))
+  named_of_form f least IsText r is least_is low text h =
+      subst (λ z. IfOk r (MakeParts (IsFormText z n InSet))) (sym is)
+      (subst (λ T. IfOk r (MakeParts T)) text
+      (subst (λ m. IfOk r (MakeParts (IsText m))) (least_is ∙ ap (λ z. least_in z n) is ∙ low) h))
 
 -- ---- why parts are missing
 
