@@ -14,6 +14,6 @@ pub returns-in-Ok-clause-outcome : goal.returns-in-Ok-clause-outcome
 returns-in-Ok-clause-outcome c = λ request lists h.
     select_outcome request lists c.args.self h _ c.if-lines-ne0.false c.in-Ok.ensures.found
 
-pub returns-in-Err-clause-failure : goal.returns-in-Err-clause-failure
-returns-in-Err-clause-failure c = λ request lists h.
+pub returns-clause-failure : goal.returns-clause-failure
+returns-clause-failure c = λ request lists h.
     (refl, select_memory request lists c.args.self h c.if-lines-ne0.false)
