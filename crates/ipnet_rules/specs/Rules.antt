@@ -12,11 +12,12 @@ use Rattle.ipnet_rules.specs.declared.rules.Rule.{Rule}
 use Rattle.ipnet_rules.specs.declared.rules.Rules.{Rules}
 use Rattle.ipnet_rules.specs.Verdicts.{HasVerdict}
 
--- the network's block, the range or the set contains the address
+-- the network's block, the range or the set contains the address; or each address is meant
 abbrev pub IsOneOf : Addresses → Address → Type 0
 IsOneOf (Of.Network network) x = InBlock (ip_network network) x
 IsOneOf (Of.Range first last) x = IsFromTo (ip_address first) (ip_address last) x
 IsOneOf (Of.Set set) x = IsMember set x
+IsOneOf Of.Any x = IsAddress x
 
 -- a rule matches the addresses that it names
 abbrev pub Matches : Rule → Address → Type 0
