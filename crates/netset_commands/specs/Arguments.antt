@@ -1,5 +1,5 @@
 -- The words of a command line: its flags, the names of its lists, and the entries of `-e`.
-use Rattle.std.specs.Prelude.{◌≡◌, ◌≤◌, ◌<◌, ◌⊎◌, ◌↔◌, ℕ, Bool, true, false, List, [], ◌∷◌, ◌++◌, length, codes}
+use Rattle.std.specs.Prelude.{◌≡◌, ◌<◌, ◌⊎◌, ◌↔◌, ℕ, Bool, true, false, List, [], ◌∷◌, ◌++◌, length, codes}
 use Rattle.std.specs.Prelude.{Some, None, option_map, unwrap_or, count_by}
 use Rattle.std.specs.Char.{is_ascii_control}
 use Rattle.std.specs.List.{list_any}
@@ -12,9 +12,6 @@ use Rattle.netset_files.specs.Files.{entry_list, standard_input}
 use Rattle.netset_files.specs.declared.lists.Empties.{Empties}
 use Rattle.netset_files.specs.declared.lists.Empties.TheVariants.{Report, Allow, Refuse}
 use Rattle.ipnet_lists.specs.Names.{Names}
-use Rattle.netset_lib.specs.declared.command.Work.{Work}
-use Rattle.netset_lib.specs.declared.command.Work.TheVariants.{Combine, Ask}
-use Rattle.netset_lib.specs.declared.query.Query.TheVariants.{Count, Compare, Filter, Route}
 
 -- The values of the argument with this id, in order; none if it was not given.
 -- Example: `b`, `c` for the id `others` of `union a b c`.
@@ -47,27 +44,18 @@ input_count names = count_by (λ name. bytes_eq name.now standard_input) names
 abbrev pub have_control : Names → Bool
 have_control names = list_any (λ name. list_any is_ascii_control name.now) names
 
--- The greatest number of named lists with which the work also reads standard input: none, and one list of a filter or a
--- route.
-abbrev pub most_before_input : Work → ℕ
-most_before_input (Combine request) = 0
-most_before_input (Ask Count grammar) = 0
-most_before_input (Ask Compare grammar) = 0
-most_before_input (Ask (Filter side) grammar) = 1
-most_before_input (Ask Route grammar) = 1
-
 -- The entries that the options `-e` name, in order. Example: `10.1.2.3`, `::1` of `route t -e 10.1.2.3 -e ::1`.
 abbrev pub entries_of : ArgMatches → List (List ℕ)
 entries_of matches = values_of matches (codes "entry")
 
--- The names of the lists of a command: those that are given, and then the list of entries. If there are no entries and
--- at most `most` lists are given, standard input is the last list.
--- Example: `filter a` has the names `a`, `-`; `filter a -e ::1` has `a`, `-e`; `union` has `-`; `union a` has `a`.
-abbrev pub AreListNames : ℕ → (given entries names : List (List ℕ)) → Type 0
-AreListNames most given entries names =
+-- The names of any number of lists: those that are given, and then the list of entries. If nothing is given and there
+-- are no entries, the list is standard input.
+-- Example: `union` has the name `-`; `union a b` has `a`, `b`; `union a -e ::1` has `a`, `-e`.
+abbrev pub AreListNames : (given entries names : List (List ℕ)) → Type 0
+AreListNames given entries names =
     ((0 < length entries) × (names ≡ given ++ entry_list ∷ []))
-    ⊎ ((length entries ≡ 0) × (length given ≤ most) × (names ≡ given ++ standard_input ∷ []))
-    ⊎ ((length entries ≡ 0) × (most < length given) × (names ≡ given))
+    ⊎ ((length entries ≡ 0) × (length given ≡ 0) × (names ≡ given ++ standard_input ∷ []))
+    ⊎ ((length entries ≡ 0) × (0 < length given) × (names ≡ given))
 
 -- The name of the last list of a command, which has this id: the list of entries; or else what is given, or `-` for
 -- standard input. Example: for the id `others`, `b` of `changes a b`, and `-e` of `changes a -e ::1`.

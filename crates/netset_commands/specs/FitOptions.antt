@@ -1,5 +1,5 @@
 -- The options of `fit`: its limits, and its lists.
-use Rattle.std.specs.Prelude.{◌≡◌, ◌≢◌, ◌++◌, ◌∷◌, ◌↔◌, ℕ, List, [], Option, Some, None, codes, map, IsTrue}
+use Rattle.std.specs.Prelude.{◌≡◌, ◌++◌, ◌∷◌, ℕ, List, [], Option, Some, None, codes, map}
 use Rattle.std.specs.Prelude.{unwrap_or}
 use Rattle.clap.specs.declared.parser.matches.ArgMatches.{ArgMatches}
 use Rattle.clap.specs.Matches.{found_of, first_value}
@@ -41,7 +41,6 @@ pub record IsFitRequest (matches : ArgMatches) (request : FitRequest) : Type 0 w
   pub limited : IsLimited ipv4 ipv6 percent
   pub ipv4_limit : request.ipv4 ≡ limit_of ipv4 (unwrap_or percent 0)
   pub ipv6_limit : request.ipv6 ≡ limit_of ipv6 (unwrap_or percent 0)
-  pub never : IsTrue request.has_never ↔ (first_value (found_of matches) (codes "never") ≢ None)
 
 -- The name of the list to avoid, if there is one.
 abbrev pub never_names : Option (List ℕ) → List (List ℕ)
@@ -52,6 +51,6 @@ never_names (Some name) = name ∷ []
 -- Example: `n`, `a`, `b` of `fit --never n a b`, `-` of `fit`, and `a`, `-e` of `fit a -e ::1`.
 pub record AreFitNames (matches : ArgMatches) (all : Names) : Type 0 where
   pub lists : Names
-  pub are : AreNamesOf matches 0 lists
+  pub are : AreNamesOf matches lists
   pub names : map (λ name. name.now) all
       ≡ never_names (first_value (found_of matches) (codes "never")) ++ map (λ name. name.now) lists

@@ -11,13 +11,10 @@ use Rattle.ipnet_lists.specs.Entries.{IsNetworkOrMasked}
 use Rattle.netset_commands.specs.Arguments.{IsFlag, input_count}
 use Rattle.netset_commands.specs.Calls.{AreFlags}
 use Rattle.netset_forms.specs.declared.options.FormOptions.{FormOptions}
-use Rattle.netset_lib.specs.Commands.{grammar_of, work_of}
+use Rattle.netset_lib.specs.Commands.{grammar_of}
 use Rattle.ipnet_lists.specs.Names.{Names}
 use Rattle.netset_lib.specs.PlanAnswers.{IsLengthText}
 use Rattle.netset_lib.specs.declared.command.Flags.{Flags}
-use Rattle.netset_lib.specs.declared.command.ListCommand.{ListCommand}
-use Rattle.netset_lib.specs.declared.command.ListCommand.TheVariants.{Union, Compare}
-use Rattle.netset_lib.specs.declared.command.Work.{Work}
 use Rattle.ipnet_origins.specs.declared.origins.Validity.{Validity}
 use Rattle.netset_origins.specs.OriginAnswers.{validity_word}
 use Rattle.netset_pictures.specs.declared.locale.MarkChoice.{MarkChoice}
@@ -64,19 +61,10 @@ mark_choice false true terminal = Utf8
 mark_choice false false true = Terminal
 mark_choice false false false = File
 
--- A picture asks for the addresses of all lists; with `--compare`, for what differs between two.
-abbrev pub pictured_command : Bool → ListCommand
-pictured_command true = Compare
-pictured_command false = Union
-
--- The work of a picture of the lists with these names. At most one of them is standard input, and there are two if they
--- are compared.
-pub record IsPicturedWork (matches : ArgMatches) (names : Names) (work : Work) : Type 0 where
-  pub compares : Bool
+-- The lists of a picture, which have these names: at most one of them is standard input, and there are two if they are
+-- compared.
+pub record ArePictured (matches : ArgMatches) (names : Names) (compares : Bool) : Type 0 where
   pub is_set : IsFlag matches (codes "compare") compares
-  pub flags : Flags
-  pub are_set : AreFlags matches flags
-  pub meant : work ≡ work_of (pictured_command compares) flags
   pub once : ¬ (1 < input_count names)
   pub two : compares ≡ true → length names ≡ 2
 

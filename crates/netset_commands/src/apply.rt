@@ -1,11 +1,12 @@
 //! The command `apply`: its arguments, and its run.
 ghost use Rattle.std.specs.Prelude.{◌≡◌, ◌≤◌, IfErr};
 
-use crate::arguments::{FIRST_LIST, OTHERS, RANGES_FLAG, SHARED, two_or_report};
-use crate::reading::{reading_work, session_of};
+use crate::arguments::{FIRST_LIST, OTHERS, RANGES_FLAG, SHARED, flags_of, two_or_report};
+use crate::reading::{finish, set_reader};
 use crate::table::{ARGUMENT, Argument, Form, Subcommand};
 use clap::ArgMatches;
-use netset_files::{Empties, Reports, Writers, bytes_of, whole_of};
+use ipnet_sets::IpSet;
+use netset_files::{Empties, Lists, Reports, Writers, bytes_of, whole_of};
 use netset_lib::{ApplyCommand, run_text};
 
 /// The name of the command.
@@ -45,6 +46,24 @@ fn changes_of(rt: &HostRuntime, name: &str, reports: Reports) -> Result<Vec<u8>,
     }
 }
 
+/// Reads the list and the changes, and returns the set of the list, and the bytes of the changes. If that fails, or if
+/// lines of the list are refused, it is reported, and the error is the exit status.
+fn read_both(
+    rt: &HostRuntime,
+    matches: &ArgMatches,
+    names: &[&str; 2],
+    writers: &mut Writers<'_>,
+) -> Result<(IpSet, Vec<u8>), u8>
+    ensures { IfErr result (λ status. status ≡ 2) }
+{
+    let lists = Lists::new(set_reader(rt, matches)?, writers.reports);
+    let (lists, set) = lists.read(rt, names[0])?;
+    let reader = lists.end()?;
+    let changes = changes_of(rt, names[1], writers.reports)?;
+    finish(reader, names, writers)?;
+    Ok((set, changes))
+}
+
 /// Reads the arguments, the list and the changes, prints the answer, and returns the exit status.
 #[inline(never)]
 pub fn apply_changes(rt: &HostRuntime, matches: &ArgMatches, writers: &mut Writers<'_>) -> u8
@@ -54,15 +73,18 @@ pub fn apply_changes(rt: &HostRuntime, matches: &ArgMatches, writers: &mut Write
         Ok(names) => names.in_order(),
         Err(status) => return status,
     };
-    let session = match session_of(rt, reading_work(matches), &names[..1], writers.reports) {
-        Ok(session) => session,
-        Err(status) => return status,
-    };
-    match changes_of(rt, names[1], writers.reports) {
-        Ok(bytes) => {
-            let changes = bytes.as_slice();
+    match read_both(rt, matches, &names, writers) {
+        Ok((set, changes)) => {
+            let flags = flags_of(matches);
+            let command = ApplyCommand {
+                alloc: rt.alloc(),
+                set,
+                changes: changes.as_slice(),
+                grammar: flags.grammar(),
+                form: flags.form(),
+            };
             let (out, faults) = (&mut writers.answer, &mut writers.faults);
-            run_text(ApplyCommand { session, changes }, &names, out, faults)
+            run_text(command, &names, out, faults)
         }
         Err(status) => status,
     }

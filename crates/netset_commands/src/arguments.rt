@@ -1,21 +1,21 @@
 //! The command line: the lists to read, and what to do with them.
-ghost use Rattle.std.specs.Prelude.{◌≡◌, ◌≤◌, ◌<◌, ◌↔◌, ◌∷◌, ◌++◌, [], Bool, map, codes, IsTrue, IfOk, IfErr, IsErr};
+ghost use Rattle.std.specs.Prelude.{◌≡◌, ◌<◌, ◌↔◌, ◌∷◌, ◌++◌, [], Bool, false, map, codes, IsTrue, IfOk, IfErr, IsErr};
 ghost use Rattle.std.specs.Prelude.{OnOk, IsOk, length};
 ghost use Rattle.std.specs.Char.{is_ascii_control};
 ghost use Rattle.std.specs.List.{list_any};
 ghost use Rattle.netset_commands.specs.Arguments.{values_of, list_name, IsFlag};
 ghost use Rattle.netset_commands.specs.Arguments.{empties_of, entries_of, input_count, have_control};
-ghost use Rattle.netset_commands.specs.Arguments.{most_before_input};
-ghost use Rattle.netset_commands.specs.Calls.{IsCall, IsCallFailure, IsNameFailure, AreGoodNames, AreNamesOf};
-ghost use Rattle.netset_commands.specs.Calls.{AreFlags, AreTwoNames, PrintsNames};
-ghost use Rattle.netset_commands.specs.declared.arguments.ArgumentFailure.TheVariants.{InputTwice};
+ghost use Rattle.netset_commands.specs.Calls.{AreFlags, AreGoodNames, AreNamesOf, AreTwoNames, IsNameFailure};
+ghost use Rattle.netset_commands.specs.declared.arguments.ArgumentFailure.TheVariants.{InputTwice, ControlCharacter};
+ghost use Rattle.netset_lib.specs.Commands.{families_of};
+ghost use Rattle.netset_lib.specs.declared.command.Flags.{Flags};
 ghost use Rattle.netset_files.specs.Files.{standard_input};
 
 use crate::entry_options::{has_entries, last_name};
 use crate::table::{ARGUMENT, Argument, Form};
 use clap::ArgMatches;
 use netset_files::{ENTRY_LIST, Empties, Reports, STANDARD_INPUT};
-use netset_lib::{Flags, ListCommand, Query, Work};
+use netset_lib::{Families, Flags, families};
 use std::alloc::{AllocError, Global};
 use std::env;
 use std::env::Env;
@@ -122,17 +122,6 @@ const MOST_ARGUMENT: usize = 131_072;
 
 /// The most bytes of an argument that a report shows.
 const MOST_SHOWN: usize = 100;
-
-/// The parsed command line.
-#[derive(Drop)]
-pub struct Call<'a> {
-    /// The operation or the query.
-    pub work: Work,
-    /// The names of the lists, in order; the list of entries is the last. At most one of them is standard input.
-    pub names: Vec<&'a str>,
-    /// Whether the answers are written while the second list is read.
-    pub is_streamed: bool,
-}
 
 /// Why the arguments cannot be used, although each of them is one of the command's.
 #[derive(Clone, Copy, Debug, PartialEq, Eq, Drop, thiserror::Error)]
@@ -287,49 +276,18 @@ fn push_values<'a>(
     }
 }
 
-/// The greatest number of named lists with which the work also reads standard input: none, or the first list of a
-/// filter or a route.
-fn most_before_input(work: Work) -> usize
-    ensures { result ≡ most_before_input work }
-{
-    match work {
-        Work::Ask(Query::Filter(_) | Query::Route, _) => 1,
-        Work::Ask(Query::Count | Query::Compare, _) | Work::Combine(_) => 0,
-    }
-}
-
-/// The names of the lists, in order. The list of entries is the last. Without entries, if at most `most` lists are
-/// named, standard input is the last.
-pub fn names_of<'a>(
-    alloc: Global,
-    matches: &ArgMatches<'a>,
-    most: usize,
-) -> Result<Vec<&'a str>, AllocError>
-    ensures { IfOk result (λ names. AreNamesOf matches.now most names.items) }
+/// The names of any number of lists, in order. The list of entries is the last. Without a name and without entries, it
+/// is standard input.
+pub fn names_of<'a>(alloc: Global, matches: &ArgMatches<'a>) -> Result<Vec<&'a str>, AllocError>
+    ensures { IfOk result (λ names. AreNamesOf matches.now names.items) }
 {
     let mut names = Vec::new(alloc);
     push_values(&mut names, matches, FIRST)?;
     push_values(&mut names, matches, OTHERS)?;
     if has_entries(matches) {
         names.push(ENTRY_LIST)?;
-    } else if names.len() <= most {
+    } else if names.is_empty() {
         names.push(STANDARD_INPUT)?;
-    }
-    Ok(names)
-}
-
-/// Returns the names of the lists of a command that reads standard input if no list is named, and there are no entries.
-/// If memory runs out, or if standard input is named twice, it is reported, and the error is the exit status.
-pub fn names_or_report<'a>(rt: &HostRuntime, matches: &ArgMatches<'a>) -> Result<Vec<&'a str>, u8>
-    ensures names { IfOk result (λ names. AreNamesOf matches.now 0 names.items) }
-    ensures once { IfOk result (λ names. ¬ (1 < input_count names.items)) }
-    ensures failed { IfErr result (λ status. status ≡ 2) }
-{
-    let Ok(names) = names_of(rt.alloc(), matches, 0) else {
-        return Err(report_argument_failure(rt, ArgumentFailure::Memory));
-    };
-    if reads_input_twice(names.as_slice()) {
-        return Err(report_argument_failure(rt, ArgumentFailure::InputTwice));
     }
     Ok(names)
 }
@@ -412,57 +370,53 @@ fn has_control(name: &str) -> bool
 }
 
 /// Whether one of the names has a control character.
-pub fn have_control(names: &[&str]) -> bool
+fn have_control(names: &[&str]) -> bool
     ensures { result ≡ have_control names.now }
 {
     names.iter().any(|name| has_control(name))
 }
 
-/// Whether the answer has the names of the lists.
-fn prints_names(work: Work) -> bool
-    ensures { IsTrue result ↔ PrintsNames work }
+/// Returns the names of any number of lists, in order, of which at most one is standard input.
+#[inline(never)]
+fn list_names<'a>(alloc: Global, matches: &ArgMatches<'a>) -> Result<Vec<&'a str>, ArgumentFailure>
+    ensures named { IfOk result (λ names. AreGoodNames matches.now names.items) }
+    ensures failed { IfErr result (IsNameFailure matches.now) }
 {
-    match work {
-        Work::Ask(Query::Count, _) => true,
-        _ => false,
+    let Ok(names) = names_of(alloc, matches) else {
+        return Err(ArgumentFailure::Memory);
+    };
+    if reads_input_twice(names.as_slice()) {
+        return Err(ArgumentFailure::InputTwice);
+    }
+    Ok(names)
+}
+
+/// Returns what `list_names` does. If that fails, it is reported, and the error is the exit status.
+pub fn names_or_report<'a>(rt: &HostRuntime, matches: &ArgMatches<'a>) -> Result<Vec<&'a str>, u8>
+    ensures named { IfOk result (λ names. AreGoodNames matches.now names.items) }
+    ensures failed { IfErr result (λ status. status ≡ 2) }
+{
+    match list_names(rt.alloc(), matches) {
+        Ok(names) => Ok(names),
+        Err(failure) => Err(report_argument_failure(rt, failure)),
     }
 }
 
-/// Refuses these names of the lists if two are standard input, or if one would break a line of the answer.
-fn check_names(work: Work, names: &[&str]) -> Result<(), ArgumentFailure>
-    ensures good { IsOk result ↔ AreGoodNames work names.now }
-    ensures failed { IfErr result (IsNameFailure work names.now) }
+/// Refuses names of lists of which one would break a line of an answer that has them.
+pub fn check_names(names: &[&str]) -> Result<(), ArgumentFailure>
+    ensures good { IsOk result ↔ (have_control names.now ≡ false) }
+    ensures failed { IfErr result (λ failure. failure ≡ ControlCharacter) }
 {
-    if reads_input_twice(names) {
-        return Err(ArgumentFailure::InputTwice);
-    }
-    if prints_names(work) && have_control(names) {
+    if have_control(names) {
         return Err(ArgumentFailure::ControlCharacter);
     }
     Ok(())
 }
 
-/// Reads the arguments of the command of this name: the work, and the names of the lists.
-#[inline(never)]
-pub fn call_of<'a>(
-    alloc: Global,
-    name: &str,
-    matches: &ArgMatches<'a>,
-) -> Result<Call<'a>, ArgumentFailure>
-    ensures called { IfOk result (IsCall name.now matches.now) }
-    ensures failed { IfErr result (IsCallFailure name.now matches.now) }
+/// The families of a complement or of a plan, by the flags `--ipv4` and `--ipv6`.
+pub fn families_of(matches: &ArgMatches) -> Families
+    ensures { (flags : Flags) × AreFlags matches.now flags × (result ≡ families_of flags.ipv4 flags.ipv6) }
 {
-    let Some(command) = ListCommand::from_name(name) else {
-        return Err(ArgumentFailure::NoCommand);
-    };
-    let work = command.work(flags_of(matches));
-    let Ok(names) = names_of(alloc, matches, most_before_input(work)) else {
-        return Err(ArgumentFailure::Memory);
-    };
-    check_names(work, names.as_slice())?;
-    Ok(Call {
-        work,
-        names,
-        is_streamed: is_set(matches, "stream"),
-    })
+    let flags = flags_of(matches);
+    families(flags.ipv4, flags.ipv6)
 }

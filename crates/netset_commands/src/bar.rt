@@ -4,7 +4,7 @@ ghost use Rattle.clap.specs.Matches.{found_of, first_value};
 ghost use Rattle.ipnet_bars.specs.declared.marks.RowWidth.{RowWidth};
 ghost use Rattle.ipnet_bars.specs.declared.marks.RowWidth.TheVariants.{ThirtyTwo};
 ghost use Rattle.netset_commands.specs.Arguments.{IsFlag};
-ghost use Rattle.netset_commands.specs.Words.{IsFrameOf, IsPicturedWork, mark_choice};
+ghost use Rattle.netset_commands.specs.Words.{IsFrameOf, ArePictured, mark_choice};
 ghost use Rattle.netset_pictures.specs.BarAnswers.{width_text};
 
 use crate::arguments::{
@@ -13,12 +13,12 @@ use crate::arguments::{
 };
 use crate::entry_options::ENTRY_OPTION;
 use crate::listing::network_or_report;
-use crate::reading::{comparing_work, reading_work, session_with_entries};
+use crate::reading::{read_pair, read_sets};
 use crate::table::{ARGUMENT, Argument, Form, Subcommand};
 use clap::ArgMatches;
 use ipnet_bars::{BarForm, Frame, Marks, RowWidth};
-use netset_files::{Reports, Writers};
-use netset_lib::{Session, Work, run_text};
+use netset_files::Writers;
+use netset_lib::run_text;
 use netset_pictures::{
     BarCommand, BarRequest, ComparisonBarCommand, LocaleValues, MarkChoice, chosen_marks,
     read_row_width,
@@ -261,35 +261,43 @@ fn are_two(rt: &HostRuntime, names: &[&str]) -> bool
     count == 2
 }
 
-/// What a picture of the lists asks for: all their addresses, or what changed between two of them. If standard input is
-/// named twice, or if the lists to compare are not two, it is reported, and the error is the exit status.
-pub fn pictured_work(rt: &HostRuntime, matches: &ArgMatches, names: &[&str]) -> Result<Work, u8>
-    ensures work { IfOk result (IsPicturedWork matches.now names.now) }
+/// Whether a picture compares the lists, which have these names. If standard input is named twice, or if the lists to
+/// compare are not two, it is reported, and the error is the exit status.
+pub fn are_compared(rt: &HostRuntime, matches: &ArgMatches, names: &[&str]) -> Result<bool, u8>
+    ensures pictured { IfOk result (ArePictured matches.now names.now) }
     ensures failed { IfErr result (λ status. status ≡ 2) }
 {
     if reads_input_twice(names) {
         return Err(report_argument_failure(rt, ArgumentFailure::InputTwice));
     }
-    if !is_set(matches, COMPARE) {
-        return Ok(reading_work(matches));
-    }
-    if !are_two(rt, names) {
+    let compares = is_set(matches, COMPARE);
+    if compares && !are_two(rt, names) {
         return Err(2);
     }
-    Ok(comparing_work(matches))
+    Ok(compares)
 }
 
-/// Reads the lists of these names for a bar. If that fails, it is reported, and the error is the exit status.
-fn read_pictured(
+/// Reads the two lists, which have these names, prints the bar that compares them, and returns the exit status.
+fn draw_comparison(
     rt: &HostRuntime,
     matches: &ArgMatches,
-    names: &[&str],
-    reports: Reports,
-) -> Result<Session, u8>
-    ensures { IfErr result (λ status. status ≡ 2) }
+    names: &[&str; 2],
+    request: BarRequest,
+    writers: &mut Writers<'_>,
+) -> u8
+    ensures { result ≤ 2 }
 {
-    let work = pictured_work(rt, matches, names)?;
-    session_with_entries(rt, matches, work, names, reports)
+    let (before, after) = match read_pair(rt, matches, names, writers) {
+        Ok(pair) => pair,
+        Err(status) => return status,
+    };
+    let command = ComparisonBarCommand {
+        alloc: rt.alloc(),
+        before,
+        after,
+        request,
+    };
+    run_text(command, names, &mut writers.answer, &mut writers.faults)
 }
 
 /// Reads the arguments and the lists, prints the bar, and returns the exit status.
@@ -306,20 +314,25 @@ pub fn draw_bar(rt: &HostRuntime, matches: &ArgMatches, writers: &mut Writers<'_
         Err(status) => return status,
     };
     let names = names.as_slice();
-    let session = match read_pictured(rt, matches, names, writers.reports) {
-        Ok(session) => session,
+    let compares = match are_compared(rt, matches, names) {
+        Ok(yes) => yes,
         Err(status) => return status,
     };
-    let out = &mut writers.answer;
-    let faults = &mut writers.faults;
-    if matches.get_flag(COMPARE) {
-        run_text(
-            ComparisonBarCommand { session, request },
-            names,
-            out,
-            faults,
-        )
-    } else {
-        run_text(BarCommand { session, request }, names, out, faults)
+    match names {
+        [first, second] if compares => {
+            draw_comparison(rt, matches, &[*first, *second], request, writers)
+        }
+        _ => {
+            let sets = match read_sets(rt, matches, names, writers) {
+                Ok(sets) => sets,
+                Err(status) => return status,
+            };
+            let command = BarCommand {
+                alloc: rt.alloc(),
+                sets,
+                request,
+            };
+            run_text(command, names, &mut writers.answer, &mut writers.faults)
+        }
     }
 }

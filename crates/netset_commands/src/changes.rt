@@ -3,7 +3,7 @@ ghost use Rattle.std.specs.Prelude.{◌≤◌};
 
 use crate::arguments::{FIRST_LIST, OTHER_LIST, SHARED, two_or_report};
 use crate::entry_options::ENTRY_OR_OTHER;
-use crate::reading::{comparing_work, session_with_entries};
+use crate::reading::read_pair;
 use crate::table::{Argument, Form, Subcommand};
 use clap::ArgMatches;
 use netset_files::Writers;
@@ -43,16 +43,15 @@ pub fn print_changes(rt: &HostRuntime, matches: &ArgMatches, writers: &mut Write
         Ok(names) => names.in_order(),
         Err(status) => return status,
     };
-    match session_with_entries(
-        rt,
-        matches,
-        comparing_work(matches),
-        &names,
-        writers.reports,
-    ) {
-        Ok(session) => {
+    match read_pair(rt, matches, &names, writers) {
+        Ok((before, after)) => {
+            let command = ChangesCommand {
+                alloc: rt.alloc(),
+                before,
+                after,
+            };
             let (out, faults) = (&mut writers.answer, &mut writers.faults);
-            run_text(ChangesCommand { session }, &names, out, faults)
+            run_text(command, &names, out, faults)
         }
         Err(status) => status,
     }

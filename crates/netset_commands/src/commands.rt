@@ -50,6 +50,9 @@ pub const FILTER: &str = "filter";
 
 pub const ROUTE: &str = "route";
 
+/// The name of the flag by which the answers are written while the list is read.
+pub const STREAM: &str = "stream";
+
 /// Two lists or more.
 const TWO_LISTS_AND_MORE: &[Argument] = &[
     FIRST_LIST,
@@ -83,9 +86,6 @@ const COMPLEMENT_ARGUMENTS: &[Argument] = &[
     ONE_LIST,
     ENTRY_OR_FIRST,
 ];
-
-/// The name of the flag by which the answers are written while the list is read.
-const STREAM: &str = "stream";
 
 /// The flag by which the answers are written while the list is read.
 const STREAM_FLAG: Argument = Argument {

@@ -5,7 +5,7 @@ ghost use Rattle.netset_commands.specs.Arguments.{entries_of};
 
 use crate::arguments::{FIRST, ONE_LIST, OTHER_LIST, OTHERS, SHARED, flags_of, two_or_report};
 use crate::entry_options::{ENTRY_OR_FIRST, ENTRY_OR_OTHER, has_entries, last_name};
-use crate::reading::{last_bytes, reading_work, session_with_entries};
+use crate::reading::{last_bytes, read_only_set};
 use crate::table::{Argument, Subcommand};
 use clap::ArgMatches;
 use netset_entries::{OverlapsCommand, RedundantCommand, SupernetCommand};
@@ -56,11 +56,15 @@ pub const OVERLAPS_COMMAND: Subcommand = Subcommand {
 pub fn print_supernet(rt: &HostRuntime, matches: &ArgMatches, writers: &mut Writers<'_>) -> u8
     ensures { result ≤ 2 }
 {
-    let names = [last_name(matches, FIRST)];
-    match session_with_entries(rt, matches, reading_work(matches), &names, writers.reports) {
-        Ok(session) => {
+    let name = last_name(matches, FIRST);
+    match read_only_set(rt, matches, name, writers) {
+        Ok(set) => {
+            let command = SupernetCommand {
+                alloc: rt.alloc(),
+                set,
+            };
             let (out, faults) = (&mut writers.answer, &mut writers.faults);
-            run_text(SupernetCommand { session }, &names, out, faults)
+            run_text(command, &[name], out, faults)
         }
         Err(status) => status,
     }

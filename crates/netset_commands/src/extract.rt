@@ -1,5 +1,5 @@
 //! The command `extract`: its arguments, and its run.
-ghost use Rattle.std.specs.Prelude.{◌≡◌, ◌≤◌, codes};
+ghost use Rattle.std.specs.Prelude.{◌≡◌, ◌≤◌, codes, IfErr};
 ghost use Rattle.netset_commands.specs.Arguments.{IsFlag};
 ghost use Rattle.netset_commands.specs.Calls.{AreFlags};
 ghost use Rattle.netset_lib.specs.Commands.{grammar_of};
@@ -11,7 +11,7 @@ use crate::arguments::{
 };
 use crate::table::{ARGUMENT, Argument, Form, Subcommand};
 use clap::ArgMatches;
-use netset_files::{STANDARD_INPUT, Writers, fill};
+use netset_files::{Lists, Reports, STANDARD_INPUT, Writers};
 use netset_lib::run_text;
 use netset_words::{ExtractRequest, Extraction};
 
@@ -61,6 +61,23 @@ fn request_of(matches: &ArgMatches) -> ExtractRequest
     }
 }
 
+/// Reads the texts of these names. If that fails, it is reported, and the error is the exit status.
+fn read_texts(
+    rt: &HostRuntime,
+    extraction: Extraction,
+    names: &[&str],
+    reports: Reports,
+) -> Result<Extraction, u8>
+    ensures { IfErr result (λ status. status ≡ 2) }
+{
+    let mut lists = Lists::new(extraction, reports);
+    for name in names {
+        let (next, ()) = lists.read(rt, name)?;
+        lists = next;
+    }
+    lists.end()
+}
+
 /// Reads the arguments and the texts, prints the entries, and returns the exit status.
 #[inline(never)]
 pub fn extract_entries(rt: &HostRuntime, matches: &ArgMatches, writers: &mut Writers<'_>) -> u8
@@ -70,11 +87,11 @@ pub fn extract_entries(rt: &HostRuntime, matches: &ArgMatches, writers: &mut Wri
     if reads_input_twice(names) {
         return report_argument_failure(rt, ArgumentFailure::InputTwice);
     }
-    let Ok(mut extraction) = Extraction::new(rt.alloc(), request_of(matches)) else {
+    let Ok(extraction) = Extraction::new(rt.alloc(), request_of(matches)) else {
         return report_argument_failure(rt, ArgumentFailure::Memory);
     };
-    match fill(rt, &mut extraction, names, writers.reports) {
-        Ok(()) => {
+    match read_texts(rt, extraction, names, writers.reports) {
+        Ok(extraction) => {
             let (out, faults) = (&mut writers.answer, &mut writers.faults);
             run_text(extraction, names, out, faults)
         }

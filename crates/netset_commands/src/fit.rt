@@ -5,12 +5,13 @@ ghost use Rattle.netset_commands.specs.FitOptions.{AreFitNames, limit_of, IsFitR
 use crate::arguments::{
     ANY_LISTS, ArgumentFailure, SHARED, names_of, reads_input_twice, report_argument_failure,
 };
-use crate::entry_options::ENTRY_OPTION;
-use crate::reading::{reading_work, session_with_entries};
+use crate::entry_options::{ENTRY_OPTION, entries_or_report};
+use crate::reading::{finish, set_reader};
 use crate::table::{ARGUMENT, Argument, Form, Subcommand};
 use clap::ArgMatches;
+use ipnet_sets::IpSet;
 use netset_entries::{FitCommand, FitLimit, FitRequest, run_fit};
-use netset_files::Writers;
+use netset_files::{Lists, Writers};
 use netset_lib::read_number;
 use std::alloc::{AllocError, Global};
 use std::io::Write;
@@ -116,7 +117,6 @@ fn request_of(rt: &HostRuntime, matches: &ArgMatches) -> Result<FitRequest, u8>
     Ok(FitRequest {
         ipv4: limit_of(ipv4, percent),
         ipv6: limit_of(ipv6, percent),
-        has_never: matches.get_str(NEVER).is_some(),
     })
 }
 
@@ -128,9 +128,34 @@ fn fit_names<'a>(alloc: Global, matches: &ArgMatches<'a>) -> Result<Vec<&'a str>
     if let Some(never) = matches.get_str(NEVER) {
         names.push(never)?;
     }
-    let lists = names_of(alloc, matches, 0)?;
+    let lists = names_of(alloc, matches)?;
     names.extend_from_slice(lists.as_slice())?;
     Ok(names)
+}
+
+/// Reads the list to avoid, if there is one, and the others, which have these names. If there are entries, they are the
+/// last list. Returns the set to avoid, and the
+/// others. If that fails, or if lines are refused, it is reported, and the error is the exit status.
+fn read_never(
+    rt: &HostRuntime,
+    matches: &ArgMatches,
+    names: &[&str],
+    writers: &mut Writers<'_>,
+) -> Result<(IpSet, Vec<IpSet>), u8>
+    ensures { IfErr result (λ status. status ≡ 2) }
+{
+    let lists = Lists::new(set_reader(rt, matches)?, writers.reports);
+    let entries = entries_or_report(rt, matches)?;
+    let (lists, never, others) = match (matches.get_str(NEVER), names) {
+        (Some(name), [_, others @ ..]) => {
+            let (lists, never) = lists.read(rt, name)?;
+            (lists, never, others)
+        }
+        (_, names) => (lists, IpSet::new(rt.alloc()), names),
+    };
+    let (lists, sets) = lists.read_all(rt, others, entries)?;
+    finish(lists.end()?, names, writers)?;
+    Ok((never, sets))
 }
 
 /// Reads the arguments and the lists, prints the networks within the limits, and returns the exit status.
@@ -149,10 +174,16 @@ pub fn fit_lists(rt: &HostRuntime, matches: &ArgMatches, writers: &mut Writers<'
     if reads_input_twice(names) {
         return report_argument_failure(rt, ArgumentFailure::InputTwice);
     }
-    match session_with_entries(rt, matches, reading_work(matches), names, writers.reports) {
-        Ok(session) => {
+    match read_never(rt, matches, names, writers) {
+        Ok((never, sets)) => {
+            let command = FitCommand {
+                alloc: rt.alloc(),
+                sets,
+                never,
+                request,
+            };
             let (out, faults) = (&mut writers.answer, &mut writers.faults);
-            run_fit(FitCommand { session, request }, names, out, faults).status
+            run_fit(command, names, out, faults).status
         }
         Err(status) => status,
     }

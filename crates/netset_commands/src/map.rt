@@ -1,5 +1,5 @@
 //! The command `map`: its arguments, and its runs.
-ghost use Rattle.std.specs.Prelude.{◌≡◌, ◌≤◌, ◌<◌, ◌↔◌, Bool, false, Some, None, codes, length, IsTrue, IfErr};
+ghost use Rattle.std.specs.Prelude.{◌≡◌, ◌≤◌, ◌<◌, ◌↔◌, Bool, false, Some, None, codes, length, IsTrue, IfErr, IfOk};
 ghost use Rattle.clap.specs.Matches.{found_of, first_value};
 ghost use Rattle.netset_commands.specs.Arguments.{input_count, IsFlag};
 ghost use Rattle.netset_files.specs.Files.{standard_input};
@@ -11,17 +11,17 @@ use crate::arguments::{
     ANY_LISTS, ArgumentFailure, SHARED, flags_of, is_set, names_or_report, reads_input,
     report_argument_failure,
 };
-use crate::bar::{COMPARE, FRAME, frame_of, pictured_work};
-use crate::entry_options::ENTRY_OPTION;
-use crate::noted::{NotedSession, TitledEntries, entries_of};
-use crate::reading::fill_lists;
+use crate::bar::{COMPARE, FRAME, are_compared, frame_of};
+use crate::entry_options::{ENTRY_OPTION, entries_or_report};
+use crate::noted::{NotedReader, TitledEntries, entries_of};
+use crate::reading::{finish, set_reader};
 use crate::table::{ARGUMENT, Argument, Form, Subcommand};
 use clap::ArgMatches;
 use ipnet_bars::Frame;
 use ipnet_routes::RouteTable;
-use netset_entries::EntryNotes;
-use netset_files::{Reports, STANDARD_INPUT, Writers, bytes_of};
-use netset_lib::{Session, run_text, table_or_report};
+use ipnet_sets::IpSet;
+use netset_files::{Lists, Reports, STANDARD_INPUT, Writers, bytes_of};
+use netset_lib::{run_text, table_or_report};
 use netset_pictures::{ChangeMapCommand, MapCommand, MapRequest, SetsMapCommand, read_theme};
 use std::io::Write;
 use svg_maps::{Look, MOST_LISTS, MapEntries, Theme};
@@ -132,61 +132,150 @@ fn theme_of(matches: &ArgMatches) -> Theme
     }
 }
 
-/// Reads the lists of these names, and notes the largest entries of each. If that fails, it is reported, and the error
-/// is the exit status.
-fn read_noted(
+/// Returns what reads lists and notes the largest entries of each. If memory runs out, it is reported, and the error is
+/// the exit status.
+fn noted_lists(
     rt: &HostRuntime,
     matches: &ArgMatches,
-    names: &[&str],
     frame: Frame,
     reports: Reports,
-) -> Result<(Session, Vec<EntryNotes>), u8>
+) -> Result<Lists<NotedReader>, u8>
     ensures { IfErr result (λ status. status ≡ 2) }
 {
-    let work = pictured_work(rt, matches, names)?;
     let frame = match frame {
         Frame::Named(network) => Some(network),
         _ => None,
     };
-    let Ok(session) = Session::new(rt.alloc(), work) else {
-        return Err(report_argument_failure(rt, ArgumentFailure::Memory));
-    };
-    let mut noted = NotedSession {
-        session,
+    let reader = NotedReader {
+        sets: set_reader(rt, matches)?,
         alloc: rt.alloc(),
         grammar: flags_of(matches).grammar(),
         frame,
         notes: Vec::new(rt.alloc()),
     };
-    fill_lists(rt, matches, &mut noted, names, reports)?;
-    let NotedSession { session, notes, .. } = noted;
-    Ok((session, notes))
+    Ok(Lists::new(reader, reports))
 }
 
-/// Prints the map of the session's lists, which have these names, and returns the exit status.
-fn draw(
-    session: Session,
+/// Ends the reading of the lists of these names, and returns the noted entries. If lines are refused, or if memory runs
+/// out, it is reported, and the error is the exit status.
+fn end_noted(
+    rt: &HostRuntime,
+    lists: Lists<NotedReader>,
+    names: &[&str],
+    writers: &mut Writers<'_>,
+) -> Result<TitledEntries, u8>
+    ensures { IfErr result (λ status. status ≡ 2) }
+{
+    let NotedReader { sets, notes, .. } = lists.end()?;
+    match entries_of(rt.alloc(), notes, names) {
+        Ok(entries) => {
+            finish(sets, names, writers)?;
+            Ok(entries)
+        }
+        Err(_) => Err(report_argument_failure(rt, ArgumentFailure::Memory)),
+    }
+}
+
+/// The request with these entries.
+fn with_entries<'a>(request: MapRequest<'a>, entries: &'a TitledEntries) -> MapRequest<'a>
+    ensures { result.frame ≡ request.frame }
+{
+    let MapRequest { frame, look } = request;
+    let look = Look {
+        theme: look.theme,
+        shows_free: look.shows_free,
+        names: look.names,
+        entries: MapEntries {
+            titled: entries.entries.as_slice(),
+            count: entries.count,
+        },
+    };
+    MapRequest { frame, look }
+}
+
+/// Reads the list of this name, prints its map, and returns the exit status.
+fn draw_one(
+    rt: &HostRuntime,
+    matches: &ArgMatches,
+    name: &str,
+    request: MapRequest<'_>,
+    writers: &mut Writers<'_>,
+) -> Result<u8, u8>
+    ensures ok { IfOk result (λ status. status ≤ 2) }
+    ensures failed { IfErr result (λ status. status ≡ 2) }
+{
+    let names = [name];
+    let lists = noted_lists(rt, matches, request.frame, writers.reports)?;
+    let (lists, set) = lists.read_last(rt, name, entries_or_report(rt, matches)?)?;
+    let entries = end_noted(rt, lists, &names, writers)?;
+    let command = MapCommand {
+        alloc: rt.alloc(),
+        set,
+        request: with_entries(request, &entries),
+    };
+    Ok(run_text(command, &names, &mut writers.answer, &mut writers.faults))
+}
+
+/// Reads the two lists of these names, prints the map of the change, and returns the exit status.
+fn draw_change(
+    rt: &HostRuntime,
+    matches: &ArgMatches,
+    names: &[&str; 2],
+    request: MapRequest<'_>,
+    writers: &mut Writers<'_>,
+) -> Result<u8, u8>
+    ensures ok { IfOk result (λ status. status ≤ 2) }
+    ensures failed { IfErr result (λ status. status ≡ 2) }
+{
+    let lists = noted_lists(rt, matches, request.frame, writers.reports)?;
+    let last = entries_or_report(rt, matches)?;
+    let (lists, before) = lists.read(rt, names[0])?;
+    let (lists, after) = lists.read_last(rt, names[1], last)?;
+    let entries = end_noted(rt, lists, names, writers)?;
+    let command = ChangeMapCommand {
+        alloc: rt.alloc(),
+        before,
+        after,
+        request: with_entries(request, &entries),
+    };
+    Ok(run_text(command, names, &mut writers.answer, &mut writers.faults))
+}
+
+/// Prints the map of the sets, which have these names, and returns the exit status.
+fn print_sets_map(
+    rt: &HostRuntime,
+    sets: Vec<IpSet>,
     request: MapRequest<'_>,
     names: &[&str],
-    compares: bool,
     writers: &mut Writers<'_>,
 ) -> u8
     ensures { result ≤ 2 }
 {
-    let out = &mut writers.answer;
-    let faults = &mut writers.faults;
-    if compares {
-        run_text(ChangeMapCommand { session, request }, names, out, faults)
-    } else if names.len() == 1 {
-        run_text(MapCommand { session, request }, names, out, faults)
-    } else {
-        let command = SetsMapCommand {
-            session,
-            request,
-            names,
-        };
-        run_text(command, names, out, faults)
-    }
+    let command = SetsMapCommand {
+        alloc: rt.alloc(),
+        sets,
+        request,
+        names,
+    };
+    run_text(command, names, &mut writers.answer, &mut writers.faults)
+}
+
+/// Reads the lists of these names, prints the map of all, and returns the exit status.
+fn draw_sets(
+    rt: &HostRuntime,
+    matches: &ArgMatches,
+    names: &[&str],
+    request: MapRequest<'_>,
+    writers: &mut Writers<'_>,
+) -> Result<u8, u8>
+    ensures ok { IfOk result (λ status. status ≤ 2) }
+    ensures failed { IfErr result (λ status. status ≡ 2) }
+{
+    let lists = noted_lists(rt, matches, request.frame, writers.reports)?;
+    let (lists, sets) = lists.read_all(rt, names, entries_or_report(rt, matches)?)?;
+    let entries = end_noted(rt, lists, names, writers)?;
+    let request = with_entries(request, &entries);
+    Ok(print_sets_map(rt, sets, request, names, writers))
 }
 
 /// Reads the lists of these names, prints the map, and returns the exit status.
@@ -199,24 +288,21 @@ fn draw_lists(
 ) -> u8
     ensures { result ≤ 2 }
 {
-    let (session, notes) = match read_noted(rt, matches, names, request.frame, writers.reports) {
-        Ok(noted) => noted,
+    let compares = match are_compared(rt, matches, names) {
+        Ok(compares) => compares,
         Err(status) => return status,
     };
-    let Ok(list) = entries_of(rt.alloc(), notes, names) else {
-        return report_argument_failure(rt, ArgumentFailure::Memory);
+    let drawn = match names {
+        [first, second] if compares => {
+            draw_change(rt, matches, &[*first, *second], request, writers)
+        }
+        [name] => draw_one(rt, matches, name, request, writers),
+        _ => draw_sets(rt, matches, names, request, writers),
     };
-    let TitledEntries { entries, count } = list;
-    let titled = entries.as_slice();
-    let MapRequest { frame, look } = request;
-    let look = Look {
-        theme: look.theme,
-        shows_free: look.shows_free,
-        names: look.names,
-        entries: MapEntries { titled, count },
-    };
-    let request = MapRequest { frame, look };
-    draw(session, request, names, matches.get_flag(COMPARE), writers)
+    match drawn {
+        Ok(status) => status,
+        Err(status) => status,
+    }
 }
 
 /// Reads the lists, prints the map with these names of networks, and returns the exit status.

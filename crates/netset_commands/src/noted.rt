@@ -1,13 +1,14 @@
-//! The lists of a map: a session that notes the largest entries of each list while it reads them.
+//! The lists of a map: a reader that notes the largest entries of each list.
 ghost use Rattle.std.specs.Prelude.{◌≡◌, ◌≤◌, ◌↔◌, ◌<◌, ◌++◌, ℕ, List, codes, length, string_bytes, IsTrue, IfOk, OnOk};
 ghost use Rattle.netset_commands.specs.MapTitles.{listed_title, longer_title, longer_count, is_v4, AreFew, AreFirst};
 ghost use Rattle.netset_commands.specs.MapTitles.{each_once, ends_with, networks_of};
 
 use ipnet::{Grammar, IpNet};
 use ipnet_lists::ReadFailure;
+use ipnet_sets::IpSet;
 use netset_entries::{EntryNotes, NotedEntry};
 use netset_files::ListReader;
-use netset_lib::Session;
+use netset_lib::SetReader;
 use std::alloc::{AllocError, Global};
 use std::io;
 use std::io::Read;
@@ -22,10 +23,10 @@ const MOST_ADDED: usize = 50_000;
 /// How many entries of each family a map has at most.
 const MOST: usize = 1_500;
 
-/// A session, and the largest entries of each of its lists.
+/// A reader of lists, and the largest entries of each list.
 #[derive(Drop)]
-pub struct NotedSession {
-    pub session: Session,
+pub struct NotedReader {
+    pub sets: SetReader,
     pub alloc: Global,
     pub grammar: Grammar,
     /// The network that each noted entry lies in or contains.
@@ -52,36 +53,51 @@ impl<R: Read> Read for NotedInput<'_, R> {
     }
 }
 
-impl ListReader for NotedSession {
-    ghost use Rattle.netset_lib.specs.Sessions.{has_entry, refused_count};
+impl ListReader for NotedReader {
+    type List = IpSet;
 
-    ghost refused = { λ noted. refused_count noted.session };
+    ghost use Rattle.netset_lib.specs.SetReaders.{has_entry, refused_count};
 
-    ghost holds = { λ noted. has_entry noted.session };
+    ghost refused = { λ noted. refused_count noted.sets };
 
-    fn read<R: Read>(&mut self, input: &mut R) -> Result<(), ReadFailure> {
-        let Ok(notes) = EntryNotes::new(self.alloc, self.grammar, self.frame) else {
-            return Err(ReadFailure::Memory);
+    ghost holds = { λ noted. has_entry noted.sets };
+
+    fn read<R: Read>(self, input: &mut R) -> Result<(NotedReader, IpSet), ReadFailure> {
+        let NotedReader {
+            sets,
+            alloc,
+            grammar,
+            frame,
+            mut notes,
+        } = self;
+        let mut noted = NotedInput {
+            input,
+            notes: EntryNotes::new(alloc, grammar, frame)?,
         };
-        let mut noted = NotedInput { input, notes };
-        self.session.read(&mut noted)?;
-        let NotedInput { notes, .. } = noted;
-        let mut notes = notes;
-        if notes.end_list().is_err() {
+        let (sets, set) = sets.read(&mut noted)?;
+        let NotedInput {
+            notes: mut last,
+            ..
+        } = noted;
+        if last.end_list().is_err() || notes.push(last).is_err() {
             return Err(ReadFailure::Memory);
         }
-        match self.notes.push(notes) {
-            Ok(()) => Ok(()),
-            Err(_) => Err(ReadFailure::Memory),
-        }
+        let reader = NotedReader {
+            sets,
+            alloc,
+            grammar,
+            frame,
+            notes,
+        };
+        Ok((reader, set))
     }
 
     fn refused_count(&self) -> usize {
-        self.session.refused_count()
+        self.sets.refused_count()
     }
 
     fn has_entry(&self) -> bool {
-        self.session.has_entry()
+        self.sets.has_entry()
     }
 }
 

@@ -2,10 +2,8 @@
 ghost use Rattle.std.specs.Prelude.{◌≤◌, codes};
 ghost use Rattle.netset_commands.specs.Arguments.{IsFlag};
 
-use crate::arguments::{
-    ArgumentFailure, have_control, is_set, names_or_report, report_argument_failure,
-};
-use crate::reading::{reading_work, session_with_entries};
+use crate::arguments::{check_names, is_set, names_or_report, report_argument_failure};
+use crate::reading::read_sets;
 use crate::table::{ARGUMENT, Argument, Form};
 use clap::ArgMatches;
 use netset_entries::{LengthsCommand, PairsCommand};
@@ -40,10 +38,13 @@ pub fn print_lengths(rt: &HostRuntime, matches: &ArgMatches, writers: &mut Write
         Err(status) => return status,
     };
     let names = names.as_slice();
-    match session_with_entries(rt, matches, reading_work(matches), names, writers.reports) {
-        Ok(session) => {
-            let (out, faults) = (&mut writers.answer, &mut writers.faults);
-            run_text(LengthsCommand { session }, names, out, faults)
+    match read_sets(rt, matches, names, writers) {
+        Ok(sets) => {
+            let command = LengthsCommand {
+                alloc: rt.alloc(),
+                sets,
+            };
+            run_text(command, names, &mut writers.answer, &mut writers.faults)
         }
         Err(status) => status,
     }
@@ -59,13 +60,17 @@ pub fn compare_pairs(
 ) -> u8
     ensures { result ≤ 2 }
 {
-    if have_control(names) {
-        return report_argument_failure(rt, ArgumentFailure::ControlCharacter);
+    if let Err(failure) = check_names(names) {
+        return report_argument_failure(rt, failure);
     }
-    match session_with_entries(rt, matches, reading_work(matches), names, writers.reports) {
-        Ok(session) => {
-            let (out, faults) = (&mut writers.answer, &mut writers.faults);
-            run_text(PairsCommand { session, names }, names, out, faults)
+    match read_sets(rt, matches, names, writers) {
+        Ok(sets) => {
+            let command = PairsCommand {
+                alloc: rt.alloc(),
+                names,
+                sets,
+            };
+            run_text(command, names, &mut writers.answer, &mut writers.faults)
         }
         Err(status) => status,
     }

@@ -1,21 +1,18 @@
 //! The command `plan`: its arguments, and its run.
 ghost use Rattle.std.specs.Prelude.{◌≡◌, ◌≤◌, IfErr, IfOk};
-ghost use Rattle.netset_commands.specs.Calls.{AreFlags};
 ghost use Rattle.netset_commands.specs.Words.{AreLengths};
-ghost use Rattle.netset_lib.specs.Commands.{families_of};
-ghost use Rattle.netset_lib.specs.declared.command.Flags.{Flags};
 
 use crate::arguments::{
-    ArgumentFailure, FIRST, FIRST_LIST, SHARED, flags_of, name_of_list, report_argument_failure,
+    ArgumentFailure, FIRST, FIRST_LIST, SHARED, families_of, name_of_list, report_argument_failure,
 };
 use crate::bar::{BAR, PLAN_BAR, bar_form_of};
 use crate::listing::length_or_report;
-use crate::reading::{reading_work, session_of};
+use crate::reading::read_set;
 use crate::table::{ARGUMENT, Argument, Form, Subcommand};
 use clap::ArgMatches;
 use ipnet_bars::BarForm;
 use netset_files::Writers;
-use netset_lib::{Families, PlanCommand, PlanRequest, families, run_text};
+use netset_lib::{PlanCommand, PlanRequest, run_text};
 use netset_pictures::{PlanBarCommand, PlanBarRequest};
 
 /// The name of the command.
@@ -63,14 +60,6 @@ pub const PLAN_COMMAND: Subcommand = Subcommand {
     arguments: &[SHARED, FAMILIES, PLAN_BAR, FREE_AND_LENGTHS],
 };
 
-/// The families of the networks, by the flags `--ipv4` and `--ipv6`.
-fn families_of(matches: &ArgMatches) -> Families
-    ensures { (flags : Flags) × AreFlags matches.now flags × (result ≡ families_of flags.ipv4 flags.ipv6) }
-{
-    let flags = flags_of(matches);
-    families(flags.ipv4, flags.ipv6)
-}
-
 /// Reads the prefix lengths. If a word is not one, it is reported, and the error is the exit status.
 fn lengths_of(rt: &HostRuntime, words: &[&str]) -> Result<Vec<u8>, u8>
     ensures lengths { IfOk result (λ lengths. AreLengths words.now lengths.items) }
@@ -117,10 +106,11 @@ pub fn plan_networks(rt: &HostRuntime, matches: &ArgMatches, writers: &mut Write
         Err(status) => return status,
     };
     let names = [name_of_list(matches, FIRST)];
-    let session = match session_of(rt, reading_work(matches), &names, writers.reports) {
-        Ok(session) => session,
+    let set = match read_set(rt, matches, names[0], &names, writers) {
+        Ok(set) => set,
         Err(status) => return status,
     };
+    let alloc = rt.alloc();
     let request = PlanRequest {
         families: families_of(matches),
         lengths: lengths.as_slice(),
@@ -128,13 +118,25 @@ pub fn plan_networks(rt: &HostRuntime, matches: &ArgMatches, writers: &mut Write
     let out = &mut writers.answer;
     let faults = &mut writers.faults;
     match bar {
-        None => run_text(PlanCommand { session, request }, &names, out, faults),
+        None => {
+            let command = PlanCommand {
+                alloc,
+                set,
+                request,
+            };
+            run_text(command, &names, out, faults)
+        }
         Some(form) => {
             let request = PlanBarRequest {
                 plan: request,
                 form,
             };
-            run_text(PlanBarCommand { session, request }, &names, out, faults)
+            let command = PlanBarCommand {
+                alloc,
+                set,
+                request,
+            };
+            run_text(command, &names, out, faults)
         }
     }
 }

@@ -1,42 +1,115 @@
 //! A run of the program: its arguments, its output and its command.
-ghost use Rattle.std.specs.Prelude.{◌≤◌};
+ghost use Rattle.std.specs.Prelude.{◌≡◌, ◌≤◌, codes, IfErr};
+ghost use Rattle.netset_commands.specs.Arguments.{IsFlag};
+ghost use Rattle.netset_commands.specs.Calls.{AreFlags};
 ghost use Rattle.netset_files.specs.Statuses.{IsExitStatus};
+ghost use Rattle.netset_lib.specs.Commands.{side_of};
+ghost use Rattle.netset_lib.specs.declared.command.Flags.{Flags};
+ghost use Rattle.netset_lib.specs.declared.operation.Combination.TheVariants.{Union, Intersection, Difference};
+ghost use Rattle.netset_lib.specs.declared.query.Query.TheVariants.{Filter};
 
-use crate::apply::{APPLY, apply_changes};
-use crate::arguments::{
-    ArgumentFailure, Call, OUTPUT, call_of, escaped, report_argument_failure, reports_of, words,
-};
-use crate::bar::{BAR, draw_bar};
-use crate::changes::{CHANGES, print_changes};
-use crate::commands::{
-    COMPARE, COMPLEMENT, COUNT, DIFFERENCE, FILTER, INTERSECTION, ROUTE, SYMMETRIC_DIFFERENCE,
-    UNION, matches_of,
-};
-use crate::entries::{
-    OVERLAPS, REDUNDANT, SUPERNET, print_overlaps, print_redundant, print_supernet,
-};
-use crate::extract::{EXTRACT, extract_entries};
-use crate::find::{FIND, find_entries};
-use crate::fit::{FIT, fit_lists};
+use crate::apply::APPLY;
+use crate::apply::apply_changes;
+use crate::arguments::ArgumentFailure;
+use crate::arguments::FIRST;
+use crate::arguments::OUTPUT;
+use crate::arguments::check_names;
+use crate::arguments::escaped;
+use crate::arguments::families_of;
+use crate::arguments::flags_of;
+use crate::arguments::is_set;
+use crate::arguments::names_or_report;
+use crate::arguments::report_argument_failure;
+use crate::arguments::reports_of;
+use crate::arguments::two_or_report;
+use crate::arguments::words;
+use crate::bar::BAR;
+use crate::bar::draw_bar;
+use crate::changes::CHANGES;
+use crate::changes::print_changes;
+use crate::commands::COMPARE;
+use crate::commands::COMPLEMENT;
+use crate::commands::COUNT;
+use crate::commands::DIFFERENCE;
+use crate::commands::FILTER;
+use crate::commands::INTERSECTION;
+use crate::commands::ROUTE;
+use crate::commands::STREAM;
+use crate::commands::SYMMETRIC_DIFFERENCE;
+use crate::commands::UNION;
+use crate::commands::matches_of;
+use crate::entries::OVERLAPS;
+use crate::entries::REDUNDANT;
+use crate::entries::SUPERNET;
+use crate::entries::print_overlaps;
+use crate::entries::print_redundant;
+use crate::entries::print_supernet;
+use crate::entry_options::entries_or_report;
+use crate::entry_options::last_name;
+use crate::extract::EXTRACT;
+use crate::extract::extract_entries;
+use crate::find::FIND;
+use crate::find::find_entries;
+use crate::fit::FIT;
+use crate::fit::fit_lists;
 use crate::forms::form_of;
-use crate::info::{INFO, print_facts};
-use crate::listing::{HOSTS, SPLIT, list_hosts, list_subnets};
-use crate::map::{MAP, draw_map};
-use crate::origins::{ORIGINS, validate_origins};
-use crate::pairs::{compare_pairs, has_lengths_flag, print_lengths};
-use crate::plan::{PLAN, plan_networks};
-use crate::prefixes::{PREFIX_LIST, judge_networks};
-use crate::reading::{session_of, session_with_entries};
-use crate::rules::{PERMITTED, UNREACHED, print_permitted, print_unreached};
-use crate::select::{SELECT, select_entries};
-use crate::shorten::{SHORTEN, shorten_table};
-use crate::texts::{has_all_flag, has_text_flag, route_all, route_with_text};
-use crate::whole_lines::{LINES, filter_lines};
+use crate::info::INFO;
+use crate::info::print_facts;
+use crate::listing::HOSTS;
+use crate::listing::SPLIT;
+use crate::listing::list_hosts;
+use crate::listing::list_subnets;
+use crate::map::MAP;
+use crate::map::draw_map;
+use crate::origins::ORIGINS;
+use crate::origins::validate_origins;
+use crate::pairs::compare_pairs;
+use crate::pairs::has_lengths_flag;
+use crate::pairs::print_lengths;
+use crate::plan::PLAN;
+use crate::plan::plan_networks;
+use crate::prefixes::PREFIX_LIST;
+use crate::prefixes::judge_networks;
+use crate::reading::finish;
+use crate::reading::read_only_set;
+use crate::reading::read_pair;
+use crate::reading::read_sets;
+use crate::reading::set_reader;
+use crate::rules::PERMITTED;
+use crate::rules::UNREACHED;
+use crate::rules::print_permitted;
+use crate::rules::print_unreached;
+use crate::select::SELECT;
+use crate::select::select_entries;
+use crate::shorten::SHORTEN;
+use crate::shorten::shorten_table;
+use crate::texts::has_all_flag;
+use crate::texts::has_text_flag;
+use crate::texts::route_all;
+use crate::texts::route_with_text;
+use crate::whole_lines::LINES;
+use crate::whole_lines::filter_lines;
 use clap::ArgMatches;
-use netset_files::{CLOSED, Ends, Writers, stream_list};
+use ipnet_sets::IpSet;
+use netset_files::CLOSED;
+use netset_files::Ends;
+use netset_files::FirstReader;
+use netset_files::Lists;
+use netset_files::Writers;
+use netset_files::read_answers;
+use netset_files::read_first;
+use netset_files::stream_list;
 use netset_forms::FormCommand;
-use netset_lib::{AnswerCommand, Query, Work, run_text};
-use std::io::{ErrorKind, Write};
+use netset_forms::FormRequest;
+use netset_lib::Answer;
+use netset_lib::Combination;
+use netset_lib::CompareCommand;
+use netset_lib::CountCommand;
+use netset_lib::Query;
+use netset_lib::SetReader;
+use netset_lib::run_text;
+use std::io::ErrorKind;
+use std::io::Write;
 
 /// Runs the program that prints this version of itself, and returns its exit status.
 pub fn run(rt: &HostRuntime, version: &'static str) -> u8
@@ -113,10 +186,12 @@ fn run_command(rt: &HostRuntime, name: &str, matches: &ArgMatches, writers: &mut
     ensures { result ≤ 2 }
 {
     match name {
+        UNION | INTERSECTION | DIFFERENCE => combine_lists(rt, name, matches, writers),
+        SYMMETRIC_DIFFERENCE => print_symmetric_difference(rt, matches, writers),
+        COMPLEMENT => print_complement(rt, matches, writers),
         COUNT if has_lengths_flag(matches) => print_lengths(rt, matches, writers),
-        UNION | INTERSECTION | DIFFERENCE | SYMMETRIC_DIFFERENCE | COMPLEMENT | COUNT | COMPARE => {
-            run_call(rt, name, matches, writers)
-        }
+        COUNT => count_lists(rt, matches, writers),
+        COMPARE => compare_lists(rt, matches, writers),
         CHANGES => print_changes(rt, matches, writers),
         APPLY => apply_changes(rt, matches, writers),
         EXTRACT => extract_entries(rt, matches, writers),
@@ -151,7 +226,7 @@ fn run_filter(rt: &HostRuntime, matches: &ArgMatches, writers: &mut Writers<'_>)
     if matches.get_flag(LINES) {
         filter_lines(rt, matches, writers)
     } else {
-        run_call(rt, FILTER, matches, writers)
+        run_query(rt, filter_query(matches), matches, writers)
     }
 }
 
@@ -166,75 +241,227 @@ fn run_route(rt: &HostRuntime, matches: &ArgMatches, writers: &mut Writers<'_>) 
     } else if has_text_flag(matches) {
         route_with_text(rt, matches, writers)
     } else {
-        run_call(rt, ROUTE, matches, writers)
+        run_query(rt, Query::Route, matches, writers)
     }
 }
 
-/// Reads the arguments and the lists, and runs the operation or the query.
+/// Prints what an operation on any number of lists makes of them, and returns the status. The name is the command's.
 #[inline(never)]
-fn run_call(rt: &HostRuntime, name: &str, matches: &ArgMatches, writers: &mut Writers<'_>) -> u8
-    ensures { result ≤ 2 }
-{
-    let call = match call_of(rt.alloc(), name, matches) {
-        Ok(call) => call,
-        Err(failure) => return report_argument_failure(rt, failure),
-    };
-    match call.work {
-        Work::Combine(_) => run_operation(rt, matches, call, writers),
-        Work::Ask(Query::Compare, _) if call.names.len() > 2 => {
-            compare_pairs(rt, matches, call.names.as_slice(), writers)
-        }
-        Work::Ask(_, _) => run_query(rt, matches, call, writers),
-    }
-}
-
-/// Reads the lists, prints what the operation makes of them, and returns the status.
-#[inline(never)]
-fn run_operation(
+fn combine_lists(
     rt: &HostRuntime,
+    name: &str,
     matches: &ArgMatches,
-    call: Call<'_>,
     writers: &mut Writers<'_>,
 ) -> u8
+    ensures { result ≤ 2 }
+{
+    let names = match names_or_report(rt, matches) {
+        Ok(names) => names,
+        Err(status) => return status,
+    };
+    let names = names.as_slice();
+    let form = match form_of(rt, matches) {
+        Ok(form) => form,
+        Err(status) => return status,
+    };
+    match read_sets(rt, matches, names, writers) {
+        Ok(sets) => print_set(rt, combination_of(name, sets), form, names, writers),
+        Err(status) => status,
+    }
+}
+
+/// The operation of the command of this name, on these sets.
+fn combination_of(name: &str, sets: Vec<IpSet>) -> Combination
+    ensures union { name.now ≡ codes "union" → result ≡ Union sets }
+    ensures intersection { name.now ≡ codes "intersection" → result ≡ Intersection sets }
+    ensures difference { name.now ≡ codes "difference" → result ≡ Difference sets }
+{
+    match name {
+        "intersection" => Combination::Intersection(sets),
+        "difference" => Combination::Difference(sets),
+        _ => Combination::Union(sets),
+    }
+}
+
+/// Prints the symmetric difference of the lists, and returns the status.
+#[inline(never)]
+fn print_symmetric_difference(
+    rt: &HostRuntime,
+    matches: &ArgMatches,
+    writers: &mut Writers<'_>,
+) -> u8
+    ensures { result ≤ 2 }
+{
+    let names = match two_or_report(rt, matches) {
+        Ok(names) => names.in_order(),
+        Err(status) => return status,
+    };
+    let form = match form_of(rt, matches) {
+        Ok(form) => form,
+        Err(status) => return status,
+    };
+    match read_pair(rt, matches, &names, writers) {
+        Ok((first, second)) => {
+            let combination = Combination::SymmetricDifference(first, second);
+            print_set(rt, combination, form, &names, writers)
+        }
+        Err(status) => status,
+    }
+}
+
+/// Prints the complement of the list, and returns the status.
+#[inline(never)]
+fn print_complement(rt: &HostRuntime, matches: &ArgMatches, writers: &mut Writers<'_>) -> u8
     ensures { result ≤ 2 }
 {
     let form = match form_of(rt, matches) {
         Ok(form) => form,
         Err(status) => return status,
     };
-    let names = call.names.as_slice();
-    match session_with_entries(rt, matches, call.work, names, writers.reports) {
-        Ok(session) => {
-            let (out, faults) = (&mut writers.answer, &mut writers.faults);
-            netset_lib::run(FormCommand { session, form }, names, out, faults)
+    let name = last_name(matches, FIRST);
+    match read_only_set(rt, matches, name, writers) {
+        Ok(set) => {
+            let combination = Combination::Complement(families_of(matches), set);
+            print_set(rt, combination, form, &[name], writers)
         }
         Err(status) => status,
     }
 }
 
-/// Reads the lists, prints the answer to the query, and returns the status.
-#[inline(never)]
-fn run_query(
+/// Prints the result of the operation in this form, and returns the status.
+fn print_set(
     rt: &HostRuntime,
-    matches: &ArgMatches,
-    call: Call<'_>,
+    combination: Combination,
+    form: FormRequest<'_>,
+    names: &[&str],
     writers: &mut Writers<'_>,
 ) -> u8
     ensures { result ≤ 2 }
 {
-    let work = call.work;
-    let names = call.names.as_slice();
-    match names {
-        [_, name] if call.is_streamed => match session_of(rt, work, &names[..1], writers.reports) {
-            Ok(session) => stream_list(rt, session, names, name, writers),
-            Err(status) => status,
-        },
-        _ => match session_with_entries(rt, matches, work, names, writers.reports) {
-            Ok(session) => {
-                let (out, faults) = (&mut writers.answer, &mut writers.faults);
-                run_text(AnswerCommand { session, names }, names, out, faults)
-            }
-            Err(status) => status,
-        },
+    let command = FormCommand {
+        alloc: rt.alloc(),
+        combination,
+        form,
+    };
+    netset_lib::run(command, names, &mut writers.answer, &mut writers.faults)
+}
+
+/// Prints the number of addresses of each list, and returns the status.
+#[inline(never)]
+fn count_lists(rt: &HostRuntime, matches: &ArgMatches, writers: &mut Writers<'_>) -> u8
+    ensures { result ≤ 2 }
+{
+    let names = match names_or_report(rt, matches) {
+        Ok(names) => names,
+        Err(status) => return status,
+    };
+    let names = names.as_slice();
+    if let Err(failure) = check_names(names) {
+        return report_argument_failure(rt, failure);
     }
+    match read_sets(rt, matches, names, writers) {
+        Ok(sets) => {
+            let command = CountCommand {
+                alloc: rt.alloc(),
+                names,
+                sets,
+            };
+            run_text(command, names, &mut writers.answer, &mut writers.faults)
+        }
+        Err(status) => status,
+    }
+}
+
+/// Prints how the two lists differ, or the lists of each pair, and returns the status.
+#[inline(never)]
+fn compare_lists(rt: &HostRuntime, matches: &ArgMatches, writers: &mut Writers<'_>) -> u8
+    ensures { result ≤ 2 }
+{
+    let names = match names_or_report(rt, matches) {
+        Ok(names) => names,
+        Err(status) => return status,
+    };
+    match names.as_slice() {
+        [first, second] => compare_two(rt, matches, &[*first, *second], writers),
+        names => compare_pairs(rt, matches, names, writers),
+    }
+}
+
+/// Prints how the two lists of these names differ, and returns the status.
+fn compare_two(
+    rt: &HostRuntime,
+    matches: &ArgMatches,
+    names: &[&str; 2],
+    writers: &mut Writers<'_>,
+) -> u8
+    ensures { result ≤ 2 }
+{
+    match read_pair(rt, matches, names, writers) {
+        Ok((first, second)) => {
+            let command = CompareCommand {
+                alloc: rt.alloc(),
+                first,
+                second,
+            };
+            run_text(command, names, &mut writers.answer, &mut writers.faults)
+        }
+        Err(status) => status,
+    }
+}
+
+/// Whether the answers are written while the second list is read.
+fn is_streamed(matches: &ArgMatches) -> bool
+    ensures { IsFlag matches.now (codes "stream") result }
+{
+    is_set(matches, STREAM)
+}
+
+/// The query of `filter`.
+fn filter_query(matches: &ArgMatches) -> Query
+    ensures { (flags : Flags) × AreFlags matches.now flags × (result ≡ Filter (side_of flags.outside)) }
+{
+    Query::Filter(flags_of(matches).side())
+}
+
+/// Reads the lists, prints the answer to the query, and returns the status.
+#[inline(never)]
+fn run_query(rt: &HostRuntime, query: Query, matches: &ArgMatches, writers: &mut Writers<'_>) -> u8
+    ensures { result ≤ 2 }
+{
+    let names = match two_or_report(rt, matches) {
+        Ok(names) => names.in_order(),
+        Err(status) => return status,
+    };
+    let lists = match set_reader(rt, matches) {
+        Ok(lists) => lists,
+        Err(status) => return status,
+    };
+    let first = Lists::new(FirstReader { lists, query }, writers.reports);
+    if is_streamed(matches) {
+        return match read_first(rt, first, names[0]) {
+            Ok(stream) => stream_list(rt, stream, &names, names[1], writers),
+            Err(status) => status,
+        };
+    }
+    match read_answer(rt, matches, first, &names, writers) {
+        Ok(answer) => run_text(answer, &names, &mut writers.answer, &mut writers.faults),
+        Err(status) => status,
+    }
+}
+
+/// Reads the two lists of the query, and returns the answer. If there are entries, they are the second list. If that
+/// fails, or if lines are refused, it is reported, and the error is the exit status.
+fn read_answer(
+    rt: &HostRuntime,
+    matches: &ArgMatches,
+    first: Lists<FirstReader>,
+    names: &[&str; 2],
+    writers: &mut Writers<'_>,
+) -> Result<Answer, u8>
+    ensures { IfErr result (λ status. status ≡ 2) }
+{
+    let entries = entries_or_report(rt, matches)?;
+    let (lists, answer) = read_answers(rt, first, names, entries)?;
+    finish(lists, names, writers)?;
+    Ok(answer)
 }

@@ -1,59 +1,107 @@
-//! The lists of a command, which are read with a report if that fails.
-ghost use Rattle.std.specs.Prelude.{◌≡◌, IfErr};
+//! The sets of the lists of a command, which are read with a report if that fails.
+ghost use Rattle.std.specs.Prelude.{◌≡◌, [], IfOk, IfErr};
 ghost use Rattle.netset_commands.specs.Calls.{AreFlags};
-ghost use Rattle.netset_lib.specs.Commands.{work_of};
+ghost use Rattle.netset_lib.specs.Commands.{grammar_of};
+ghost use Rattle.netset_lib.specs.SetReaders.{WereRead};
 ghost use Rattle.netset_lib.specs.declared.command.Flags.{Flags};
-ghost use Rattle.netset_lib.specs.declared.command.ListCommand.TheVariants.{Union, Compare};
 
 use crate::arguments::{ArgumentFailure, flags_of, report_argument_failure};
 use crate::entry_options::entries_or_report;
 use clap::ArgMatches;
-use netset_files::{ListReader, Reports, bytes_with_entries, fill, fill_with_entries};
-use netset_lib::{Session, Work};
+use ipnet_sets::IpSet;
+use netset_files::{Lists, Reports, Writers, bytes_with_entries};
+use netset_lib::SetReader;
+use netset_lib::runs::end_with;
 
-/// The work of a command that only reads lists: all their addresses.
-pub fn reading_work(matches: &ArgMatches) -> Work
-    ensures { (flags : Flags) × AreFlags matches.now flags × (result ≡ work_of Union flags) }
+/// Returns a reader of lists in the grammar of the command line. If memory runs out, it is reported, and the error is
+/// the exit status.
+pub fn set_reader(rt: &HostRuntime, matches: &ArgMatches) -> Result<SetReader, u8>
+    ensures grammar { IfOk result (λ reader. (flags : Flags) × AreFlags matches.now flags
+        × WereRead (grammar_of flags.legacy) [] [] reader) }
+    ensures failed { IfErr result (λ status. status ≡ 2) }
 {
-    netset_lib::ListCommand::Union.work(flags_of(matches))
+    match SetReader::new(rt.alloc(), flags_of(matches).grammar()) {
+        Ok(reader) => Ok(reader),
+        Err(_) => Err(report_argument_failure(rt, ArgumentFailure::Memory)),
+    }
 }
 
-/// The work of a command that compares two lists.
-pub fn comparing_work(matches: &ArgMatches) -> Work
-    ensures { (flags : Flags) × AreFlags matches.now flags × (result ≡ work_of Compare flags) }
-{
-    netset_lib::ListCommand::Compare.work(flags_of(matches))
-}
-
-/// Reads the lists of these names as `fill_with_entries` does. If there are entries, they are the last list.
-pub fn fill_lists<L: ListReader>(
-    rt: &HostRuntime,
-    matches: &ArgMatches,
-    lists: &mut L,
-    names: &[&str],
-    reports: Reports,
-) -> Result<(), u8>
+/// Ends the reading of the lists of these names. If lines are refused, they are reported, and the error is the exit
+/// status.
+pub fn finish(reader: SetReader, names: &[&str], writers: &mut Writers<'_>) -> Result<(), u8>
     ensures { IfErr result (λ status. status ≡ 2) }
 {
+    match reader.finish() {
+        Ok(()) => Ok(()),
+        Err(lines) => Err(end_with(&lines, names, &mut writers.faults).status),
+    }
+}
+
+/// Reads the lists of these names into a set each. If there are entries, they are the last list. If that fails, or if
+/// lines are refused, it is reported, and the error is the exit status.
+pub fn read_sets(
+    rt: &HostRuntime,
+    matches: &ArgMatches,
+    names: &[&str],
+    writers: &mut Writers<'_>,
+) -> Result<Vec<IpSet>, u8>
+    ensures { IfErr result (λ status. status ≡ 2) }
+{
+    let lists = Lists::new(set_reader(rt, matches)?, writers.reports);
     let entries = entries_or_report(rt, matches)?;
-    fill_with_entries(rt, lists, names, entries, reports)
+    let (lists, sets) = lists.read_all(rt, names, entries)?;
+    finish(lists.end()?, names, writers)?;
+    Ok(sets)
 }
 
-/// Returns a session that has read the lists of these names, as `fill_lists` reads them.
-pub fn session_with_entries(
+/// Reads the first list of a command, which has this name, into a set, as `read_sets` does. It is a file or standard
+/// input. `names` are the names of the command's lists.
+pub fn read_set(
     rt: &HostRuntime,
     matches: &ArgMatches,
-    work: Work,
+    name: &str,
     names: &[&str],
-    reports: Reports,
-) -> Result<Session, u8>
+    writers: &mut Writers<'_>,
+) -> Result<IpSet, u8>
     ensures { IfErr result (λ status. status ≡ 2) }
 {
-    let Ok(mut session) = Session::new(rt.alloc(), work) else {
-        return Err(report_argument_failure(rt, ArgumentFailure::Memory));
-    };
-    fill_lists(rt, matches, &mut session, names, reports)?;
-    Ok(session)
+    let lists = Lists::new(set_reader(rt, matches)?, writers.reports);
+    let (lists, set) = lists.read(rt, name)?;
+    finish(lists.end()?, names, writers)?;
+    Ok(set)
+}
+
+/// Reads the only list of a command, which has this name, into a set, as `read_sets` does.
+pub fn read_only_set(
+    rt: &HostRuntime,
+    matches: &ArgMatches,
+    name: &str,
+    writers: &mut Writers<'_>,
+) -> Result<IpSet, u8>
+    ensures { IfErr result (λ status. status ≡ 2) }
+{
+    let lists = Lists::new(set_reader(rt, matches)?, writers.reports);
+    let entries = entries_or_report(rt, matches)?;
+    let (lists, set) = lists.read_last(rt, name, entries)?;
+    finish(lists.end()?, &[name], writers)?;
+    Ok(set)
+}
+
+/// Reads the two lists of these names into a set each, as `read_sets` does.
+pub fn read_pair(
+    rt: &HostRuntime,
+    matches: &ArgMatches,
+    names: &[&str; 2],
+    writers: &mut Writers<'_>,
+) -> Result<(IpSet, IpSet), u8>
+    ensures { IfErr result (λ status. status ≡ 2) }
+{
+    let lists = Lists::new(set_reader(rt, matches)?, writers.reports);
+    let entries = entries_or_report(rt, matches)?;
+    let (lists, first) = lists.read(rt, names[0])?;
+    let (lists, second) = lists.read_last(rt, names[1], entries)?;
+    finish(lists.end()?, names, writers)?;
+    Ok((first, second))
 }
 
 /// Returns the bytes of the last list, which has this name if there are no entries, as `bytes_with_entries` does.
@@ -67,20 +115,4 @@ pub fn last_bytes(
 {
     let entries = entries_or_report(rt, matches)?;
     bytes_with_entries(rt, name, entries, reports)
-}
-
-/// Returns a session that has read the lists of these names, as `fill` reads them.
-pub fn session_of(
-    rt: &HostRuntime,
-    work: Work,
-    names: &[&str],
-    reports: Reports,
-) -> Result<Session, u8>
-    ensures { IfErr result (λ status. status ≡ 2) }
-{
-    let Ok(mut session) = Session::new(rt.alloc(), work) else {
-        return Err(report_argument_failure(rt, ArgumentFailure::Memory));
-    };
-    fill(rt, &mut session, names, reports)?;
-    Ok(session)
 }

@@ -1,18 +1,17 @@
 //! The command `select`: its arguments, and its run.
-ghost use Rattle.std.specs.Prelude.{◌≡◌, ◌≤◌, IfOk, IfErr, OnErr};
+ghost use Rattle.std.specs.Prelude.{◌≡◌, ◌≤◌, IfOk, IfErr};
 ghost use Rattle.netset_commands.specs.SelectOptions.{IsLengthGiven, IsSelectRequest, bounds_of};
 
 use crate::arguments::{
     ANY_LISTS, ArgumentFailure, SHARED, flags_of, is_set, names_or_report, report_argument_failure,
 };
-use crate::entry_options::ENTRY_OPTION;
+use crate::entry_options::{ENTRY_OPTION, entries_or_report};
 use crate::listing::length_or_report;
-use crate::reading::fill_lists;
 use crate::table::{ARGUMENT, Argument, Form, Subcommand};
 use clap::ArgMatches;
 use ipnet_lists::ReadFailure;
 use netset_entries::{EntryChoice, LengthBounds, SelectRequest, Selection};
-use netset_files::{ListReader, Writers};
+use netset_files::{ListReader, Lists, Reports, Writers};
 use netset_lib::{families, run_text};
 use std::io::Read;
 
@@ -84,16 +83,17 @@ struct SelectedLists {
 }
 
 impl ListReader for SelectedLists {
-    ghost use Rattle.netset_entries.specs.SelectSteps.{has_entry, refused_count, IsBroken};
+    type List = ();
+
+    ghost use Rattle.netset_entries.specs.SelectSteps.{has_entry, refused_count};
 
     ghost refused = { λ lists. refused_count lists.selection };
 
     ghost holds = { λ lists. has_entry lists.selection };
 
-    fn read<R: Read>(&mut self, input: &mut R) -> Result<(), ReadFailure>
-        ensures { OnErr result (IsBroken self.new.selection) }
-    {
-        self.selection.read(input)
+    fn read<R: Read>(self, input: &mut R) -> Result<(SelectedLists, ()), ReadFailure> {
+        let selection = self.selection.read(input)?;
+        Ok((SelectedLists { selection }, ()))
     }
 
     fn refused_count(&self) -> usize {
@@ -152,6 +152,24 @@ fn request_of(rt: &HostRuntime, matches: &ArgMatches) -> Result<SelectRequest, u
     })
 }
 
+/// Reads the lists of these names into the selection. If there are entries, they are the last list. If that fails, it
+/// is reported, and the error is the exit status.
+fn read_selected(
+    rt: &HostRuntime,
+    matches: &ArgMatches,
+    selection: Selection,
+    names: &[&str],
+    reports: Reports,
+) -> Result<Selection, u8>
+    ensures { IfErr result (λ status. status ≡ 2) }
+{
+    let lists = Lists::new(SelectedLists { selection }, reports);
+    let entries = entries_or_report(rt, matches)?;
+    let (lists, _) = lists.read_all(rt, names, entries)?;
+    let SelectedLists { selection } = lists.end()?;
+    Ok(selection)
+}
+
 /// Reads the arguments and the lists, prints the entries that are selected, and returns the exit status.
 #[inline(never)]
 pub fn select_entries(rt: &HostRuntime, matches: &ArgMatches, writers: &mut Writers<'_>) -> u8
@@ -169,10 +187,8 @@ pub fn select_entries(rt: &HostRuntime, matches: &ArgMatches, writers: &mut Writ
     let Ok(selection) = Selection::new(rt.alloc(), request) else {
         return report_argument_failure(rt, ArgumentFailure::Memory);
     };
-    let mut lists = SelectedLists { selection };
-    match fill_lists(rt, matches, &mut lists, names, writers.reports) {
-        Ok(()) => {
-            let SelectedLists { selection } = lists;
+    match read_selected(rt, matches, selection, names, writers.reports) {
+        Ok(selection) => {
             let (out, faults) = (&mut writers.answer, &mut writers.faults);
             run_text(selection, names, out, faults)
         }

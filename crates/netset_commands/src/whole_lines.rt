@@ -6,11 +6,12 @@ ghost use Rattle.netset_lib.specs.Commands.{grammar_of, side_of};
 ghost use Rattle.netset_lib.specs.declared.command.Flags.{Flags};
 
 use crate::arguments::{flags_of, is_set, two_or_report};
-use crate::reading::{reading_work, session_of};
+use crate::reading::read_set;
 use crate::table::{ARGUMENT, Argument, Form};
 use clap::ArgMatches;
 use netset_files::{Writers, open_log, report_unread};
-use netset_lib::report_failure;
+use netset_lib::Failure;
+use netset_lib::runs::end_with;
 use netset_words::{LineFilter, LinesRequest, run_lines};
 use std::io::Write;
 
@@ -74,16 +75,13 @@ pub fn filter_lines(rt: &HostRuntime, matches: &ArgMatches, writers: &mut Writer
         Err(status) => return status,
     };
     let how = lines_request(matches);
-    let session = match session_of(rt, reading_work(matches), &names[..1], writers.reports) {
-        Ok(session) => session,
+    let set = match read_set(rt, matches, names[0], &names, writers) {
+        Ok(set) => set,
         Err(status) => return status,
     };
-    match LineFilter::from_session(rt.alloc(), session, how) {
+    match LineFilter::from_set(rt.alloc(), set, how) {
         Ok(filter) => filter_named(rt, filter, &names, names[1], writers),
-        Err(failure) => {
-            let _ = report_failure(&mut writers.faults, &names, &failure);
-            2
-        }
+        Err(_) => end_with(&Failure::Memory, &names, &mut writers.faults).status,
     }
 }
 

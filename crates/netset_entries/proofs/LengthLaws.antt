@@ -10,10 +10,13 @@ use Rattle.ipnet_base.specs.Network.{Network}
 use Rattle.ipnet_base.proofs.UniqueLaws.{AreMaximalBlocks-same_set}
 use Rattle.ipnet_sets.specs.declared.set.IpSet.{IpSet}
 use Rattle.ipnet_sets.specs.Members.{IsMember}
-use Rattle.netset_lib.specs.declared.answer.Request.{Request}
+use Rattle.ipnet_sets.specs.ManySets.{IsInSome}
+use Rattle.ipnet.specs.declared.parser.Grammar.{Grammar}
 use Rattle.ipnet_lists.specs.Lists.{IsInEntries}
-use Rattle.netset_lib.specs.Operations.{IsInResult}
-use Rattle.netset_lib.specs.PlanAnswers.{IsResultSet}
+use Rattle.netset_lib.specs.Combinations.{OfUnion}
+use Rattle.netset_lib.specs.Operations.{Union}
+use Rattle.netset_lib.specs.SetsOf.{AreSetsOf}
+use Rattle.netset_lib.proofs.SameResults.{result_same}
 use Rattle.netset_entries.specs.Lengths.{has_length, count_with, AreLengthLines, IsLengthsAnswer}
 
 count_push : {X : Type 0} (p : X → Bool) (xs : List X) (x : X)
@@ -46,10 +49,17 @@ lines_same A B same text h = record {
   spelled = h.spelled;
 }
 
-pub lengths_of_lists : (r : Request) (lists : List (List ℕ)) (set : IpSet) → IsResultSet r lists set
-    → (text : List ℕ) → AreLengthLines (IsMember set) text → IsLengthsAnswer r lists text
-lengths_of_lists r lists set of text right = record {
+-- the prefix lengths of the union of sets are those of their lists
+pub lengths_of_lists : (grammar : Grammar) (lists : List (List ℕ)) (sets : List IpSet) (text : List ℕ)
+    → AreSetsOf grammar lists sets → OfUnion (λ set. AreLengthLines (IsMember set) text) sets
+    → IsLengthsAnswer grammar lists text
+lengths_of_lists grammar lists sets text of (set, all, right) = record {
   entries = of.entries;
   read = of.read;
-  right = lines_same (IsMember set) (IsInResult IsInEntries r.operation of.entries) of.right text right;
+  right = lines_same (IsMember set) (IsInSome IsInEntries of.entries)
+      (λ x. let same = result_same x Union sets of.entries of.of_each in (
+        λ m. same.0 ((all x).0 m),
+        λ m. (all x).1 (same.1 m),
+      ))
+      text right;
 }

@@ -1,5 +1,4 @@
 -- Lemmas that the proofs of this crate share.
-pub mod SupernetLaws
 pub mod FitLaws
 pub mod WitnessLaws
 pub mod CoverLaws

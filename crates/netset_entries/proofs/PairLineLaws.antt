@@ -1,11 +1,12 @@
 -- The lines of pairs of sets, and of the lists that they were read from.
-use Rattle.std.proofs.Common.{◌≡◌, ◌≢◌, ◌≤◌, ◌<◌, ◌+◌, ◌-◌, ◌^◌, ◌↔◌, ℕ, zero, suc, List, [], ◌∷◌, ◌++◌, length, get_or}
+use Rattle.std.proofs.Common.{◌≡◌, ◌≤◌, ◌<◌, ◌+◌, ◌-◌, ◌^◌, ◌↔◌, ℕ, zero, suc, List, [], ◌∷◌, ◌++◌, length, get_or}
 use Rattle.std.proofs.Common.{All, Option, Some, None, IsNone, IfSome, IsTrue, Bool, refl, sym, ap, ◌∙◌, subst, arith}
 use Rattle.std.proofs.Common.{append_assoc, drop, take, take_all}
 use Rattle.std.proofs.lemmas.List.{take_more}
 use Rattle.std.proofs.lemmas.List.Elements.{All-nil, All-cons, All-append}
 use Rattle.ipnet_base.specs.Address.{IPv4, IPv6, Address, IsAddress}
 use Rattle.ipnet_bars.specs.Parts.{counted}
+use Rattle.ipnet.specs.declared.parser.Grammar.{Grammar}
 use Rattle.ipnet_lists.specs.Lists.{ListEntry, IsInEntries, HaveAddresses}
 use Rattle.ipnet_lists.specs.Names.{Names, name_at}
 use Rattle.ipnet_sets.specs.declared.set.IpSet.{IpSet}
@@ -14,13 +15,8 @@ use Rattle.netset_lib.specs.Counts.{HasCounts, HaveSame}
 use Rattle.netset_lib.specs.ListSets.{HaveMembers}
 use Rattle.netset_lib.proofs.CountTexts.{all_counted}
 use Rattle.netset_entries.specs.ListPairs.{AreTabbedCounts, IsPairLine, IsPairAt, IsListAt, ArePairsOf, ArePairs}
-use Rattle.netset_entries.specs.ListPairs.{HaveAllSame, IsPairsAnswer, IsPairsFailure, IsPairsOutcome}
-use Rattle.netset_lib.specs.Replies.{IsWorkFailure}
-use Rattle.netset_lib.specs.declared.command.Work.TheVariants.{Combine}
-use Rattle.netset_lib.specs.declared.failure.Failure.{Failure}
-use Rattle.netset_lib.specs.declared.failure.Failure.TheVariants as Failures
+use Rattle.netset_entries.specs.ListPairs.{HaveAllSame, IsPairsAnswer, IsPairsOutcome}
 use Rattle.netset_lib.specs.SetsOf.{AreSetsOf}
-use Rattle.netset_lib.specs.declared.answer.Request.{Request}
 use Rattle.netset_entries.specs.TextParts.{AreTextParts}
 use Rattle.netset_entries.proofs.PartLaws.{parts_weaker}
 
@@ -186,24 +182,16 @@ rest_of (x ∷ sets) first is some =
 
 -- ---- the answer
 
-module _ (r : Request) (lists : List (List ℕ)) (sets : List IpSet) (of : AreSetsOf r.grammar lists sets) where
+module _ (grammar : Grammar) (lists : List (List ℕ)) (sets : List IpSet) (of : AreSetsOf grammar lists sets) where
   pub pairs_answer : (names : Names) (text : List ℕ) → ArePairs IsMember names sets text
-      → IsPairsAnswer names r.grammar lists text
+      → IsPairsAnswer names grammar lists text
   pairs_answer names text h =
       record { entries = of.entries; read = of.read; right = pairs_same names sets of.entries of.of_each text h }
 
-  pub pairs_outcome : (same : Bool) → IsTrue same ↔ HaveAllSame IsMember sets → IsPairsOutcome r.grammar lists same
+  pub pairs_outcome : (same : Bool) → IsTrue same ↔ HaveAllSame IsMember sets → IsPairsOutcome grammar lists same
   pairs_outcome same h =
       let all = all_same_of_lists [] sets of.entries of.of_each in record {
         entries = of.entries;
         read = of.read;
         is_same = (λ t. all.0 (h.0 t), λ a. h.1 (all.1 a));
       }
-
-pub pairs_failure : (r : Request) (lists : List (List ℕ)) (failure : Failure)
-    → IsWorkFailure (Combine r) lists failure → failure ≢ Failures.Memory → IsPairsFailure r lists failure
-pairs_failure r lists Failures.Count h other = h
-pairs_failure r lists (Failures.Refused refused) h other = h
-pairs_failure r lists Failures.NoFamily h other = h
-pairs_failure r lists Failures.Unreadable h other = h
-pairs_failure r lists Failures.Memory h other = absurd (other refl)

@@ -6,7 +6,6 @@ use Rattle.ipnet_text.specs.Inputs.{GaveWhole}
 use Rattle.ipnet_lists.specs.Lists.{ListEntry, IsListRead}
 use Rattle.ipnet_lists.specs.Reading.{Adds, WasMadeOf}
 use Rattle.ipnet_lists.specs.declared.reading.Reading.{Reading}
-use Rattle.netset_lib.specs.Sessions.{IsNoted}
 use Rattle.ipnet_lists.proofs.RefusalLaws.{more_refused}
 use Rattle.netset_lib.specs.Answers.{AreListsRead, HasRefused}
 use Rattle.netset_lib.specs.EntryAnswers.{IsFoundIn}
@@ -16,7 +15,7 @@ use Rattle.netset_entries.specs.declared.selected.Selected.{Selected}
 use Rattle.netset_entries.specs.declared.selection.Selection.{Selection}
 use Rattle.netset_entries.specs.Choices.{IsChosen}
 use Rattle.netset_entries.specs.Selections.{IsSelection, IsSelectAnswer, IsSelectOutcome, entries_of_lists}
-use Rattle.netset_entries.specs.SelectSteps.{IsSelected, WereSelected, has_entry}
+use Rattle.netset_entries.specs.SelectSteps.{IsNoted, IsSelected, WereSelected, has_entry}
 
 one_list_more : (lists : List (List ListEntry)) (entries : List ListEntry)
     → entries_of_lists (lists ++ entries ∷ []) ≡ entries_of_lists lists ++ entries
@@ -32,12 +31,11 @@ one_more_count lists bytes = omega (arith, length-append lists (bytes ∷ []))
 
 pub list_selected : (request : SelectRequest) (lists : List (List ℕ)) (old new : Selection)
     (left left_after : Option (List ℕ)) → WereSelected request lists old → new.request ≡ old.request
-    → new.is_broken ≡ old.is_broken
     → WasMadeOf left left_after old.reading new.reading
     (Adds (IsSelected old.request old.selected) (IsSelected old.request new.selected))
     → (bytes : List ℕ) × GaveWhole left left_after bytes × WereSelected request (lists ++ bytes ∷ []) new
     × IsNoted request.grammar (length lists) bytes (has_entry new)
-list_selected request lists old new left left_after h same_request same_broken k =
+list_selected request lists old new left left_after h same_request k =
     let grammar = request.grammar in
     let place : old.reading.lines.list ≡ 0 + length lists = h.count ∙ zero_plus (length lists) in
     let is = subst (λ g. IsListRead g old.reading.lines.list k.bytes k.entries k.refusals) h.same_grammar k.read in
@@ -47,7 +45,6 @@ list_selected request lists old new left left_after h same_request same_broken k
       k.given,
       record {
         same_request = same_request ∙ h.same_request;
-        sound = same_broken ∙ h.sound;
         same_grammar = k.same_grammar ∙ h.same_grammar;
         count = k.next ∙ ap (λ n. n + 1) h.count ∙ one_more_count lists k.bytes;
         entries = h.entries ++ k.entries ∷ [];

@@ -1,30 +1,23 @@
 -- Lists within limits: the networks that contain the addresses of lists, as text, and the addresses that they add.
-use Rattle.std.specs.Prelude.{◌≡◌, ◌*◌, ◌/◌, ◌-◌, ◌^◌, min, ℕ, Bool, true, false, ⊤, List, [], ◌∷◌, ◌++◌, codes}
+use Rattle.std.specs.Prelude.{◌≡◌, ◌*◌, ◌/◌, ◌-◌, ◌^◌, min, ℕ, ⊤, List, ◌++◌, codes}
 use Rattle.std.specs.Prelude.{Option}
 use Rattle.std.specs.Io.KnownBytes.{Appends}
-use Rattle.ipnet_base.specs.Address.{Family, IPv4, IPv6, Address}
+use Rattle.ipnet_base.specs.Address.{IPv4, IPv6, Address}
 use Rattle.ipnet_base.specs.Network.{Network}
-use Rattle.ipnet_sets.specs.ManySets.{IsInSome}
-use Rattle.ipnet_sets.specs.Members.{IsCountOf}
-use Rattle.ipnet_lists.specs.Lists.{ListEntry, IsInEntries}
+use Rattle.ipnet_sets.specs.Members.{IsCountOf, IsMember}
 use Rattle.ipnet_shortest.specs.Covers.{IsAdded, IsBestCover, HasCoverWithin, IsFewestCover, HasCoverAdding}
 use Rattle.ipnet_shortest.specs.Covers.{AreInOrder}
-use Rattle.ipnet_lists.specs.Names.{Names}
 use Rattle.ipnet_text.specs.LineTexts.{text_of_lines}
 use Rattle.ipnet_text.specs.Outputs.{IsWritten, IsFrontWritten}
-use Rattle.netset_lib.specs.Answers.{AreListsRead}
+use Rattle.netset_lib.specs.Combinations.{OfUnion}
 use Rattle.netset_lib.specs.Counts.{IsCountsLine}
-use Rattle.netset_lib.specs.Reports.{IsFailureReport, IsFailureBegun, words_line}
-use Rattle.netset_lib.specs.Runs.{OfCombined, OfFault}
-use Rattle.netset_lib.specs.declared.answer.Request.{Request}
-use Rattle.netset_lib.specs.declared.failure.Failure.{Failure}
-use Rattle.netset_lib.specs.declared.runs.Fault.{Fault}
-use Rattle.netset_lib.specs.declared.session.Session.{Session}
+use Rattle.netset_lib.specs.Reports.{words_line}
 use Rattle.netset_entries.specs.declared.fit.FitFailure.{FitFailure}
 use Rattle.netset_entries.specs.declared.fit.FitFailure.TheVariants.{NoList, Memory}
 use Rattle.netset_entries.specs.declared.fit.FitLimit.{FitLimit}
 use Rattle.netset_entries.specs.declared.fit.FitLimit.TheVariants.{Networks, Spare}
 use Rattle.netset_entries.specs.declared.fit.FitRequest.{FitRequest}
+use Rattle.netset_entries.specs.declared.fit_program.FitCommand.{FitCommand}
 use Rattle.netset_entries.specs.Supernets.{IsOfFamily}
 
 -- The percentage of a number of addresses, rounded down, and at most 2^128 - 1.
@@ -92,15 +85,13 @@ abbrev pub fit_words : FitFailure → List ℕ
 fit_words NoList = codes "no list: no networks within the limits contain all addresses and avoid --never"
 fit_words Memory = codes "out of memory"
 
--- The report of why the lists with these names have no such networks was written: the one of the lists, or these words.
-abbrev pub IsFitReported : Fault Failure FitFailure → Names → Option (List ℕ) → Option (List ℕ) → Type 0
-IsFitReported = OfFault (λ failure names. IsWritten (IsFailureReport failure names))
-    (λ failure names. IsWritten (λ t. t ≡ words_line (fit_words failure)))
+-- The report of why there is no text was written.
+abbrev pub IsFitReported : FitFailure → Option (List ℕ) → Option (List ℕ) → Type 0
+IsFitReported failure = IsWritten (λ t. t ≡ words_line (fit_words failure))
 
 -- A front of that report was written, perhaps all.
-abbrev pub IsFitReportBegun : Fault Failure FitFailure → Names → Option (List ℕ) → Option (List ℕ) → Type 0
-IsFitReportBegun = OfFault (λ failure names. IsFrontWritten (IsFailureBegun failure names))
-    (λ failure names. IsFrontWritten (λ t. t ≡ words_line (fit_words failure)))
+abbrev pub IsFitReportBegun : FitFailure → Option (List ℕ) → Option (List ℕ) → Type 0
+IsFitReportBegun failure = IsFrontWritten (λ t. t ≡ words_line (fit_words failure))
 
 -- A front of this report was written, and if `IsSure`, all of it.
 abbrev pub IsReportedAs : List ℕ → Option (List ℕ) → Option (List ℕ) → Type 0 → Type 0
@@ -112,50 +103,27 @@ abbrev pub exit_of_fit : FitFailure → ℕ
 exit_of_fit NoList = 1
 exit_of_fit Memory = 2
 
--- The addresses of the lists. If a list is to be avoided, it is the first, and its addresses do not count. `In` is the
--- addresses of a list: `IsInEntries` for its entries, and `IsMember` for a set in private contracts.
-abbrev pub IsWanted : {L : Type 0} → (L → Address → Type 0) → Bool → List L → Address → Type 0
-IsWanted In false lists x = IsInSome In lists x
-IsWanted In true [] x = ⊥
-IsWanted In true (never ∷ lists) x = IsInSome In lists x
+-- The text has the networks within the limits that contain the addresses of the sets and avoid the others. The report
+-- says what they add.
+abbrev pub IsFitAnswer : FitCommand → List ℕ → List ℕ → Type 0
+IsFitAnswer c text report =
+    OfUnion (λ set. IsFittedText c.request (IsMember set) (IsMember c.never) text report) c.sets.items
 
--- The addresses to avoid.
-abbrev pub IsUnwanted : {L : Type 0} → (L → Address → Type 0) → Bool → List L → Address → Type 0
-IsUnwanted In false lists x = ⊥
-IsUnwanted In true [] x = ⊥
-IsUnwanted In true (never ∷ lists) x = In never x
+-- Why there are no such networks: if it is `NoList`, a family has no networks within its limit.
+-- Example: the sets have 10.0.0.1, and it is avoided. Then no limit helps.
+abbrev pub IsFitReason : FitCommand → FitFailure → Type 0
+IsFitReason c NoList = OfUnion (λ set. ¬ (HaveFits c.request (IsMember set) (IsMember c.never))) c.sets.items
+IsFitReason c Memory = ⊤
 
--- No line of the lists is refused. The text has the networks within the limits that contain the addresses of the lists
--- and avoid the first list, if it is to be avoided. The report says what they add.
-pub record IsFitAnswer (request : FitRequest) (reading : Request) (lists : List (List ℕ)) (text report : List ℕ)
-    : Type 0 where
-  pub entries : List (List ListEntry)
-  pub read : AreListsRead reading.grammar 0 lists entries []
-  pub right : IsFittedText request (IsWanted IsInEntries request.has_never entries)
-      (IsUnwanted IsInEntries request.has_never entries) text report
-
--- No line of the lists is refused, and a family has no networks within its limit.
--- Example: the lists have 10.0.0.1/32, and it is avoided. Then no limit helps.
-pub record HasNoFitAnswer (request : FitRequest) (reading : Request) (lists : List (List ℕ)) : Type 0 where
-  pub entries : List (List ListEntry)
-  pub read : AreListsRead reading.grammar 0 lists entries []
-  pub none : ¬ (HaveFits request (IsWanted IsInEntries request.has_never entries)
-      (IsUnwanted IsInEntries request.has_never entries))
-
--- Why the lists of the session have no such networks, if that is the reason.
-abbrev pub IsFitReason : FitRequest → Session → FitFailure → Type 0
-IsFitReason request session failure = failure ≡ NoList → OfCombined (HasNoFitAnswer request) session
-
--- The text has the networks within the limits for the lists of the session.
-abbrev pub IsFitText : FitRequest → Session → List ℕ → Type 0
-IsFitText request session text =
-    (report : List ℕ) × OfCombined (λ r lists. IsFitAnswer request r lists text report) session
+-- The text has the networks within the limits.
+abbrev pub IsFitText : FitCommand → List ℕ → Type 0
+IsFitText c text = (report : List ℕ) × IsFitAnswer c text report
 
 -- The text was written, and a front of the report of what the networks add; if `IsSure`, all of it.
-pub record IsFitOutput (request : FitRequest) (session : Session) (out out_after faults faults_after : Option (List ℕ))
-    (IsSure : Type 0) : Type 0 where
-  pub text : List ℕ
-  pub report : List ℕ
-  pub right : OfCombined (λ r lists. IsFitAnswer request r lists text report) session
-  pub written : Appends out out_after text
-  pub reported : IsReportedAs report faults faults_after IsSure
+pub record IsFitOutput (c : FitCommand) (out out_after faults faults_after : Option (List ℕ)) (IsSure : Type 0) : Type 0
+  where
+    pub text : List ℕ
+    pub report : List ℕ
+    pub right : IsFitAnswer c text report
+    pub written : Appends out out_after text
+    pub reported : IsReportedAs report faults faults_after IsSure

@@ -3,8 +3,10 @@ use Rattle.std.specs.Prelude.{◌≡◌, ◌+◌, ◌&&◌, ℕ, zero, suc, Bool
 use Rattle.ipnet_base.specs.Address.{Family, IPv4, IPv6, Address, family_index, width}
 use Rattle.ipnet_base.specs.Network.{Network}
 use Rattle.ipnet_base.specs.Blocks.{AreMaximalBlocks}
-use Rattle.netset_lib.specs.declared.answer.Request.{Request}
-use Rattle.netset_lib.specs.PlanAnswers.{HoldsOfResult}
+use Rattle.ipnet.specs.declared.parser.Grammar.{Grammar}
+use Rattle.ipnet_lists.specs.Lists.{ListEntry, IsInEntries}
+use Rattle.ipnet_sets.specs.ManySets.{IsInSome}
+use Rattle.netset_lib.specs.Answers.{AreListsRead}
 use Rattle.netset_entries.specs.TextParts.{AreTextParts}
 
 -- Whether the network is of this family and has this prefix length.
@@ -44,6 +46,8 @@ pub record AreLengthLines (InSet : Address → Type 0) (text : List ℕ) : Type 
   pub of_ipv6 : AreFamilyLines IPv6 networks ipv6
   pub spelled : text ≡ ipv4 ++ ipv6
 
--- No line of the lists is refused, and the text has the prefix lengths of the result.
-abbrev pub IsLengthsAnswer : Request → List (List ℕ) → List ℕ → Type 0
-IsLengthsAnswer r lists text = HoldsOfResult r lists (λ InSet. AreLengthLines InSet text)
+-- No line of the lists is refused, and the text has the prefix lengths of all their addresses.
+pub record IsLengthsAnswer (grammar : Grammar) (lists : List (List ℕ)) (text : List ℕ) : Type 0 where
+  pub entries : List (List ListEntry)
+  pub read : AreListsRead grammar 0 lists entries []
+  pub right : AreLengthLines (IsInSome IsInEntries entries) text

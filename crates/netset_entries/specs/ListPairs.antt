@@ -7,11 +7,6 @@ use Rattle.ipnet_lists.specs.Lists.{ListEntry, IsInEntries}
 use Rattle.ipnet_lists.specs.Names.{Names, name_at}
 use Rattle.netset_lib.specs.Answers.{AreListsRead}
 use Rattle.netset_lib.specs.Counts.{HasCounts, HaveSame}
-use Rattle.netset_lib.specs.Replies.{IsWorkFailure}
-use Rattle.netset_lib.specs.declared.answer.Request.{Request}
-use Rattle.netset_lib.specs.declared.command.Work.TheVariants.{Combine}
-use Rattle.netset_lib.specs.declared.failure.Failure.{Failure}
-use Rattle.netset_lib.specs.declared.failure.Failure.TheVariants as Failures
 use Rattle.netset_entries.specs.TextParts.{AreTextParts}
 
 -- A tab (9) and the number of IPv4 addresses of the set, and then a tab and the number of its IPv6 addresses.
@@ -71,11 +66,3 @@ pub record IsPairsOutcome (grammar : Grammar) (lists : List (List ℕ)) (same : 
   pub entries : List (List ListEntry)
   pub read : AreListsRead grammar 0 lists entries []
   pub is_same : IsTrue same ↔ HaveAllSame IsInEntries entries
-
--- Why there are no such lines: as the operation's lists have no sets, or no line of them is refused and memory ran out.
-abbrev pub IsPairsFailure : Request → List (List ℕ) → Failure → Type 0
-IsPairsFailure r lists Failures.Count = IsWorkFailure (Combine r) lists Failures.Count
-IsPairsFailure r lists (Failures.Refused refused) = IsWorkFailure (Combine r) lists (Failures.Refused refused)
-IsPairsFailure r lists Failures.NoFamily = IsWorkFailure (Combine r) lists Failures.NoFamily
-IsPairsFailure r lists Failures.Unreadable = ⊥
-IsPairsFailure r lists Failures.Memory = (entries : List (List ListEntry)) × AreListsRead r.grammar 0 lists entries []

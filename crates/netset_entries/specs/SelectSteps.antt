@@ -1,13 +1,14 @@
 -- The values of a selection, as contracts see them.
--- Only private contracts use these, except `WereSelected`, `IsBroken`, `has_entry` and `refused_count`.
-use Rattle.std.specs.Prelude.{◌≡◌, ◌≤◌, ◌↔◌, ◌⊎◌, ℕ, Bool, true, false, IsTrue, List, [], ◌∷◌, ◌++◌, length, map, All}
+-- Only private contracts use these, except `WereSelected`, `IsNoted`, `has_entry` and `refused_count`.
+use Rattle.std.specs.Prelude.{◌≡◌, ◌≢◌, ◌≤◌, ◌↔◌, ◌⊎◌, ℕ, Bool, true, IsTrue, List, [], ◌∷◌, ◌++◌, length, map, All}
 use Rattle.std.specs.Prelude.{slice_range}
 use Rattle.std.specs.Ordering.{nat_cmp, ordering_then}
 use Rattle.std.specs.BTreeSet.{BTreeSet, contains}
 use Rattle.std.specs.declared.cmp.Ordering.{Ordering}
 use Rattle.ipnet_base.specs.Address.{family_index}
 use Rattle.ipnet_base.specs.Ranges.{AddressRange}
-use Rattle.ipnet_lists.specs.Lists.{ListEntry, Refusal}
+use Rattle.ipnet.specs.declared.parser.Grammar.{Grammar}
+use Rattle.ipnet_lists.specs.Lists.{ListEntry, Refusal, IsListRead}
 use Rattle.ipnet_lists.specs.RefusedLines.{AreRefused}
 use Rattle.ipnet_sets.specs.SetRanges.{range_of}
 use Rattle.netset_lib.specs.Answers.{AreListsRead}
@@ -73,7 +74,6 @@ pub record IsSelected (request : SelectRequest) (s : Selected) (entries : List L
 -- The selection has read exactly these lists, in this order.
 pub record WereSelected (request : SelectRequest) (lists : List (List ℕ)) (s : Selection) : Type 0 where
   pub same_request : s.request ≡ request
-  pub sound : s.is_broken ≡ false
   pub same_grammar : s.reading.lines.grammar ≡ request.grammar
   pub count : s.reading.lines.list ≡ length lists
   pub entries : List (List ListEntry)
@@ -82,10 +82,6 @@ pub record WereSelected (request : SelectRequest) (lists : List (List ℕ)) (s :
   pub kept : AreRefused s.reading.lines.refused refusals
   pub state : IsSelected request s.selected (entries_of_lists entries)
 
--- A list could not be read. Then every later call fails.
-abbrev pub IsBroken : Selection → Type 0
-IsBroken s = s.is_broken ≡ true
-
 -- Whether an entry of the list that the selection has read last was found.
 abbrev pub has_entry : Selection → Bool
 has_entry s = s.reading.lines.has_entry
@@ -93,3 +89,10 @@ has_entry s = s.reading.lines.has_entry
 -- How many lines of the lists that the selection has read were refused.
 abbrev pub refused_count : Selection → ℕ
 refused_count s = s.reading.lines.refused.count
+
+-- The list has an entry if and only if the note is true. `list` is the index of the list.
+pub record IsNoted (grammar : Grammar) (list : ℕ) (bytes : List ℕ) (note : Bool) : Type 0 where
+  pub entries : List ListEntry
+  pub refusals : List Refusal
+  pub read : IsListRead grammar list bytes entries refusals
+  pub noted : (note ≡ true) ↔ (entries ≢ [])

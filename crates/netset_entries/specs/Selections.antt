@@ -1,17 +1,19 @@
 -- The entries of lists that are selected: those that are chosen, without repeats or with them, and in which order.
-use Rattle.std.specs.Prelude.{◌≡◌, ◌≢◌, ◌⊎◌, ℕ, Bool, true, false, IsTrue, List, [], ◌∷◌, ◌++◌, Any}
+use Rattle.std.specs.Prelude.{◌≡◌, ◌⊎◌, ℕ, Bool, true, false, List, [], ◌∷◌, ◌++◌, Any}
 use Rattle.std.specs.List.Sorted.{IsPermutation, IsSortedByKey, IsStableByKey}
 use Rattle.std.specs.Ordering.{nat_cmp, ordering_then}
 use Rattle.std.specs.declared.cmp.Ordering.{Ordering}
 use Rattle.ipnet_base.specs.Address.{family_index}
 use Rattle.ipnet_base.specs.Ranges.{AddressRange}
 use Rattle.ipnet_lists.specs.Lists.{ListEntry}
-use Rattle.ipnet_lists.specs.RefusedLines.{AreRefused}
+use Rattle.ipnet_lists.specs.RefusedLines.{RefusedLines}
 use Rattle.netset_lib.specs.Answers.{AreListsRead, HasRefused}
 use Rattle.netset_lib.specs.EntryAnswers.{IsFoundIn}
 use Rattle.netset_lib.specs.Filters.{AreKept, text_of_entries}
 use Rattle.netset_lib.specs.declared.failure.Failure.{Failure}
 use Rattle.netset_lib.specs.declared.failure.Failure.TheVariants as Failures
+use Rattle.netset_lib.specs.declared.runs.Fault.{Fault}
+use Rattle.netset_lib.specs.declared.runs.Fault.TheVariants.{Lists, Other}
 use Rattle.netset_entries.specs.declared.selected.SelectRequest.{SelectRequest}
 use Rattle.netset_entries.specs.Choices.{IsChosen}
 
@@ -79,10 +81,7 @@ pub record IsSelectOutcome (request : SelectRequest) (lists : List (List ℕ)) (
   pub is_found : IsFoundIn (λ e. IsChosen request.choice e.range) found (entries_of_lists entries)
 
 -- Why lists that were read have no answer: these lines are refused, or no line is and memory ran out.
-abbrev pub IsSelectFailure : SelectRequest → List (List ℕ) → Failure → Type 0
-IsSelectFailure request lists Failures.Count = ⊥
-IsSelectFailure request lists Failures.NoFamily = ⊥
-IsSelectFailure request lists Failures.Unreadable = ⊥
-IsSelectFailure request lists (Failures.Refused lines) = HasRefused request.grammar lists lines
-IsSelectFailure request lists Failures.Memory =
-    (entries : List (List ListEntry)) × AreListsRead request.grammar 0 lists entries []
+abbrev pub IsSelectFailure : SelectRequest → List (List ℕ) → Fault RefusedLines Failure → Type 0
+IsSelectFailure request lists (Lists lines) = HasRefused request.grammar lists lines
+IsSelectFailure request lists (Other failure) = (failure ≡ Failures.Memory)
+    × ((entries : List (List ListEntry)) × AreListsRead request.grammar 0 lists entries [])

@@ -1,4 +1,4 @@
--- The smallest networks around the addresses of lists, and their text.
+-- The smallest networks around the addresses of a set, and their text.
 use Rattle.std.specs.Prelude.{◌≡◌, ℕ, List, [], ◌∷◌, ◌++◌, Option, Some, None}
 use Rattle.ipnet_base.specs.Address.{Family, IPv4, IPv6, Address}
 use Rattle.ipnet_base.specs.Network.{Network}
@@ -6,8 +6,6 @@ use Rattle.ipnet.specs.declared.net.IpNet.{IpNet}
 use Rattle.ipnet.specs.NetworkOf.{ip_network}
 use Rattle.ipnet_sets.specs.Supernets.{IsSmallestAround}
 use Rattle.ipnet_text.specs.LineTexts.{text_of_lines}
-use Rattle.netset_lib.specs.declared.answer.Request.{Request}
-use Rattle.netset_lib.specs.PlanAnswers.{HoldsOfResult}
 
 -- The address is in the set and of this family.
 abbrev pub IsOfFamily : (Address → Type 0) → Family → Address → Type 0
@@ -38,7 +36,3 @@ pub record AreSupernetLines (InSet : Address → Type 0) (text : List ℕ) : Typ
   pub networks : List Network
   pub smallest : AreSupernets InSet networks
   pub spelled : text ≡ text_of_lines networks
-
--- No line of the lists is refused, and the text has the smallest networks around the addresses of the result.
-abbrev pub IsSupernetAnswer : Request → List (List ℕ) → List ℕ → Type 0
-IsSupernetAnswer r lists text = HoldsOfResult r lists (λ InSet. AreSupernetLines InSet text)

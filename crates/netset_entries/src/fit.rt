@@ -101,15 +101,13 @@ pub enum FitLimit {
     Spare(u32),
 }
 
-/// The limits of both families, and whether a list is to be avoided.
+/// The limits of both families.
 #[derive(Clone, Copy, Debug, PartialEq, Eq)]
 pub struct FitRequest {
     /// The limit of the IPv4 networks.
     pub ipv4: FitLimit,
     /// The limit of the IPv6 networks.
     pub ipv6: FitLimit,
-    /// Whether the networks may have no address of the first list, and only the other lists count.
-    pub has_never: bool,
 }
 
 /// Networks within limits, as text, and a line that reports how many addresses of each family they add.
@@ -250,7 +248,7 @@ fn added_report(alloc: Global, set: &IpSet, networks: &[IpNet]) -> Result<String
 /// Returns the networks within the limits that contain every address of the set and no address of `never`, one a line,
 /// and a line that reports how many addresses they add. For a limit of networks, no such networks add fewer addresses,
 /// and none that add as few are fewer networks. For a percentage, no such networks are fewer, and none as few add fewer
-/// addresses. `has_never` of the request does not matter.
+/// addresses.
 ///
 /// The error is `NoList` only if a family has no networks within its limit, and `Memory` if memory runs out.
 ///

@@ -14,6 +14,7 @@ mod largest;
 pub mod lengths;
 pub mod lengths_program;
 mod lines;
+pub mod list_laws;
 pub mod noted;
 mod overlaps;
 pub mod overlaps_program;

@@ -2,7 +2,6 @@
 //!
 //! | Status | On `faults` | When |
 //! |---|---|---|
-//! | 2 | `netset: a list could not be read` | `Selection::read` failed |
 //! | 2 | `NAME:LINE: not a network, an address or a range: TEXT (CAUSE)`, ten at most | some lines are not entries |
 //! | 2 | `netset: out of memory` | memory runs out |
 //! | 2 | `netset: output cannot be written` | a write fails, or the flush after it; the lines may be out in part |
@@ -13,19 +12,19 @@
 //! IPv4 of "10.0.0.1 # web\n::1\n":  status 0, and out gets "10.0.0.1\n"
 //! IPv4 of "::1\n":                  status 1, and out gets nothing
 //! ```
-ghost use Rattle.std.specs.Prelude.{◌≡◌, ◌⊎◌, List, ℕ};
+ghost use Rattle.std.specs.Prelude.{List, ℕ};
 ghost use Rattle.netset_entries.specs.Selections.{IsSelectAnswer, IsSelectFailure, IsSelectOutcome};
-ghost use Rattle.netset_entries.specs.SelectSteps.{WereSelected, IsBroken};
+ghost use Rattle.netset_entries.specs.SelectSteps.{WereSelected};
 ghost use Rattle.netset_entries.specs.declared.selected.SelectRequest.{SelectRequest};
-ghost use Rattle.netset_lib.specs.declared.failure.Failure.TheVariants.{Unreadable};
 
 use crate::selection::Selection;
-use netset_lib::{Failure, TextCommand};
+use ipnet_lists::RefusedLines;
+use netset_lib::{Failure, Fault, TextCommand};
 
 impl TextCommand for Selection {
     type Text = Vec<u8>;
 
-    type Failure = Failure;
+    type Failure = Fault<RefusedLines, Failure>;
 
     ghost is_answer = { λ s text. (request : SelectRequest) → (lists : List (List ℕ)) → WereSelected request lists s
         → IsSelectAnswer request lists text };
@@ -36,20 +35,19 @@ impl TextCommand for Selection {
     ghost is_failure = { λ s failure. (request : SelectRequest) → (lists : List (List ℕ)) → WereSelected request lists s
         → IsSelectFailure request lists failure };
 
-    fn answer(self) -> Result<(Vec<u8>, bool), Failure> {
+    fn answer(self) -> Result<(Vec<u8>, bool), Fault<RefusedLines, Failure>> {
         let Selection {
             request,
             reading,
             selected,
-            is_broken,
         } = self;
-        if is_broken {
-            return Err(Failure::Unreadable);
-        }
         let lines = reading.lines;
         if lines.refused.count != 0 {
-            return Err(Failure::Refused(lines.refused));
+            return Err(Fault::Lists(lines.refused));
         }
-        Ok(selected.into_text(lines.alloc, request.sort)?)
+        match selected.into_text(lines.alloc, request.sort) {
+            Ok(answer) => Ok(answer),
+            Err(_) => Err(Fault::Other(Failure::Memory)),
+        }
     }
 }

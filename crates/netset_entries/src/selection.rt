@@ -1,5 +1,5 @@
 //! The selected entries of lists that are read one after another.
-ghost use Rattle.std.specs.Prelude.{◌≡◌, ◌++◌, ◌∷◌, [], List, ℕ, length, IfOk, OnOk, OnErr, IsErr};
+ghost use Rattle.std.specs.Prelude.{◌≡◌, ◌++◌, ◌∷◌, [], List, ℕ, length, IfOk};
 ghost use Rattle.ipnet_text.specs.Inputs.{GaveWhole};
 
 use crate::selected::{SelectRequest, Selected};
@@ -9,8 +9,7 @@ use std::io::Read;
 
 /// The lists of a call, which are read one after another, and their selected entries.
 ///
-/// The bytes of a list are not kept: only the texts of the selected entries are. After a list could not be read, every
-/// later call of `read` fails, and so does the command `select`.
+/// The bytes of a list are not kept: only the texts of the selected entries are. A call that fails ends the selection.
 ///
 /// ```text
 /// new(IPv4, sorted), read("10.0.0.1 # web\n::1\n"), read("10.0.0.0/8\n"): the answer is "10.0.0.0/8\n10.0.0.1\n"
@@ -20,14 +19,11 @@ pub struct Selection {
     pub(crate) request: SelectRequest,
     pub(crate) reading: Reading,
     pub(crate) selected: Selected,
-    /// Whether a list could not be read.
-    pub(crate) is_broken: bool,
 }
 
 impl Selection {
-    ghost use Rattle.netset_entries.specs.SelectSteps.{WereSelected, IsBroken, has_entry, refused_count};
+    ghost use Rattle.netset_entries.specs.SelectSteps.{WereSelected, IsNoted, has_entry, refused_count};
     ghost use Rattle.netset_entries.specs.declared.selected.SelectRequest.{SelectRequest};
-    ghost use Rattle.netset_lib.specs.Sessions.{IsNoted};
 
     /// Returns a selection that has read no list. Fails if memory runs out.
     pub fn new(alloc: Global, request: SelectRequest) -> Result<Selection, AllocError>
@@ -37,50 +33,31 @@ impl Selection {
             request,
             reading: Reading::new(alloc, request.grammar)?,
             selected: Selected::new(alloc),
-            is_broken: false,
         })
     }
 
-    /// Returns the allocator of the selection.
-    pub fn alloc(&self) -> Global {
-        self.reading.lines.alloc
-    }
-
-    /// Reads the next list up to its end.
-    fn read_list<R: Read>(&mut self, input: &mut R) -> Result<(), ReadFailure>
-        ensures { OnOk result ((request : SelectRequest) → (lists : List (List ℕ))
-            → WereSelected request lists self.old
-            → ((bytes : List ℕ) × GaveWhole (R.remaining input.old) (R.remaining input.new) bytes
-            × WereSelected request (lists ++ bytes ∷ []) self.new
-            × IsNoted request.grammar (length lists) bytes (has_entry self.new))) }
-    {
-        self.reading
-            .read_list(input, &self.request, &mut self.selected)
-    }
-
-    /// Reads the next list up to its end, in the format of `Session::read` of `netset_lib`. A line that is not an
+    /// Reads the next list up to its end, in the format of `SetReader::read` of `netset_lib`. A line that is not an
     /// entry is not an error here: the command `select` reports it.
     ///
-    /// The error is `Unreadable` if a read fails, now or in a call before, and `Memory` if memory runs out.
-    pub fn read<R: Read>(&mut self, input: &mut R) -> Result<(), ReadFailure>
-        ensures read { OnOk result ((request : SelectRequest) → (lists : List (List ℕ))
-            → WereSelected request lists self.old
+    /// The error is `Unreadable` if a read fails, and `Memory` if memory runs out.
+    pub fn read<R: Read>(self, input: &mut R) -> Result<Selection, ReadFailure>
+        ensures { IfOk result (λ new. (request : SelectRequest) → (lists : List (List ℕ))
+            → WereSelected request lists self
             → ((bytes : List ℕ) × GaveWhole (R.remaining input.old) (R.remaining input.new) bytes
-            × WereSelected request (lists ++ bytes ∷ []) self.new
-            × IsNoted request.grammar (length lists) bytes (has_entry self.new))) }
-        ensures broken { OnErr result (IsBroken self.new) }
-        ensures fails { IsBroken self.old → IsErr result }
+            × WereSelected request (lists ++ bytes ∷ []) new
+            × IsNoted request.grammar (length lists) bytes (has_entry new))) }
     {
-        if self.is_broken {
-            return Err(ReadFailure::Unreadable);
-        }
-        match self.read_list(input) {
-            Ok(()) => Ok(()),
-            Err(failure) => {
-                self.is_broken = true;
-                Err(failure)
-            }
-        }
+        let Selection {
+            request,
+            mut reading,
+            mut selected,
+        } = self;
+        reading.read_list(input, &request, &mut selected)?;
+        Ok(Selection {
+            request,
+            reading,
+            selected,
+        })
     }
 
     /// Returns the number of refused lines of all lists that were read.

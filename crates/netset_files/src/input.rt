@@ -1,6 +1,6 @@
 //! The bytes of a list, from a file or from standard input.
 ghost use Rattle.std.specs.Prelude.{◌≡◌, ◌↔◌, ◌≤◌, ◌⊎◌, length, take, false, pos, Some, None, IsTrue, IsErr};
-ghost use Rattle.std.specs.Prelude.{IfErr, IsOkAnd};
+ghost use Rattle.std.specs.Prelude.{IfErr, IfOk, IsOkAnd};
 ghost use Rattle.std.specs.Fs.{IsDir, file_type};
 ghost use Rattle.std.specs.IoError.{raw_os_error};
 ghost use Rattle.netset_files.specs.Files.{IsOutOfMemory};
@@ -142,7 +142,9 @@ fn open_input(rt: &HostRuntime) -> Result<Stdin, Unread> {
 
 /// Opens the list of this name: standard input if it is "-", and otherwise a file.
 #[inline(never)]
-pub fn open_list(rt: &HostRuntime, name: &str) -> Result<Input, Unread> {
+pub fn open_list(rt: &HostRuntime, name: &str) -> Result<Input, Unread>
+    ensures { IfOk result (λ input. input.count ≡ 0) }
+{
     let source = if name == STANDARD_INPUT {
         Source::Standard(open_input(rt)?)
     } else {
@@ -272,7 +274,9 @@ impl Read for Log {
 
 /// Opens the log of this name: standard input if it is "-", and otherwise a file. A folder is refused. A log that
 /// begins like UTF-16 ends at once, and then `is_utf16` is true.
-pub fn open_log(rt: &HostRuntime, name: &str) -> Result<Log, Unread> {
+pub fn open_log(rt: &HostRuntime, name: &str) -> Result<Log, Unread>
+    ensures { IfOk result (λ log. log.seen ≡ 0) }
+{
     let input = open_list(rt, name)?;
     Ok(Log {
         input,

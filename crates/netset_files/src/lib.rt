@@ -1,17 +1,17 @@
 //! The files of the program `netset`: lists that are opened and read, and an output that replaces a file.
 #![tactic(auto)]
 
+mod asked;
 mod input;
 mod leftovers;
 mod lists;
 mod output;
 mod reading;
 mod replacement;
-mod stream;
 
+pub use asked::{FirstReader, read_answers, read_first, stream_list};
 pub use input::{ENTRY_LIST, Log, STANDARD_INPUT, Unread, open_log, report_unread};
-pub use lists::{Empties, ListReader, Reports, read_rules};
+pub use lists::{Empties, ListReader, Lists, Reports, read_rules};
 pub use output::{AnswerWriter, CLOSED, Ends, Faults, Writers};
-pub use reading::{bytes_of, bytes_with_entries, fill, fill_with_entries, whole_of};
+pub use reading::{bytes_of, bytes_with_entries, whole_of};
 pub use replacement::OutputFailure;
-pub use stream::stream_list;

@@ -1,28 +1,32 @@
 //! The lists, read from files and from standard input.
-ghost use Rattle.std.specs.Prelude.{◌≡◌, ◌≢◌, ◌⊎◌, ◌↔◌, ℕ, Bool, IsTrue, IfOk};
+ghost use Rattle.std.specs.Prelude.{◌≡◌, ◌≢◌, ◌⊎◌, ◌↔◌, ◌-◌, ℕ, Bool, true, false, take, length, IsTrue, IsOk, IfErr};
 ghost use Rattle.netset_files.specs.Files.{standard_input};
 ghost use Rattle.netset_files.specs.declared.lists.Empties.TheVariants.{Refuse};
 
-use crate::input::{ENTRY_LIST, STANDARD_INPUT, Unread, open_list};
+use crate::input::{ENTRY_LIST, STANDARD_INPUT, Unread, open_list, report_unread};
 use ipnet::Grammar;
 use ipnet_lists::{ReadFailure, read_bytes};
-use netset_lib::{RuleList, Session};
+use ipnet_sets::IpSet;
+use netset_lib::{RuleList, SetReader};
 use netset_words::Extraction;
 use std::io::{IsTerminal, Read, Write};
 
 /// From this number of bytes on, a terminal gets a report of the reading.
 const MUCH: usize = 16_777_216;
 
-/// A reader of lists one after another, by methods that `Session` and `Extraction` have.
-pub trait ListReader {
+/// A reader of lists one after another.
+pub trait ListReader: Sized + Drop {
+    /// The value that is read of a list.
+    type List: Drop;
+
     /// The number of refused lines.
     ghost refused: { Self → ℕ };
 
     /// Whether the last list has an entry.
     ghost holds: { Self → Bool };
 
-    /// Reads the next list up to its end.
-    fn read<R: Read>(&mut self, input: &mut R) -> Result<(), ReadFailure>;
+    /// Reads the next list up to its end. After a failure there is no reader.
+    fn read<R: Read>(self, input: &mut R) -> Result<(Self, Self::List), ReadFailure>;
 
     /// The number of refused lines of all lists that were read.
     fn refused_count(&self) -> usize
@@ -33,35 +37,41 @@ pub trait ListReader {
         ensures { result ≡ holds self.now };
 }
 
-impl ListReader for Session {
-    ghost use Rattle.netset_lib.specs.Sessions.{has_entry, refused_count};
+impl ListReader for SetReader {
+    type List = IpSet;
+
+    ghost use Rattle.netset_lib.specs.SetReaders.{has_entry, refused_count};
 
     ghost refused = { refused_count };
 
     ghost holds = { has_entry };
 
-    fn read<R: Read>(&mut self, input: &mut R) -> Result<(), ReadFailure> {
-        Session::read(self, input)
+    fn read<R: Read>(self, input: &mut R) -> Result<(SetReader, IpSet), ReadFailure> {
+        SetReader::read(self, input)
     }
 
     fn refused_count(&self) -> usize {
-        Session::refused_count(self)
+        SetReader::refused_count(self)
     }
 
     fn has_entry(&self) -> bool {
-        Session::has_entry(self)
+        SetReader::has_entry(self)
     }
 }
 
 impl ListReader for Extraction {
+    type List = ();
+
     ghost use Rattle.netset_words.specs.Extractions.{has_entry, refused_count};
 
     ghost refused = { refused_count };
 
     ghost holds = { has_entry };
 
-    fn read<R: Read>(&mut self, input: &mut R) -> Result<(), ReadFailure> {
-        Extraction::read(self, input)
+    fn read<R: Read>(self, input: &mut R) -> Result<(Extraction, ()), ReadFailure> {
+        let mut extraction = self;
+        Extraction::read(&mut extraction, input)?;
+        Ok((extraction, ()))
     }
 
     fn refused_count(&self) -> usize {
@@ -70,16 +80,6 @@ impl ListReader for Extraction {
 
     fn has_entry(&self) -> bool {
         Extraction::has_entry(self)
-    }
-}
-
-/// Reads the list of this name, and returns the number of its bytes.
-#[inline(never)]
-fn read_list<L: ListReader>(rt: &HostRuntime, lists: &mut L, name: &str) -> Result<usize, Unread> {
-    let mut input = open_list(rt, name)?;
-    match lists.read(&mut input) {
-        Ok(()) => Ok(input.count),
-        Err(failure) => Err(input.unread(failure)),
     }
 }
 
@@ -132,65 +132,194 @@ impl Reports {
 /// is reported.
 fn is_allowed<L: ListReader>(
     rt: &HostRuntime,
-    lists: &L,
+    reader: &L,
     name: &str,
     refused: usize,
     reports: Reports,
 ) -> bool
     ensures { reports.empties ≢ Refuse → IsTrue result }
 {
-    let is_empty = !lists.has_entry() && lists.refused_count() == refused;
+    let is_empty = !reader.has_entry() && reader.refused_count() == refused;
     !is_empty || reports.report_empty(rt, name, "entries")
 }
 
-/// Reads the entries of the command line, a line each, as one list. Fails if memory runs out. Returns whether they may
-/// be as they are, as `read_lists` does, and reports the number of their bytes as it does.
-pub fn read_entries<L: ListReader>(
-    rt: &HostRuntime,
-    lists: &mut L,
-    entries: &str,
-    reports: Reports,
-) -> Result<bool, Unread>
-    ensures { IfOk result (λ allowed. reports.empties ≢ Refuse → IsTrue allowed) }
-{
-    let refused = lists.refused_count();
-    let mut input = entries.as_bytes();
-    if let Err(failure) = lists.read(&mut input) {
-        return Err(Unread::of_known_bytes(failure));
-    }
-    reports.report_bytes(rt, ENTRY_LIST, entries.len(), entries.len());
-    Ok(is_allowed(rt, lists, ENTRY_LIST, refused, reports))
-}
-
-/// Reads the lists of these names one after another. A file is opened when its turn comes, and then closed. Fails with
-/// the name of the first that could not be read, and the reason. Returns whether the lists may be as they are: `false`
-/// if a file has no entry and no refused line, and that is to be refused.
+/// Lists that are read one after another. A file is opened when its turn comes, and then closed.
 ///
 /// If the progress is to be reported, or if the bytes are many and standard error is a terminal, the number of bytes of
 /// each list is reported there. If that cannot be written, the lists are read all the same.
-pub fn read_lists<'a, L: ListReader>(
-    rt: &HostRuntime,
-    lists: &mut L,
-    names: &[&'a str],
-    reports: Reports,
-) -> Result<bool, (&'a str, Unread)>
-    ensures { IfOk result (λ allowed. reports.empties ≢ Refuse → IsTrue allowed) }
-{
-    let mut total: usize = 0;
-    let mut allowed = true;
-    for name in names {
-        let refused = lists.refused_count();
-        let count = read_list(rt, lists, name).map_err(|unread| (*name, unread))?;
-        total = total.saturating_add(count);
-        reports.report_bytes(rt, name, count, total);
-        if !is_allowed(rt, lists, name, refused, reports) {
-            allowed = false;
-        }
-    }
-    Ok(allowed)
+#[derive(Drop)]
+pub struct Lists<L> {
+    pub(crate) reader: L,
+    pub(crate) reports: Reports,
+    /// The number of bytes of all files that were read.
+    pub(crate) total: usize,
+    /// Whether the lists may be as they are: `false` if a list has no entry and no refused line, and that is to be
+    /// refused.
+    pub(crate) allowed: bool,
+    ghost only_refused: { reports.empties ≢ Refuse → IsTrue allowed },
 }
 
-/// Reads the list of rules of this name, and reports its bytes as `read_lists` does. `None` if a file has no rule, and
+impl<L: ListReader> Lists<L> {
+    /// Returns lists of which none was read.
+    pub fn new(reader: L, reports: Reports) -> Lists<L>
+        ensures reader { result.reader ≡ reader }
+        ensures reports { result.reports ≡ reports }
+    {
+        Lists {
+            reader,
+            reports,
+            total: 0,
+            allowed: true,
+        }
+    }
+
+    /// Reads the list of this name, `-` for standard input. If that fails, it is reported, and the error is the exit
+    /// status.
+    pub fn read(self, rt: &HostRuntime, name: &str) -> Result<(Lists<L>, L::List), u8>
+        ensures { IfErr result (λ status. status ≡ 2) }
+    {
+        let mut input = match open_list(rt, name) {
+            Ok(input) => input,
+            Err(unread) => return Err(report_unread(rt, name, &unread)),
+        };
+        let Lists {
+            reader,
+            reports,
+            total,
+            mut allowed,
+        } = self;
+        let refused = reader.refused_count();
+        let (reader, list) = match reader.read(&mut input) {
+            Ok(read) => read,
+            Err(failure) => return Err(report_unread(rt, name, &input.unread(failure))),
+        };
+        let total = total.saturating_add(input.count);
+        reports.report_bytes(rt, name, input.count, total);
+        if !is_allowed(rt, &reader, name, refused, reports) {
+            allowed = false;
+        }
+        let lists = Lists {
+            reader,
+            reports,
+            total,
+            allowed,
+        };
+        Ok((lists, list))
+    }
+
+    /// Reads the entries of the command line, a line each, as one list, as `read` reads a file. If a file before it has no
+    /// entry, and that is to be refused, they are not read, and the error is the exit status.
+    fn read_entries(self, rt: &HostRuntime, entries: &str) -> Result<(Lists<L>, L::List), u8>
+        ensures { IfErr result (λ status. status ≡ 2) }
+    {
+        if !self.allowed {
+            return Err(2);
+        }
+        let Lists {
+            reader,
+            reports,
+            total,
+            mut allowed,
+        } = self;
+        let refused = reader.refused_count();
+        let mut input = entries.as_bytes();
+        let (reader, list) = match reader.read(&mut input) {
+            Ok(read) => read,
+            Err(failure) => return Err(report_unread(
+                rt,
+                ENTRY_LIST,
+                &Unread::of_known_bytes(failure),
+            )),
+        };
+        reports.report_bytes(rt, ENTRY_LIST, entries.len(), entries.len());
+        if !is_allowed(rt, &reader, ENTRY_LIST, refused, reports) {
+            allowed = false;
+        }
+        let lists = Lists {
+            reader,
+            reports,
+            total,
+            allowed,
+        };
+        Ok((lists, list))
+    }
+
+    /// Reads the last list. If there are `entries`, it has these lines; otherwise `read` reads the list of this name.
+    ///
+    /// ```text
+    /// the name "-e", and the entries "10.0.0.0/8\n": the list of 10.0.0.0/8
+    /// the name "-e", and no entries: the file -e
+    /// ```
+    pub fn read_last(
+        self,
+        rt: &HostRuntime,
+        name: &str,
+        entries: Option<String>,
+    ) -> Result<(Lists<L>, L::List), u8>
+        ensures { IfErr result (λ status. status ≡ 2) }
+    {
+        match entries {
+            Some(entries) => self.read_entries(rt, entries.as_str()),
+            None => self.read(rt, name),
+        }
+    }
+
+    /// Reads the lists of these names in order, as `read` does. If there are `entries`, the last list is not a file: it
+    /// has these lines.
+    pub fn read_all(
+        self,
+        rt: &HostRuntime,
+        names: &[&str],
+        entries: Option<String>,
+    ) -> Result<(Lists<L>, Vec<L::List>), u8>
+        ensures { IfErr result (λ status. status ≡ 2) }
+    {
+        let mut lists = self;
+        let mut all = Vec::new(rt.alloc());
+        for name in file_names(names, entries.is_some()) {
+            let (next, list) = lists.read(rt, name)?;
+            lists = next;
+            if all.push(list).is_err() {
+                return Err(report_unread(rt, name, &Unread::of_known_bytes(ReadFailure::Memory)));
+            }
+        }
+        let Some(entries) = entries else {
+            return Ok((lists, all));
+        };
+        let (lists, list) = lists.read_entries(rt, entries.as_str())?;
+        if all.push(list).is_err() {
+            return Err(report_unread(rt, ENTRY_LIST, &Unread::of_known_bytes(ReadFailure::Memory)));
+        }
+        Ok((lists, all))
+    }
+
+    /// Returns the reader. If a list has no entry, and that is to be refused, the error is the exit status.
+    pub fn end(self) -> Result<L, u8>
+        ensures allowed { self.reports.empties ≢ Refuse → IsOk result }
+        ensures failed { IfErr result (λ status. status ≡ 2) }
+    {
+        if self.allowed {
+            Ok(self.reader)
+        } else {
+            Err(2)
+        }
+    }
+}
+
+/// Returns the names of files, and of standard input, of these names of lists: all of them, or, if the last list is the
+/// list of entries, those before it.
+fn file_names<'n, 'a>(names: &'n [&'a str], has_entries: bool) -> &'n [&'a str]
+    ensures all { has_entries ≡ false → result.now ≡ names.now }
+    ensures front { has_entries ≡ true → result.now ≡ take (length names.now - 1) names.now }
+{
+    if has_entries && !names.is_empty() {
+        &names[..names.len() - 1]
+    } else {
+        names
+    }
+}
+
+/// Reads the list of rules of this name, and reports its bytes as `Lists` does. `None` if a file has no rule, and
 /// that is to be refused.
 #[inline(never)]
 pub fn read_rules(
@@ -213,7 +342,7 @@ pub fn read_rules(
 }
 
 /// Reads all bytes of the list of this name, from standard input if it is "-", and otherwise from a file. Reports their
-/// number as `read_lists` does. The list may have no line.
+/// number as `Lists` does. The list may have no line.
 #[inline(never)]
 pub fn read_whole(rt: &HostRuntime, name: &str, reports: Reports) -> Result<Vec<u8>, Unread> {
     let mut input = open_list(rt, name)?;

@@ -1,71 +1,9 @@
 //! Lists that are read with a report if that fails.
-ghost use Rattle.std.specs.Prelude.{◌≡◌, ◌-◌, true, false, take, length, string_bytes, IfSome, IfOk, IfErr};
+ghost use Rattle.std.specs.Prelude.{◌≡◌, string_bytes, IfSome, IfOk, IfErr};
 
 use crate::input::{ENTRY_LIST, report_unread};
-use crate::lists::{ListReader, Reports, read_entries, read_lists, read_whole};
+use crate::lists::{Reports, read_whole};
 use ipnet_lists::has_lines;
-
-/// Reads the lists of these names, `-` for standard input. If that fails, it is reported, and the error is the exit
-/// status. So it is if a file has no entry, and that is to be refused.
-///
-/// ```text
-/// a session and the names "a", "-": the session has read the file a, and then standard input
-/// there is no file a: "netset: a: cannot be read: No such file or directory (os error 2)" is reported, the error is 2
-/// ```
-pub fn fill<L: ListReader>(
-    rt: &HostRuntime,
-    lists: &mut L,
-    names: &[&str],
-    reports: Reports,
-) -> Result<(), u8>
-    ensures { IfErr result (λ status. status ≡ 2) }
-{
-    match read_lists(rt, lists, names, reports) {
-        Ok(true) => Ok(()),
-        Ok(false) => Err(2),
-        Err((name, unread)) => Err(report_unread(rt, name, &unread)),
-    }
-}
-
-/// Returns the names of files, and of standard input, of these names of lists: all of them, or, if the last list is the
-/// list of entries, those before it.
-fn file_names<'n, 'a>(names: &'n [&'a str], has_entries: bool) -> &'n [&'a str]
-    ensures all { has_entries ≡ false → result.now ≡ names.now }
-    ensures front { has_entries ≡ true → result.now ≡ take (length names.now - 1) names.now }
-{
-    if has_entries && !names.is_empty() {
-        &names[..names.len() - 1]
-    } else {
-        names
-    }
-}
-
-/// Reads the lists of these names as `fill` does. If there are `entries`, the last list is not a file: it has these
-/// lines.
-///
-/// ```text
-/// the names "a", "-e", and the entries "10.0.0.0/8\n": the file a is read, and then the list of 10.0.0.0/8
-/// the names "-e", and no entries: the file -e is read
-/// ```
-pub fn fill_with_entries<L: ListReader>(
-    rt: &HostRuntime,
-    lists: &mut L,
-    names: &[&str],
-    entries: Option<String>,
-    reports: Reports,
-) -> Result<(), u8>
-    ensures { IfErr result (λ status. status ≡ 2) }
-{
-    fill(rt, lists, file_names(names, entries.is_some()), reports)?;
-    let Some(entries) = entries else {
-        return Ok(());
-    };
-    match read_entries(rt, lists, entries.as_str(), reports) {
-        Ok(true) => Ok(()),
-        Ok(false) => Err(2),
-        Err(unread) => Err(report_unread(rt, ENTRY_LIST, &unread)),
-    }
-}
 
 /// Reads the bytes of the list of this name, `-` for standard input. The list may have no line. If that fails, it is
 /// reported, and the error is the exit status.

@@ -1,4 +1,4 @@
--- Sets with the same addresses have the same texts, so the text of a session's set is the text of its lists.
+-- Sets with the same addresses have the same texts, so the text of a set is the text of what it was made of.
 use Rattle.std.proofs.Common.{◌≡◌, ◌↔◌, ℕ, List, [], max, Option, Some, None}
 use Rattle.std.specs.Borrow.{Bor}
 use Rattle.ipnet_base.specs.Address.{Family, IPv4, IPv6, Address}
@@ -9,10 +9,8 @@ use Rattle.ipnet.specs.declared.parser.Grammar.{Grammar}
 use Rattle.ipnet_rules.specs.declared.rules.Action.{Action}
 use Rattle.ipnet_sets.specs.declared.set.IpSet.{IpSet}
 use Rattle.ipnet_sets.specs.Members.{IsMember}
-use Rattle.netset_lib.specs.declared.answer.Request.{Request}
-use Rattle.ipnet_lists.specs.Lists.{IsInEntries}
-use Rattle.netset_lib.specs.Operations.{IsInResult}
-use Rattle.netset_lib.specs.PlanAnswers.{IsResultSet}
+use Rattle.netset_lib.specs.declared.operation.Combination.{Combination}
+use Rattle.netset_lib.specs.Combinations.{IsCombined, IsInCombined}
 use Rattle.netset_lib.specs.RuleAnswers.{IsPermittedBy, IsPermittedSet}
 use Rattle.netset_lib.specs.RuleLines.{RuleContents, IsRuleList}
 use Rattle.netset_forms.specs.declared.form.AnswerForm.{AnswerForm}
@@ -80,16 +78,12 @@ form_same A B same (Forms.Ipset names most) least text h =
     families_same A B same (ipset_layout (ipset_kind most IPv4)) (ipset_layout (ipset_kind most IPv6)) names
     (max least 1) text h
 
--- ---- the set of a session
+-- ---- the result of an operation
 
-module _ (r : Request) (form : FormRequest) (lists : List (List ℕ)) (set : IpSet) (of : IsResultSet r lists set) where
-  pub text_of_lists : (text : List ℕ) → IsAskedText form (IsMember set) text → IsFormAnswer r form lists text
-  text_of_lists text right = record {
-    entries = of.entries;
-    read = of.read;
-    right = form_same (IsMember set) (IsInResult IsInEntries r.operation of.entries) of.right form.form form.min_length
-        text right;
-  }
+pub text_of_sets : (c : Combination) (form : FormRequest) (set : IpSet) → IsCombined c set → (text : List ℕ)
+    → IsAskedText form (IsMember set) text → IsFormAnswer c form text
+text_of_sets c form set of text right =
+    (of.0, form_same (IsMember set) (IsInCombined c) of.1 form.form form.min_length text right)
 
 -- ---- the set that a list of rules permits
 

@@ -1,10 +1,10 @@
--- The answers of sessions and of lists of rules in any form.
+-- The results of operations, and of lists of rules, in any form.
 use Rattle.std.specs.Prelude.{ℕ, List, []}
 use Rattle.ipnet_base.specs.Address.{Address}
 use Rattle.ipnet.specs.declared.parser.Grammar.{Grammar}
 use Rattle.ipnet_rules.specs.declared.rules.Action.{Action}
-use Rattle.netset_lib.specs.declared.answer.Request.{Request}
-use Rattle.netset_lib.specs.PlanAnswers.{HoldsOfResult}
+use Rattle.netset_lib.specs.declared.operation.Combination.{Combination}
+use Rattle.netset_lib.specs.Combinations.{HasFamily, IsInCombined}
 use Rattle.netset_lib.specs.RuleAnswers.{IsPermittedBy}
 use Rattle.netset_lib.specs.RuleLines.{RuleContents, IsRuleList}
 use Rattle.netset_forms.specs.declared.form.FormRequest.{FormRequest}
@@ -14,10 +14,10 @@ use Rattle.netset_forms.specs.Forms.{IsFormText}
 abbrev pub IsAskedText : FormRequest → (Address → Type 0) → List ℕ → Type 0
 IsAskedText form = IsFormText form.form form.min_length
 
--- No line of the lists is refused, and the text is the operation's result as it is asked for.
--- Example: the difference of `10.0.0.0/30` and `10.0.0.3`, as ranges, is `10.0.0.0-10.0.0.2`.
-abbrev pub IsFormAnswer : Request → FormRequest → List (List ℕ) → List ℕ → Type 0
-IsFormAnswer request form lists text = HoldsOfResult request lists (λ InSet. IsAskedText form InSet text)
+-- The text is the operation's result as it is asked for.
+-- Example: the difference of 10.0.0.0/30 and 10.0.0.3, as ranges, is `10.0.0.0-10.0.0.2`.
+abbrev pub IsFormAnswer : Combination → FormRequest → List ℕ → Type 0
+IsFormAnswer combination form text = HasFamily combination × IsAskedText form (IsInCombined combination) text
 
 -- No line of the list of rules is refused, and the text is the addresses that the rules permit, as it is asked for.
 pub record IsPermittedForm (default : Action) (form : FormRequest) (grammar : Grammar) (bytes text : List ℕ) : Type 0

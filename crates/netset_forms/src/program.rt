@@ -6,7 +6,8 @@ ghost use Rattle.netset_lib.specs.Reports.{words_line};
 ghost use Rattle.ipnet.specs.declared.parser.Grammar.{Grammar};
 ghost use Rattle.netset_lib.specs.RuleAnswers.{IsRuleFailure, IsPermittedSet};
 ghost use Rattle.netset_lib.specs.RuleContentsOf.{WasRuleListRead, contents_of};
-ghost use Rattle.netset_lib.specs.Runs.{OfCombined, OfResult, IsFault, HasNoResult};
+ghost use Rattle.netset_lib.specs.Combinations.{IsCombined, IsCombineFailure};
+ghost use Rattle.netset_lib.specs.Runs.{IsFault};
 ghost use Rattle.ipnet_sets.specs.Members.{IsMember};
 ghost use Rattle.ipnet_sets.specs.declared.set.IpSet.{IpSet};
 ghost use Rattle.netset_forms.specs.Forms.{IsFormFailure};
@@ -18,7 +19,8 @@ use ipnet_lists::ListFailure;
 use ipnet_rules::Action;
 use netset_lib::reports::report_words;
 use netset_lib::runs::Report;
-use netset_lib::{Command, Failure, Fault, RuleCause, RuleList, Session};
+use netset_lib::{Combination, Command, Failure, Fault, RuleCause, RuleList, combine};
+use std::alloc::Global;
 use std::io;
 use std::io::Write;
 
@@ -38,11 +40,11 @@ impl Report for FormFailure {
     }
 }
 
-/// The result of the session's operation, in the form that is asked for.
+/// The result of an operation on sets, in the form that is asked for.
 ///
 /// | Status | On `faults` | When |
 /// |---|---|---|
-/// | 2 | as `AnswerCommand` of `netset_lib` says | the lists have no set |
+/// | 2 | `netset: the list has no entries: choose --ipv4 or --ipv6, or both` | as `Failure::NoFamily` says |
 /// | 2 | `netset: /33: the prefix length is above 32` | the least length is too long for a family of the result |
 /// | 2 | `netset: the result has IPv4 addresses: name a set for them by --ipv4-set` | a set without a name; or IPv6 |
 /// | 2 | `netset: out of memory` | memory runs out |
@@ -50,11 +52,13 @@ impl Report for FormFailure {
 /// | 0 | nothing | otherwise |
 ///
 /// ```text
-/// Union of "10.0.0.0/9\n10.128.0.0/9\n", Json:  status 0, and out gets "[\n  \"10.0.0.0/8\"\n]\n"
+/// Union of 10.0.0.0/9 and 10.128.0.0/9, Json:  status 0, and out gets "[\n  \"10.0.0.0/8\"\n]\n"
 /// ```
 pub struct FormCommand<'a> {
-    /// The session.
-    pub session: Session,
+    /// The allocator.
+    pub alloc: Global,
+    /// The operation and its sets.
+    pub combination: Combination,
     /// The form of the answer.
     pub form: FormRequest<'a>,
 }
@@ -62,17 +66,24 @@ pub struct FormCommand<'a> {
 impl<'a> Command for FormCommand<'a> {
     type Failure = Fault<Failure, FormFailure>;
 
-    ghost is_answer = { λ c text. OfCombined (λ r lists. IsFormAnswer r c.form lists text) c.session };
+    ghost is_answer = { λ c. IsFormAnswer c.combination c.form };
 
     ghost is_outcome = { λ _ succeeded. IsTrue succeeded };
 
-    ghost is_failure = { λ c. IsFault (HasNoResult c.session) (λ failure.
-        OfResult (λ set. IsFormFailure c.form.form c.form.min_length (IsMember set) failure) c.session) };
+    ghost is_failure = { λ c. IsFault (IsCombineFailure c.combination) (λ failure. (set : IpSet)
+        × IsCombined c.combination set
+        × IsFormFailure c.form.form c.form.min_length (IsMember set) failure) };
 
     fn write<W: Write>(self, out: &mut W) -> Result<bool, Fault<Failure, FormFailure>> {
-        let FormCommand { session, form } = self;
-        let alloc = session.alloc();
-        let set = session.into_set()?;
+        let FormCommand {
+            alloc,
+            combination,
+            form,
+        } = self;
+        let set = match combine(alloc, combination) {
+            Ok(set) => set,
+            Err(failure) => return Err(Fault::Lists(failure)),
+        };
         match write_form(alloc, set, form, out) {
             Ok(()) => Ok(true),
             Err(failure) => Err(Fault::Other(failure)),

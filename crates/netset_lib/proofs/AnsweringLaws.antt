@@ -1,5 +1,5 @@
 -- The answers to entries that were made one by one, and the answers to the query.
-use Rattle.std.proofs.Common.{◌≡◌, Bool, true, false, ℕ, List, [], ◌∷◌, ◌++◌, All}
+use Rattle.std.proofs.Common.{◌≡◌, Bool, true, false, not, ℕ, List, [], ◌∷◌, ◌++◌, All}
 use Rattle.std.proofs.Common.{Some, None, refl, sym}
 use Rattle.std.proofs.Common.{subst, inl, inr, append-nil, string_bytes}
 use Rattle.std.proofs.lemmas.List.Elements.{All-nil, All-cons}
@@ -7,17 +7,19 @@ use Rattle.ipnet_base.specs.Address.{Address}
 use Rattle.ipnet.specs.declared.net.IpNet.{IpNet}
 use Rattle.ipnet_sets.specs.Members.{IsMember}
 use Rattle.ipnet_routes.specs.declared.routes.RouteTable.{RouteTable}
+use Rattle.netset_lib.specs.declared.answer.Answer.{Answer}
 use Rattle.netset_lib.specs.declared.answerer.Answerer.{Answerer}
 use Rattle.netset_lib.specs.declared.answerer.Answerer.TheVariants as Answerers
 use Rattle.netset_lib.specs.declared.answerer.Answers.{Answers}
 use Rattle.netset_lib.specs.declared.query.Query.{Query}
-use Rattle.netset_lib.specs.declared.query.Query.TheVariants.{Count, Compare, Filter, Route}
+use Rattle.netset_lib.specs.declared.query.Query.TheVariants.{Filter, Route}
 use Rattle.netset_lib.specs.Answering.{IsAnswererFor, IsAnswerBy, IsFoundBy, AreAnswersBy, AddsAnswer}
+use Rattle.netset_lib.specs.Answering.{AreAnsweredBy, found_by}
 use Rattle.netset_lib.specs.EntryAnswers.{AreAnswers, IsFoundIn}
 use Rattle.netset_lib.specs.Filtering.{HasAddresses, IsFilterLine}
 use Rattle.netset_lib.specs.Filters.{IsOnSide, LiesIn}
 use Rattle.ipnet_lists.specs.Lists.{ListEntry, IsInEntries}
-use Rattle.netset_lib.specs.Replies.{AreReplies, IsFoundFor, HasNoRoute, IsKept}
+use Rattle.netset_lib.specs.Replies.{AreReplies, AreAnswered, IsFoundFor, HasNoRoute, IsKept, found_for}
 use Rattle.netset_lib.specs.RouteAnswers.{IsTableNetwork, Holds, HaveNone, IsRouteLine}
 use Rattle.netset_lib.specs.Routing.{InTable, HoldsEnds, IsLongestIfAny, route_line}
 use Rattle.netset_lib.proofs.EntryAnswerLaws.{answers_append, answers_same, found_same, found_none, found_push}
@@ -88,21 +90,36 @@ replies_right Route (Answerers.Filter set) first second text same some h = absur
 replies_right Route (Answerers.Route table) first second text same some h =
     answers_same (IsRouteLine (InTable table) HoldsEnds) (IsRouteLine (IsTableNetwork first) Holds) HasSome
     (λ e line has. line_same (InTable table) (IsTableNetwork first) e line same has) second text some h
-replies_right Count answerer first second text same some h = absurd same
-replies_right Compare answerer first second text same some h = absurd same
 
--- whether an entry was found, by the entries of the first list
-pub found_right : (query : Query) (answerer : Answerer) (first second : List ListEntry) (text : List ℕ) (found : Bool)
-    → IsAnswererFor query answerer first → All HasSome second → AreAnswers (IsAnswerBy answerer) second text
-    → IsFoundIn (IsFoundBy answerer) found second → IsFoundIn (IsFoundFor query first) found second
-found_right (Filter side) (Answerers.Filter set) first second text found same some h is =
-    found_same (LiesIn (IsMember set)) (IsKept side first) (λ e. HasAddresses e.range)
-    (λ e fits. lies_same (IsMember set) (IsOnSide side (IsInEntries first)) e same fits) found second
-    (all_fit (IsMember set) second text h) is
-found_right (Filter side) (Answerers.Route table) first second text found same some h is = absurd same
-found_right Route (Answerers.Filter set) first second text found same some h is = absurd same
-found_right Route (Answerers.Route table) first second text found same some h is =
-    found_same (λ e. HaveNone (InTable table) (HoldsEnds e)) (HasNoRoute first) HasSome
-    (λ e has. none_same (InTable table) (IsTableNetwork first) e same has) found second some is
-found_right Count answerer first second text found same some h is = absurd same
-found_right Compare answerer first second text found same some h is = absurd same
+-- the answers, and whether the query succeeded, by the entries of the first list
+pub answered_right : (query : Query) (answerer : Answerer) (first second : List ListEntry) (text : List ℕ)
+    (succeeded : Bool) → IsAnswererFor query answerer first → All HasSome second
+    → AreAnswers (IsAnswerBy answerer) second text → IsFoundIn (IsFoundBy answerer) (found_by answerer succeeded) second
+    → AreAnswered query first second text succeeded
+answered_right query answerer first second text succeeded same some h is = record {
+  replies = replies_right query answerer first second text same some h;
+  is_found = found query answerer same h is;
+}
+  where
+    found : (query : Query) (answerer : Answerer) → IsAnswererFor query answerer first
+        → AreAnswers (IsAnswerBy answerer) second text
+        → IsFoundIn (IsFoundBy answerer) (found_by answerer succeeded) second
+        → IsFoundIn (IsFoundFor query first) (found_for query succeeded) second
+    found (Filter side) (Answerers.Filter set) same h is =
+        found_same (LiesIn (IsMember set)) (IsKept side first) (λ e. HasAddresses e.range)
+        (λ e fits. lies_same (IsMember set) (IsOnSide side (IsInEntries first)) e same fits) succeeded second
+        (all_fit (IsMember set) second text h) is
+    found (Filter side) (Answerers.Route table) same h is = absurd same
+    found Route (Answerers.Filter set) same h is = absurd same
+    found Route (Answerers.Route table) same h is =
+        found_same (λ e. HaveNone (InTable table) (HoldsEnds e)) (HasNoRoute first) HasSome
+        (λ e has. none_same (InTable table) (IsTableNetwork first) e same has) (not succeeded) second some is
+
+-- what was made of the second list is the answer
+pub made_answered : (answerer : Answerer) (answers : Answers) (answer : Answer) → answer.text ≡ answers.text
+    → found_by answerer answer.succeeded ≡ answers.found → (second : List ListEntry) → All HasSome second
+    → AreAnswersBy answerer answers second → AreAnsweredBy answerer answer second
+made_answered answerer answers answer same_text same_found second some h query first for =
+    subst (λ t. AreAnswered query first second (string_bytes t) answer.succeeded) (sym same_text)
+    (answered_right query answerer first second (string_bytes answers.text) answer.succeeded for some h.text
+    (subst (λ b. IsFoundIn (IsFoundBy answerer) b second) (sym same_found) h.found))

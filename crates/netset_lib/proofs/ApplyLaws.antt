@@ -1,7 +1,7 @@
 -- The networks of a set, and the set that changes of its networks make.
 use Rattle.std.proofs.Common.{◌≡◌, ◌≢◌, ℕ, ◌^◌, ◌<◌, ◌↔◌, ◌⊎◌, List, [], ◌∷◌, ◌++◌, All, Contains}
 use Rattle.std.proofs.Common.{refl}
-use Rattle.std.proofs.Common.{sym, ap, ◌∙◌, subst, arith, inl, inr, Bool, true, false, not, IsTrue, Some}
+use Rattle.std.proofs.Common.{sym, ap, ◌∙◌, subst, arith, inl, inr, Bool, true, false, not, IsTrue}
 use Rattle.std.proofs.lemmas.Bool.{cases_lt}
 use Rattle.std.proofs.lemmas.List.Elements.{All-contains, Contains-append_left, Contains-append_right}
 use Rattle.std.proofs.lemmas.List.Elements.{Contains-append_cases}
@@ -11,22 +11,11 @@ use Rattle.ipnet_base.specs.Network.{Network, IsNetwork, IsTruncated, InBlock, I
 use Rattle.ipnet_base.proofs.BlockLaws.{own_in}
 use Rattle.ipnet_base.proofs.DecidedLaws.{IsDecided}
 use Rattle.ipnet_base.proofs.ListLaws.{contains_nil, contains_here, contains_cases, any_from_contains}
-use Rattle.ipnet_base.proofs.MaximalLaws.{maximal_above, one_maximal, IsInside-of_block}
+use Rattle.ipnet_base.proofs.MaximalLaws.{maximal_above, one_maximal}
 use Rattle.ipnet_sets.specs.declared.set.IpSet.{IpSet}
 use Rattle.ipnet_sets.specs.Members.{IsMember, IsUnion, IsDifference, HasAddressesOf, is_member}
-use Rattle.ipnet.specs.declared.parser.Grammar.{Grammar}
-use Rattle.netset_lib.specs.declared.answer.Form.{Form}
-use Rattle.netset_lib.specs.declared.answer.Request.{Request}
-use Rattle.netset_lib.specs.declared.change_line.ChangeCause.{ChangeCause}
-use Rattle.netset_lib.specs.declared.change_line.ChangeCause.TheVariants as Causes
 use Rattle.netset_lib.specs.Changes.{ListChange, Added, Removed}
-use Rattle.ipnet_lists.specs.Lists.{IsInEntries, RefusalFor}
-use Rattle.netset_lib.specs.Operations.{IsInResult}
-use Rattle.netset_lib.specs.PlanAnswers.{IsResultSet}
-use Rattle.netset_lib.specs.ChangeLists.{IsAnswerNetwork, Fits, IsFittingChange, IsChangeCause, IsChangeList}
-use Rattle.netset_lib.specs.ChangeLists.{IsKeptOrAdded, IsInChanged, IsChangedText, IsChangedAnswer}
-use Rattle.netset_lib.proofs.AnswerTexts.{text_of_same}
-use Rattle.ipnet_lists.proofs.ContentLaws.{items_same}
+use Rattle.netset_lib.specs.ChangeLists.{IsAnswerNetwork, Fits, IsKeptOrAdded, IsInChanged}
 use Rattle.netset_lib.proofs.CoveredLaws.{largest_below, single, single_inside}
 use Rattle.netset_lib.specs.ApplySteps.{NetworkParts, AddsPart, AreParts}
 
@@ -179,69 +168,3 @@ changed_members s t added removed kept changes parts are fit adds removes withou
         )))
     of n (inr c) a = (with x).1 (inr ((adds x).1
         (any_from_contains (λ m. InBlock m x) parts.added n ((are.added n).1 c) a)))
-
--- ---- sets with the same addresses
-
-maximal_over : (A B : Address → Type 0) → ((x : Address) → A x ↔ B x) → (n : Network) → IsAnswerNetwork A n
-    → IsAnswerNetwork B n
-maximal_over A B same n m = record {
-  inside = IsInside-of_block A B 0 n m.inside (λ x a. (same x).0 (m.inside.within x a));
-  largest = λ k i sub. m.largest k (IsInside-of_block B A 0 k i (λ x a. (same x).1 (i.within x a))) sub;
-}
-
--- networks of which a set has the same
-module _ (Has Other : Network → Type 0) (to : (n : Network) → Has n → Other n) (from : (n : Network) → Other n → Has n)
-  where
-    fits_over : (change : ListChange) → Fits Has change → Fits Other change
-    fits_over (Added n) lacks = λ k. lacks (from n k)
-    fits_over (Removed n) has = to n has
-
-    cause_over : (grammar : Grammar) (text : List ℕ) (cause : ChangeCause) → IsChangeCause grammar Has text cause
-        → IsChangeCause grammar Other text cause
-    cause_over grammar text Causes.UnknownSign h = h
-    cause_over grammar text (Causes.NoNetwork cause) h = h
-    cause_over grammar text Causes.Present (n, is, has) = (n, is, to n has)
-    cause_over grammar text Causes.Absent (n, is, lacks) = (n, is, λ k. lacks (from n k))
-
-    pub list_over : (grammar : Grammar) (bytes : List ℕ) (changes : List ListChange)
-        (refused : List (RefusalFor ChangeCause)) → IsChangeList grammar Has bytes changes refused
-        → IsChangeList grammar Other bytes changes refused
-    list_over grammar bytes changes refused (texts, are, read) = (
-      texts,
-      are,
-      items_same (λ line. IsFittingChange grammar Has line.text) (IsChangeCause grammar Has)
-          (λ line. IsFittingChange grammar Other line.text) (IsChangeCause grammar Other)
-          (λ line change k. (k.0, fits_over change k.1)) (cause_over grammar) 1 texts changes refused read,
-    )
-
-    changed_over : (changes : List ListChange) (x : Address) → IsInChanged Has changes x → IsInChanged Other changes x
-    changed_over changes x (n, inl (has, stays), a) = (n, inl (to n has, stays), a)
-    changed_over changes x (n, inr added, a) = (n, inr added, a)
-
-changed_same : (form : Form) (grammar : Grammar) (A B : Address → Type 0) (bytes text : List ℕ)
-    → ((x : Address) → A x ↔ B x) → IsChangedText form grammar A bytes text → IsChangedText form grammar B bytes text
-changed_same form grammar A B bytes text same h =
-    let to = maximal_over A B same in
-    let from = maximal_over B A (λ x. ((same x).1, (same x).0)) in
-    record {
-      changes = h.changes;
-      read = list_over (IsAnswerNetwork A) (IsAnswerNetwork B) to from grammar bytes h.changes [] h.read;
-      right = text_of_same form (IsInChanged (IsAnswerNetwork A) h.changes) (IsInChanged (IsAnswerNetwork B) h.changes)
-          text (λ x. (
-            changed_over (IsAnswerNetwork A) (IsAnswerNetwork B) to from h.changes x,
-            changed_over (IsAnswerNetwork B) (IsAnswerNetwork A) from to h.changes x,
-          )) h.right;
-    }
-
--- what changes make of the lists of a session
-pub changed_of_lists : (r taken : Request) (lists : List (List ℕ)) (set : IpSet) (bytes text : List ℕ)
-    → Some taken ≡ Some r → IsResultSet r lists set
-    → IsChangedText taken.form taken.grammar (IsMember set) bytes text → IsChangedAnswer r lists bytes text
-changed_of_lists r taken lists set bytes text is of h =
-    let same : taken ≡ r = cc in
-    record {
-      entries = of.entries;
-      read = of.read;
-      right = changed_same r.form r.grammar (IsMember set) (IsInResult IsInEntries r.operation of.entries) bytes text
-          of.right (subst (λ z. IsChangedText z.form z.grammar (IsMember set) bytes text) same h);
-    }

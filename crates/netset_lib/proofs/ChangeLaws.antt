@@ -8,19 +8,12 @@ use Rattle.ipnet_base.specs.Stack.{IsBeforeOrEqual}
 use Rattle.ipnet_base.proofs.ListLaws.{contains_nil, contains_here, contains_there, contains_cases}
 use Rattle.ipnet_base.proofs.ListLaws.{pairs_head, pairs_tail, pairs_cons}
 use Rattle.ipnet_base.proofs.OrderLaws.{IsBefore-asymmetric, IsBefore-transitive, order_total}
-use Rattle.ipnet_base.proofs.UniqueLaws.{AreMaximalBlocks-same_set}
 use Rattle.ipnet.specs.NetworkOf.{ip_network}
-use Rattle.ipnet.specs.declared.parser.Grammar.{Grammar}
-use Rattle.ipnet_sets.specs.declared.set.IpSet.{IpSet}
-use Rattle.ipnet_sets.specs.Members.{IsMember, HaveSameAddresses}
 use Rattle.netset_lib.specs.Changes.{ListChange, Added, Removed, changed_network, change_line, text_of_changes}
-use Rattle.netset_lib.specs.Changes.{AreChanges, AreChangeLines, IsChangesAnswer}
+use Rattle.netset_lib.specs.Changes.{AreChanges}
 use Rattle.netset_lib.specs.ChangeSteps.{change_of, IsBeforeFirst, IsFirstStep, AreWrittenUpTo}
 use Rattle.netset_lib.specs.declared.changes.Change.{Change}
 use Rattle.netset_lib.specs.declared.changes.Change.TheVariants as Variants
-use Rattle.netset_lib.specs.PairSets.{ArePairSets}
-use Rattle.ipnet_lists.specs.Lists.{IsInEntries}
-use Rattle.netset_lib.specs.Replies.{AreCompared}
 
 -- ---- the order
 
@@ -247,45 +240,6 @@ written_end first second before after start text e f up =
     let (all, exact, spelled) = up []
     (subst (λ z. AreChanges z after []) (sym e) (subst (λ z. AreChanges [] z []) (sym f) changes_nil)) in
     (all, exact, sym (append-nil text) ∙ spelled)
-
--- ---- the changes of lists
-
-pub changes_of_lists : (grammar : Grammar) (lists : List (List ℕ)) (one other : IpSet) (text : List ℕ)
-    → ArePairSets grammar lists one other → AreChangeLines (IsMember one) (IsMember other) text
-    → IsChangesAnswer grammar lists text
-changes_of_lists grammar lists one other text pair h = record {
-  first = pair.first;
-  second = pair.second;
-  read = pair.read;
-  right = record {
-    before = h.before;
-    after = h.after;
-    of_before = AreMaximalBlocks-same_set (IsMember one) (IsInEntries pair.first) 0 h.before pair.of_first h.of_before;
-    of_after = AreMaximalBlocks-same_set (IsMember other) (IsInEntries pair.second) 0 h.after pair.of_second h.of_after;
-    changes = h.changes;
-    exact = h.exact;
-    spelled = h.spelled;
-  };
-}
-
-module _ (grammar : Grammar) (lists : List (List ℕ)) (one other : IpSet) (pair : ArePairSets grammar lists one other)
-  where
-    pub compared_of_sets : (same : Bool) → (same ≡ true ↔ HaveSameAddresses one other) → AreCompared grammar lists same
-    compared_of_sets same h = record {
-      first = pair.first;
-      second = pair.second;
-      read = pair.read;
-      is_same = (
-        λ yes x. (
-          λ a. (pair.of_second x).0 ((h.0 yes x).0 ((pair.of_first x).1 a)),
-          λ b. (pair.of_first x).0 ((h.0 yes x).1 ((pair.of_second x).1 b)),
-        ),
-        λ have. h.1 (λ x. (
-          λ a. (pair.of_second x).1 ((have x).0 ((pair.of_first x).0 a)),
-          λ b. (pair.of_first x).1 ((have x).1 ((pair.of_second x).0 b)),
-        )),
-      );
-    }
 
 -- ---- what changes make
 

@@ -15,7 +15,7 @@ pub mod TableLaws
 pub mod RouteLaws
 pub mod EntryAnswerLaws
 pub mod AnsweringLaws
-pub mod SessionLaws
+pub mod ListLaws
 pub mod StreamLaws
 pub mod StreamParts
 pub mod RuleLaws

@@ -1,18 +1,15 @@
--- Lists that are read one after the other, and what a session keeps of them.
-use Rattle.std.proofs.Common.{◌≡◌, ℕ, ◌+◌, List, [], ◌∷◌, ◌++◌, length, refl, sym, ap, ◌∙◌, Option}
+-- Lists that are read one after the other.
+use Rattle.std.proofs.Common.{◌≡◌, ℕ, ◌+◌, List, [], ◌∷◌, ◌++◌, All, length, refl, sym, ap, ◌∙◌, Option}
 use Rattle.std.proofs.Common.{arith, subst, append_assoc, append-nil, length-append}
 use Rattle.ipnet.specs.declared.parser.Grammar.{Grammar}
-use Rattle.ipnet_sets.specs.declared.set.IpSet.{IpSet}
-use Rattle.ipnet_sets.specs.Members.{IsMember}
-use Rattle.ipnet_text.specs.Inputs.{GaveWhole}
-use Rattle.netset_lib.specs.declared.command.Work.{Work}
-use Rattle.netset_lib.specs.declared.session.Session.{Session}
+use Rattle.netset_lib.specs.declared.set_reader.SetReader.{SetReader}
 use Rattle.netset_lib.specs.Answers.{AreListsRead}
-use Rattle.ipnet_lists.specs.Lists.{ListEntry, Refusal, IsListRead, HaveAddresses}
-use Rattle.netset_lib.specs.ListSets.{HaveMembers}
-use Rattle.netset_lib.specs.Replies.{work_grammar}
-use Rattle.netset_lib.specs.Sessions.{ReadsNext, WereRead, IsState, IsNoted, has_entry}
+use Rattle.ipnet_lists.specs.Lists.{ListEntry, Refusal, IsListRead}
+use Rattle.ipnet_lists.specs.Reading.{WasMadeOf}
+use Rattle.ipnet_lists.specs.declared.reading.Reading.{Reading}
+use Rattle.netset_lib.specs.SetReaders.{ReadsNext}
 use Rattle.ipnet_lists.proofs.RefusalLaws.{more_refused}
+use Rattle.netset_lib.proofs.RouteLaws.{entries_some, HasSome}
 
 -- ---- one list more
 
@@ -46,60 +43,45 @@ lists_push grammar list (first ∷ lists) entries refusals bytes more later (e, 
       rest,
     )
 
--- as many lists of entries as lists
-pub lists_count : (grammar : Grammar) (list : ℕ) (lists : List (List ℕ)) (entries : List (List ListEntry))
-    (refusals : List Refusal) → AreListsRead grammar list lists entries refusals → length entries ≡ length lists
-lists_count grammar list [] entries refusals h = ap length h.0
-lists_count grammar list (first ∷ lists) entries refusals (e, es, r, rs, cut, split, read, h) =
-    omega (arith, ap length cut, lists_count grammar (list + 1) lists es rs h)
-
-pub members_push : (sets : List IpSet) (entries : List (List ListEntry)) (set : IpSet) (more : List ListEntry)
-    → HaveMembers sets entries → HaveAddresses (IsMember set) more
-    → HaveMembers (sets ++ set ∷ []) (entries ++ more ∷ [])
-members_push [] [] set more h same = (same, tt)
-members_push [] (e ∷ entries) set more h same = absurd h
-members_push (s ∷ sets) [] set more h same = absurd h
-members_push (s ∷ sets) (e ∷ entries) set more h same = (h.0, members_push sets entries set more h.1 same)
-
--- a session that reads one list more has read the lists before and it
-pub list_read : (work : Work) (lists : List (List ℕ)) (old new : Session) (left left_after : Option (List ℕ))
-    → WereRead work lists old → ReadsNext (IsState old.work) left left_after old new
-    → (bytes : List ℕ) × GaveWhole left left_after bytes × WereRead work (lists ++ bytes ∷ []) new
-    × IsNoted (work_grammar work) (length lists) bytes (has_entry new)
-list_read work lists old new left left_after h next =
-    let k = next.read in
-    let grammar = work_grammar work in
-    let place : old.reading.lines.list ≡ 0 + length lists = h.count ∙ zero_plus (length lists) in
-    let is = subst (λ g. IsListRead g old.reading.lines.list k.bytes k.entries k.refusals) h.same_grammar k.read in (
-      k.bytes,
-      k.given,
-      record {
-        same_work = next.same_work ∙ h.same_work;
-        sound = next.same_broken ∙ h.sound;
+-- a reader that reads one list more has read the lists before and it
+pub next_read : (Of : List ListEntry → Type 0) (left left_after : Option (List ℕ)) (old new : SetReader)
+    → WasMadeOf left left_after old.reading new.reading Of → ReadsNext Of left left_after old new
+next_read Of left left_after old new k grammar lists entries h =
+    let place : old.reading.lines.list ≡ 0 + length lists = omega (arith, h.count) in
+    let is = subst (λ g. IsListRead g old.reading.lines.list k.bytes k.entries k.refusals) h.same_grammar k.read in
+    record {
+      bytes = k.bytes;
+      given = k.given;
+      next = k.entries;
+      read = record {
         same_grammar = k.same_grammar ∙ h.same_grammar;
-        count = k.next ∙ ap (λ n. n + 1) h.count ∙ one_more_count lists k.bytes;
-        entries = h.entries ++ k.entries ∷ [];
+        count = omega (arith, k.next, h.count, length-append lists (k.bytes ∷ []));
         refusals = h.refusals ++ k.refusals;
-        read = lists_push grammar 0 lists h.entries h.refusals k.bytes k.entries k.refusals h.read
+        read = lists_push grammar 0 lists entries h.refusals k.bytes k.entries k.refusals h.read
             (subst (λ n. IsListRead grammar n k.bytes k.entries k.refusals) place is);
         kept = more_refused old.reading.lines.refused new.reading.lines.refused h.refusals k.refusals h.kept k.added;
-        state = subst (λ w. IsState w new (h.entries ++ k.entries ∷ [])) h.same_work
-            (k.made h.entries (lists_count grammar 0 lists h.entries h.refusals h.read ∙ sym h.count)
-            (subst (λ w. IsState w old h.entries) (sym h.same_work) h.state));
-      },
-      record {
-        entries = k.entries;
-        refusals = k.refusals;
-        read = subst (λ n. IsListRead grammar n k.bytes k.entries k.refusals) h.count is;
-        noted = k.noted;
-      },
-    )
-  where
-    zero_plus : (n : ℕ) → n ≡ 0 + n
-    zero_plus n = omega arith
+      };
+      of_next = k.made;
+      noted = k.noted;
+    }
 
-    one_more_count : (lists : List (List ℕ)) (bytes : List ℕ) → length lists + 1 ≡ length (lists ++ bytes ∷ [])
-    one_more_count lists bytes = omega (arith, length-append lists (bytes ∷ []))
+-- a list was read, with something else made of its entries, which have an address
+pub made_else : (A B : List ListEntry → Type 0) (left left_after : Option (List ℕ)) (old new : Reading)
+    → WasMadeOf left left_after old new A → ((entries : List ListEntry) → All HasSome entries → A entries → B entries)
+    → WasMadeOf left left_after old new B
+made_else A B left left_after old new k weaker = record {
+  bytes = k.bytes;
+  given = k.given;
+  entries = k.entries;
+  refusals = k.refusals;
+  read = k.read;
+  added = k.added;
+  same_grammar = k.same_grammar;
+  next = k.next;
+  made = weaker k.entries
+      (entries_some old.lines.grammar old.lines.list 1 k.read.0 k.entries k.refusals k.read.2) k.made;
+  noted = k.noted;
+}
 
 pub none_of_length : {X : Type 0} (xs : List X) → length xs ≡ 0 → xs ≡ []
 none_of_length [] e = refl

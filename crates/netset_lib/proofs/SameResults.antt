@@ -7,13 +7,10 @@ use Rattle.ipnet_sets.specs.Members.{IsMember}
 use Rattle.ipnet_sets.proofs.SetRangeLaws.{any_cases, any_here, any_there}
 use Rattle.netset_lib.specs.declared.operation.Families.{Families}
 use Rattle.netset_lib.specs.declared.operation.Families.TheVariants.{Named, Ipv4, Ipv6, Both}
-use Rattle.netset_lib.specs.declared.operation.ListOperation.{ListOperation}
-use Rattle.netset_lib.specs.declared.operation.ListOperation.TheVariants.{Union, Intersection, Difference}
-use Rattle.netset_lib.specs.declared.operation.ListOperation.TheVariants.{SymmetricDifference}
-use Rattle.netset_lib.specs.declared.operation.ListOperation.TheVariants.{Complement}
 use Rattle.ipnet_lists.specs.Lists.{ListEntry, IsInEntries}
 use Rattle.netset_lib.specs.ListSets.{HaveMembers}
 use Rattle.ipnet_sets.specs.ManySets.{IsInSome, IsInEach}
+use Rattle.netset_lib.specs.Operations.{ListOperation, Union, Intersection, Difference, SymmetricDifference, Complement}
 use Rattle.netset_lib.specs.Operations.{IsInFirstAlone, IsInOneAlone, IsInComplement, IsInResult}
 use Rattle.netset_lib.specs.Operations.{IsChosen}
 use Rattle.ipnet_sets.proofs.ManyLaws.{some_none}

@@ -15,15 +15,14 @@ use Rattle.netset_lib.specs.declared.answer.Form.{Form}
 use Rattle.netset_lib.specs.declared.answer.Form.TheVariants.{Networks, Ranges}
 use Rattle.netset_lib.specs.declared.operation.Families.{Families}
 use Rattle.netset_lib.specs.declared.operation.Families.TheVariants.{Named, Ipv4, Ipv6, Both}
-use Rattle.netset_lib.specs.declared.operation.ListOperation.{ListOperation}
-use Rattle.netset_lib.specs.declared.operation.ListOperation.TheVariants as Operations
-use Rattle.netset_lib.specs.Answers.{AreListsRead, IsSetText}
+use Rattle.netset_lib.specs.Operations as Operations
+use Rattle.netset_lib.specs.Answers.{AreListsRead, IsAnswer, IsSetText}
 use Rattle.ipnet_lists.specs.SetLines.{text_of_ranges}
 use Rattle.ipnet_lists.specs.Entries.{IsAddressText, IsNetworkOrMasked, IsEntryText, after_blanks}
 use Rattle.ipnet_lists.specs.Lists.{ListEntry, Refusal, AreRead, IsListRead, IsInEntries, HaveAddresses}
-use Rattle.netset_lib.specs.Operations.{IsChosen, IsInResult}
+use Rattle.netset_lib.specs.Operations.{ListOperation, IsChosen, IsInResult}
 use Rattle.netset_lib.specs.Scripts.{Script, File, Aggregate, Union, Intersection, Difference, SymmetricDifference}
-use Rattle.netset_lib.specs.Scripts.{Complement, IsCall, IsInFile, IsChosenFor, IsInScript, IsAnswerOf, Gives}
+use Rattle.netset_lib.specs.Scripts.{Complement, IsCall, IsInFile, IsChosenFor, IsInScript, Gives}
 use Rattle.netset_lib.specs.Scripts.{IsListOf}
 use Rattle.netset_lib.proofs.AnswerReading.{answer_is_list}
 use Rattle.netset_lib.proofs.AnswerTexts.{text_of_same}
@@ -109,7 +108,7 @@ in_entries_fits entries h x (i, e, less, is, m) =
     omega (arith, m.to_end, fits, ap (λ f. 2 ^ width f) m.of_family)
 
 -- the addresses of a list that was read
-pub read_fits : (grammar : Grammar) (bytes : List ℕ) (entries : List ListEntry)
+read_fits : (grammar : Grammar) (bytes : List ℕ) (entries : List ListEntry)
     → IsListRead grammar 0 bytes entries [] → (x : Address) → IsInEntries entries x → IsAddress x
 read_fits grammar bytes entries (texts, are, read) x m =
     in_entries_fits entries (entries_fit grammar 0 1 texts entries [] read) x m
@@ -139,7 +138,7 @@ at_nought grammar i bytes entries refusals none (texts, are, h) =
     (texts, are, other_index grammar i 0 1 texts entries (subst (AreRead grammar i 1 texts entries) none h))
 
 -- the only list
-pub one_list_read : (grammar : Grammar) (bytes : List ℕ) (entries : List (List ListEntry))
+one_list_read : (grammar : Grammar) (bytes : List ℕ) (entries : List (List ListEntry))
     → AreListsRead grammar 0 (bytes ∷ []) entries []
     → (first : List ListEntry) × (entries ≡ first ∷ []) × IsListRead grammar 0 bytes first []
 one_list_read grammar bytes entries (first, others, here, later, is, none, read, rest) = (
@@ -149,7 +148,7 @@ one_list_read grammar bytes entries (first, others, here, later, is, none, read,
 )
 
 -- the two lists
-pub two_lists_read : (grammar : Grammar) (bytes more : List ℕ) (entries : List (List ListEntry))
+two_lists_read : (grammar : Grammar) (bytes more : List ℕ) (entries : List (List ListEntry))
     → AreListsRead grammar 0 (bytes ∷ more ∷ []) entries []
     → (first second : List ListEntry) × (entries ≡ first ∷ second ∷ []) × IsListRead grammar 0 bytes first []
     × IsListRead grammar 0 more second []
@@ -171,7 +170,7 @@ HaveOnly grammar A bytes = (entries : List ListEntry) → IsListRead grammar 0 b
 
 module _ (grammar : Grammar) (form : Form) (A : Address → Type 0) (bytes : List ℕ) (have : HaveOnly grammar A bytes)
     (text : List ℕ) where
-  aggregate_text : IsAnswerOf Operations.Union grammar form (bytes ∷ []) text → IsSetText form A text
+  aggregate_text : IsAnswer Operations.Union grammar form (bytes ∷ []) text → IsSetText form A text
   aggregate_text h =
       let (first, is, read) = one_list_read grammar bytes h.entries h.read in
       let same = have first read in
@@ -193,7 +192,7 @@ module _ (grammar : Grammar) (form : Form) (A : Address → Type 0) (bytes : Lis
   chosen_same Both first f same = (λ k. k, λ k. k)
 
   complement_text : (families : Families)
-      → IsAnswerOf (Operations.Complement families) grammar form (bytes ∷ []) text
+      → IsAnswer (Operations.Complement families) grammar form (bytes ∷ []) text
       → IsSetText form (λ x. IsAddress x × IsChosenFor families A x.family × ¬ (A x)) text
   complement_text families h =
       let (first, is, read) = one_list_read grammar bytes h.entries h.read in
@@ -217,7 +216,7 @@ module _ (grammar : Grammar) (form : Form) (A B : Address → Type 0) (one other
   two_text : (operation : ListOperation) (C : Address → Type 0)
       → ((first second : List ListEntry) (x : Address) → (IsInEntries first x ↔ A x) → (IsInEntries second x ↔ B x)
       → IsInResult IsInEntries operation (first ∷ second ∷ []) x ↔ C x)
-      → IsAnswerOf operation grammar form (one ∷ other ∷ []) text → IsSetText form C text
+      → IsAnswer operation grammar form (one ∷ other ∷ []) text → IsSetText form C text
   two_text operation C result h =
       let (first, second, is, read, reads) = two_lists_read grammar one other h.entries h.read in
       let same = have first read in
@@ -227,7 +226,7 @@ module _ (grammar : Grammar) (form : Form) (A B : Address → Type 0) (one other
       (result first second x ((same x).1, (same x).0) ((same_too x).1, (same_too x).0)))
       h.right
 
-  union_text : IsAnswerOf Operations.Union grammar form (one ∷ other ∷ []) text → IsSetText form (λ x. A x ⊎ B x) text
+  union_text : IsAnswer Operations.Union grammar form (one ∷ other ∷ []) text → IsSetText form (λ x. A x ⊎ B x) text
   union_text = two_text Operations.Union (λ x. A x ⊎ B x) (λ first second x a b. (
     λ k. elim (any_cases (λ e. IsInEntries e x) first (second ∷ []) k) [
       | inl here ↦ inl (a.0 here)
@@ -242,14 +241,14 @@ module _ (grammar : Grammar) (form : Form) (A B : Address → Type 0) (one other
     ],
   ))
 
-  intersection_text : IsAnswerOf Operations.Intersection grammar form (one ∷ other ∷ []) text
+  intersection_text : IsAnswer Operations.Intersection grammar form (one ∷ other ∷ []) text
       → IsSetText form (λ x. A x × B x) text
   intersection_text = two_text Operations.Intersection (λ x. A x × B x) (λ first second x a b. (
     λ k. (a.0 k.0, b.0 (All-head (λ e. IsInEntries e x) second [] k.1)),
     λ k. (a.1 k.0, All-cons (λ e. IsInEntries e x) second [] (b.1 k.1) (All-nil (λ e. IsInEntries e x))),
   ))
 
-  difference_text : IsAnswerOf Operations.Difference grammar form (one ∷ other ∷ []) text
+  difference_text : IsAnswer Operations.Difference grammar form (one ∷ other ∷ []) text
       → IsSetText form (λ x. A x × ¬ (B x)) text
   difference_text = two_text Operations.Difference (λ x. A x × ¬ (B x)) (λ first second x a b. (
     λ k. (a.0 k.0, λ y. All-head (λ e. ¬ (IsInEntries e x)) second [] k.1 (b.1 y)),
@@ -259,7 +258,7 @@ module _ (grammar : Grammar) (form : Form) (A B : Address → Type 0) (one other
     ),
   ))
 
-  symmetric_text : IsAnswerOf Operations.SymmetricDifference grammar form (one ∷ other ∷ []) text
+  symmetric_text : IsAnswer Operations.SymmetricDifference grammar form (one ∷ other ∷ []) text
       → IsSetText form (λ x. (A x × ¬ (B x)) ⊎ (B x × ¬ (A x))) text
   symmetric_text = two_text Operations.SymmetricDifference (λ x. (A x × ¬ (B x)) ⊎ (B x × ¬ (A x)))
       (λ first second x a b. (

@@ -10,28 +10,23 @@ use Rattle.ipnet.specs.declared.parser.Grammar.{Grammar}
 use Rattle.ipnet.specs.Lines.{lines_of}
 use Rattle.netset_lib.specs.declared.answerer.Answerer.{Answerer}
 use Rattle.netset_lib.specs.declared.answerer.Answers.{Answers}
-use Rattle.netset_lib.specs.declared.command.Work.{Work}
-use Rattle.netset_lib.specs.declared.command.Work.TheVariants.{Combine, Ask}
 use Rattle.netset_lib.specs.declared.query.Query.{Query}
-use Rattle.netset_lib.specs.declared.query.Query.TheVariants.{Count, Compare, Filter, Route}
 use Rattle.ipnet_lists.specs.declared.reader.LineReader.{LineReader}
 use Rattle.ipnet_lists.specs.declared.reading.Reading.{Reading}
-use Rattle.netset_lib.specs.declared.session.Session.{Session}
-use Rattle.netset_lib.specs.declared.session.stream.StreamFailure.{StreamFailure}
-use Rattle.netset_lib.specs.declared.session.stream.StreamFailure.TheVariants as StreamFailures
-use Rattle.netset_lib.specs.declared.session.stream.Streamed.{Streamed}
-use Rattle.netset_lib.specs.Answering.{IsAnswererFor, IsAnswerBy, AreAnswersBy}
+use Rattle.netset_lib.specs.declared.stream.Stream.{Stream}
+use Rattle.netset_lib.specs.declared.stream.StreamFailure.{StreamFailure}
+use Rattle.netset_lib.specs.declared.stream.StreamFailure.TheVariants as StreamFailures
+use Rattle.netset_lib.specs.declared.stream.Streamed.{Streamed}
+use Rattle.netset_lib.specs.Answering.{IsAnswerBy, AreAnswersBy}
 use Rattle.netset_lib.specs.Answers.{AreListsRead}
 use Rattle.ipnet_lists.specs.Lists.{ListEntry, Refusal, AreRead, IsListRead, after_mark}
 use Rattle.ipnet_lists.specs.Reading.{Adds, AreTexts, ReadsLines, TakesLines, pending}
-use Rattle.netset_lib.specs.Sessions.{WereRead, IsState, IsAskState}
 use Rattle.netset_lib.specs.Streams.{IsWritten, IsPartWritten, IsWrittenInPart, IsFrontRead, IsStreamedInPart}
-use Rattle.netset_lib.specs.Streams.{IsWorkStreamed, IsWorkStreamedInPart, HasStream, CanStream, IsBroken}
-use Rattle.netset_lib.specs.Streams.{IsStreamFailure}
+use Rattle.netset_lib.specs.Streams.{WasAsked, IsStreamed, IsStreamFailure, IsBroken}
 use Rattle.netset_lib.proofs.AnsweringLaws.{replies_right}
 use Rattle.netset_lib.proofs.EntryAnswerLaws.{answers_append}
 use Rattle.ipnet_lists.proofs.ListReading.{reads_more}
-use Rattle.netset_lib.proofs.ListsReading.{lists_count, none_of_length}
+use Rattle.netset_lib.proofs.ListsReading.{none_of_length}
 use Rattle.netset_lib.proofs.RouteLaws.{entries_some}
 use Rattle.netset_lib.proofs.StreamLaws.{reads_weaker, takes_weaker, written_none}
 use Rattle.ipnet_lists.proofs.WindowReading.{IsListUpTo, up_to_lines}
@@ -226,107 +221,51 @@ still_quiet more taken left left_now start now next A B C D faults then after h 
     let two = t.lines.2.added.count in
     Keeps-trans faults then after (before (omega (arith, one, two, same))) (report (omega (arith, one, two, same)))
 
--- ---- the same of a session that has read one list
+-- ---- the same of a stream
 
--- the first list, and what answers entries by it
-record HasFirst (query : Query) (grammar : Grammar) (lists : List (List ℕ)) (answerer : Answerer) : Type 0 where
-  first : List ListEntry
-  read : AreListsRead grammar 0 lists (first ∷ []) []
-  for : IsAnswererFor query answerer first
+pub part_right : (query : Query) (grammar : Grammar) (lists : List (List ℕ)) (s : Stream)
+    (left held held_after : Option (List ℕ)) (failure : StreamFailure) → WasAsked query grammar lists s
+    → s.lists.reading.lines.refused.count ≡ 0
+    → IsWrittenInPart s.answerer s.lists.reading.lines.grammar s.lists.reading.lines.list left held held_after
+    → IsBroken failure → IsStreamFailure query grammar lists left held held_after failure
+part_right query grammar lists s left held held_after failure h none part broken = by_failure failure broken
+  where
+    in_part : IsStreamedInPart query grammar lists left held held_after
+    in_part =
+        let r = h.read in
+        let at = part.read in
+        record {
+          first = h.first;
+          first_read = subst (AreListsRead grammar 0 lists (h.first ∷ []))
+              (none_of_length r.refusals (sym r.kept.count ∙ none)) r.read;
+          entries = part.entries;
+          refusals = part.refusals;
+          read = subst (λ g. IsFrontRead g (length lists) left part.entries part.refusals) r.same_grammar
+              (subst (λ n. IsFrontRead s.lists.reading.lines.grammar n left part.entries part.refusals) r.count at);
+          written = record {
+            text = part.written.text;
+            right = replies_right query s.answerer h.first part.entries part.written.text h.for
+                (entries_some s.lists.reading.lines.grammar s.lists.reading.lines.list 1 at.texts part.entries
+                part.refusals at.read) part.written.right;
+            front = part.written.front;
+            begins = part.written.begins;
+            written = part.written.written;
+          };
+        }
 
-first_of : (query : Query) (grammar : Grammar) (lists : List (List ℕ)) (s : Session) (answerer : Answerer)
-    (before : List (List ListEntry)) → length before ≡ 1 → IsAskState query s before
-    → AreListsRead grammar 0 lists before [] → s.answerer ≡ Some answerer → HasFirst query grammar lists answerer
-first_of query grammar lists s answerer [] one state read is = absurd (omega (arith, one))
-first_of query grammar lists s answerer (first ∷ second ∷ before) one state read is = absurd (omega (arith, one))
-first_of query grammar lists s answerer (first ∷ []) one (kept, has, for) read is =
-    let both : Some kept ≡ Some answerer = sym has ∙ is in
-    let same : kept ≡ answerer = cc in record {
-      first = first;
-      read = read;
-      for = subst (λ z. IsAnswererFor query z first) same for;
-    }
-
--- what a session keeps of a filter or a route
-pub ask_state : (query : Query) (grammar : Grammar) (s : Session) (entries : List (List ListEntry)) → HasStream query
-    → IsState (Ask query grammar) s entries → IsAskState query s entries
-ask_state Count grammar s entries streams h = absurd streams
-ask_state Compare grammar s entries streams h = absurd streams
-ask_state (Filter side) grammar s entries streams h = h
-ask_state Route grammar s entries streams h = h
-
--- a filter or a route that has read one list has its answerer
-answerer_of : (query : Query) (s : Session) (before : List (List ListEntry)) → length before ≡ 1
-    → IsAskState query s before → (answerer : Answerer) × (s.answerer ≡ Some answerer)
-answerer_of query s [] one state = absurd (omega (arith, one))
-answerer_of query s (first ∷ second ∷ before) one state = absurd (omega (arith, one))
-answerer_of query s (first ∷ []) one (answerer, has, for) = (answerer, has)
-
-pub no_answerer : (work : Work) (lists : List (List ℕ)) (s : Session) → WereRead work lists s
-    → ((answerer : Answerer) → s.answerer ≡ Some answerer → ⊥) → ¬ (CanStream work (length lists))
-no_answerer (Combine request) lists s h none can = can
-no_answerer (Ask query g) lists s h none (streams, one) =
-    let (answerer, has) = answerer_of query s h.entries
-    (lists_count g 0 lists h.entries h.refusals h.read ∙ one) (ask_state query g s h.entries streams h.state) in
-    none answerer has
-
-part_right : (query : Query) (grammar : Grammar) (lists : List (List ℕ)) (s : Session) (answerer : Answerer)
-    (left held held_after : Option (List ℕ)) → HasStream query → WereRead (Ask query grammar) lists s
-    → s.reading.lines.list ≡ 1 → s.answerer ≡ Some answerer → s.reading.lines.refused.count ≡ 0
-    → IsWrittenInPart answerer s.reading.lines.grammar s.reading.lines.list left held held_after
-    → IsStreamedInPart query grammar lists left held held_after
-part_right query grammar lists s answerer left held held_after streams h one is none part =
-    let k = first_of query grammar lists s answerer h.entries
-    (lists_count grammar 0 lists h.entries h.refusals h.read ∙ sym h.count ∙ one)
-    (ask_state query grammar s h.entries streams h.state)
-    (subst (AreListsRead grammar 0 lists h.entries) (none_of_length h.refusals (sym h.kept.count ∙ none)) h.read) is in
-    let at = part.read in
-    record {
-      first = k.first;
-      first_read = k.read;
-      entries = part.entries;
-      refusals = part.refusals;
-      read = subst (λ g. IsFrontRead g (length lists) left part.entries part.refusals) h.same_grammar
-          (subst (λ n. IsFrontRead s.reading.lines.grammar n left part.entries part.refusals) h.count at);
-      written = record {
-        text = part.written.text;
-        right = replies_right query answerer k.first part.entries part.written.text k.for
-            (entries_some s.reading.lines.grammar s.reading.lines.list 1 at.texts part.entries part.refusals at.read)
-            part.written.right;
-        front = part.written.front;
-        begins = part.written.begins;
-        written = part.written.written;
-      };
-    }
-
--- a stream that ended early, by its failure
-failure_right : (work : Work) (lists : List (List ℕ)) (left held held_after : Option (List ℕ))
-    (failure : StreamFailure) → IsBroken failure → IsWorkStreamedInPart work lists left held held_after
-    → IsStreamFailure work lists left held held_after failure
-failure_right work lists left held held_after (StreamFailures.Start failure) broken h = absurd broken
-failure_right work lists left held held_after (StreamFailures.Read failure) broken h = h
-failure_right work lists left held held_after StreamFailures.Unwritable broken h = h
-
-pub work_failed : (work : Work) (query : Query) (g : Grammar) (lists : List (List ℕ)) (s : Session)
-    (answerer : Answerer) (left held held_after : Option (List ℕ)) (failure : StreamFailure) → WereRead work lists s
-    → s.work ≡ Ask query g → HasStream query → s.reading.lines.list ≡ 1 → s.answerer ≡ Some answerer
-    → s.reading.lines.refused.count ≡ 0
-    → IsWrittenInPart answerer s.reading.lines.grammar s.reading.lines.list left held held_after → IsBroken failure
-    → IsStreamFailure work lists left held held_after failure
-work_failed work query g lists s answerer left held held_after failure h asks streams one is none part broken =
-    let same : work ≡ Ask query g = sym h.same_work ∙ asks in
-    failure_right work lists left held held_after failure broken
-    (subst (λ w. IsWorkStreamedInPart w lists left held held_after) (sym same)
-    (part_right query g lists s answerer left held held_after streams (subst (λ w. WereRead w lists s) same h) one is
-    none part))
+    by_failure : (failure : StreamFailure) → IsBroken failure
+        → IsStreamFailure query grammar lists left held held_after failure
+    by_failure (StreamFailures.Start lines) broken = absurd broken
+    by_failure (StreamFailures.Read failure) broken = in_part
+    by_failure StreamFailures.Unwritable broken = in_part
 
 -- what was written when a stream failed
-pub part_or_kept : (work : Work) (lists : List (List ℕ)) (left held held_after : Option (List ℕ))
-    (failure : StreamFailure) → IsStreamFailure work lists left held held_after failure
-    → Keeps held held_after ⊎ IsWorkStreamedInPart work lists left held held_after
-part_or_kept work lists left held held_after (StreamFailures.Start failure) h = inl h.1
-part_or_kept work lists left held held_after (StreamFailures.Read failure) h = inr h
-part_or_kept work lists left held held_after StreamFailures.Unwritable h = inr h
+pub part_or_kept : (query : Query) (grammar : Grammar) (lists : List (List ℕ)) (left held held_after : Option (List ℕ))
+    (failure : StreamFailure) → IsStreamFailure query grammar lists left held held_after failure
+    → Keeps held held_after ⊎ IsStreamedInPart query grammar lists left held held_after
+part_or_kept query grammar lists left held held_after (StreamFailures.Start lines) h = inl h.1
+part_or_kept query grammar lists left held held_after (StreamFailures.Read failure) h = inr h
+part_or_kept query grammar lists left held held_after StreamFailures.Unwritable h = inr h
 
 -- ---- a list that was streamed whole
 
@@ -360,12 +299,12 @@ second_read grammar (b ∷ c ∷ lists) bytes first entries refusals (e, es, r, 
     let next : es ≡ more.0 ∷ more.1 = more.4 in absurd cc
 
 -- all that was written is a part of it
-pub streamed_part : (work : Work) (lists : List (List ℕ)) (left left_after held held_after : Option (List ℕ))
-    (streamed : Streamed) → IsWorkStreamed work lists left left_after held held_after streamed
-    → IsWorkStreamedInPart work lists left held held_after
-streamed_part (Combine request) lists left left_after held held_after streamed h = absurd h
-streamed_part (Ask query g) lists left left_after held held_after streamed h =
-    let (here, is) = second_read g lists h.bytes h.first h.entries h.refusals h.first_read h.read in
+pub streamed_part : (query : Query) (grammar : Grammar) (lists : List (List ℕ))
+    (left left_after held held_after : Option (List ℕ)) (streamed : Streamed)
+    → IsStreamed query grammar lists left left_after held held_after streamed
+    → IsStreamedInPart query grammar lists left held held_after
+streamed_part query grammar lists left left_after held held_after streamed h =
+    let (here, is) = second_read grammar lists h.bytes h.first h.entries h.refusals h.first_read h.read in
     record {
       first = h.first;
       first_read = h.first_read;

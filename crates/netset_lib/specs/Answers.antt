@@ -1,17 +1,12 @@
--- The output for a request: the text of the set that the operation makes of the lists.
-use Rattle.std.specs.Prelude.{◌≡◌, ◌≢◌, ℕ, ◌+◌, List, [], ◌∷◌, ◌++◌, length}
+-- The answer of an operation: the text of the set that it makes of the lists.
+use Rattle.std.specs.Prelude.{◌≡◌, ◌≢◌, ℕ, ◌+◌, List, [], ◌∷◌, ◌++◌}
 use Rattle.ipnet_base.specs.Address.{Address}
 use Rattle.ipnet.specs.declared.parser.Grammar.{Grammar}
 use Rattle.netset_lib.specs.declared.answer.Form.{Form}
 use Rattle.netset_lib.specs.declared.answer.Form.TheVariants.{Networks, Ranges}
-use Rattle.netset_lib.specs.declared.answer.Request.{Request}
-use Rattle.netset_lib.specs.declared.command.Work.{Work}
-use Rattle.netset_lib.specs.declared.command.Work.TheVariants.{Combine, Ask}
 use Rattle.netset_lib.specs.declared.operation.Families.TheVariants.{Named}
-use Rattle.netset_lib.specs.declared.operation.ListOperation.{ListOperation}
-use Rattle.netset_lib.specs.declared.operation.ListOperation.TheVariants.{Complement}
 use Rattle.ipnet_lists.specs.Lists.{ListEntry, Refusal, IsListRead, IsInEntries}
-use Rattle.netset_lib.specs.Operations.{IsCountFor, IsInResult}
+use Rattle.netset_lib.specs.Operations.{ListOperation, Complement, IsInResult}
 use Rattle.ipnet_lists.specs.RefusedLines.{RefusedLines, AreRefused}
 use Rattle.ipnet_lists.specs.SetLines.{AreNetworkLines, AreRangeLines}
 
@@ -32,20 +27,15 @@ IsSetText Ranges = AreRangeLines
 abbrev pub IsNamedOperation : ListOperation → Type 0
 IsNamedOperation operation = operation ≡ Complement Named
 
--- The work is such a complement.
-abbrev pub IsNamedComplement : Work → Type 0
-IsNamedComplement (Combine request) = IsNamedOperation request.operation
-IsNamedComplement (Ask query grammar) = ⊥
-
 -- No line is refused, and the answer is the text of the operation's result. A complement for the families of the list
 -- has an answer only if the list has an entry.
 -- Example: the difference of `10.0.0.0/30` and `10.0.0.3` has the answer `10.0.0.0/31`, `10.0.0.2/32`, one per line.
-pub record IsAnswer (request : Request) (lists : List (List ℕ)) (answer : List ℕ) : Type 0 where
-  pub count : IsCountFor request.operation (length lists)
+pub record IsAnswer (operation : ListOperation) (grammar : Grammar) (form : Form) (lists : List (List ℕ))
+    (answer : List ℕ) : Type 0 where
   pub entries : List (List ListEntry)
-  pub read : AreListsRead request.grammar 0 lists entries []
-  pub right : IsSetText request.form (IsInResult IsInEntries request.operation entries) answer
-  pub named : IsNamedOperation request.operation → entries ≢ [] ∷ []
+  pub read : AreListsRead grammar 0 lists entries []
+  pub right : IsSetText form (IsInResult IsInEntries operation entries) answer
+  pub named : IsNamedOperation operation → entries ≢ [] ∷ []
 
 -- Some lines are refused, and these are all of them.
 pub record HasRefused (grammar : Grammar) (lists : List (List ℕ)) (lines : RefusedLines) : Type 0 where

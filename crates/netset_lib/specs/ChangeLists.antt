@@ -5,7 +5,6 @@ use Rattle.ipnet_base.specs.Network.{Network, InBlock}
 use Rattle.ipnet_base.specs.Blocks.{IsMaximal}
 use Rattle.ipnet.specs.declared.parser.Grammar.{Grammar}
 use Rattle.netset_lib.specs.declared.answer.Form.{Form}
-use Rattle.netset_lib.specs.declared.answer.Request.{Request}
 use Rattle.netset_lib.specs.declared.change_line.ChangeCause.{ChangeCause}
 use Rattle.netset_lib.specs.declared.change_line.ChangeCause.TheVariants.{UnknownSign, NoNetwork, Present, Absent}
 use Rattle.netset_lib.specs.Answers.{IsSetText}
@@ -13,7 +12,6 @@ use Rattle.netset_lib.specs.Changes.{ListChange, Added, Removed, changed_network
 use Rattle.ipnet_lists.specs.ContentLines.{IsItemList}
 use Rattle.ipnet_lists.specs.Lists.{RefusalFor}
 use Rattle.netset_lib.specs.NetworkEntries.{IsNetworkWord, IsNoNetworkWord, IsNetworkCause}
-use Rattle.netset_lib.specs.PlanAnswers.{HoldsOfResult}
 use Rattle.ipnet_lists.specs.Words.{leading_word, after_word}
 
 -- The sign of a change at the start of its line: `+` adds a network, `-` removes one.
@@ -86,15 +84,3 @@ pub record HasRefusedChanges (grammar : Grammar) (InSet : Address → Type 0) (b
   pub changes : List ListChange
   pub read : IsChangeList grammar (IsAnswerNetwork InSet) bytes changes refused
   pub some : refused ≢ []
-
--- No line of the lists is refused, nor is a change of the networks of their result. The text is the answer after the
--- changes. Example: the union of the list `10.0.0.0/9\n10.128.0.0/9\n` and the changes `- 10.0.0.0/8\n` have the empty
--- answer.
-abbrev pub IsChangedAnswer : Request → List (List ℕ) → List ℕ → List ℕ → Type 0
-IsChangedAnswer request lists bytes text =
-    HoldsOfResult request lists (λ InSet. IsChangedText request.form request.grammar InSet bytes text)
-
--- No line of the lists is refused, but some changes are.
-abbrev pub HaveRefusedChanges : Request → List (List ℕ) → List ℕ → Type 0
-HaveRefusedChanges request lists bytes = HoldsOfResult request lists (λ InSet.
-    (refused : List (RefusalFor ChangeCause)) × HasRefusedChanges request.grammar InSet bytes refused)

@@ -4,9 +4,6 @@ use Rattle.ipnet_base.specs.Address.{Address}
 use Rattle.ipnet_base.specs.Network.{Network}
 use Rattle.ipnet_base.specs.Blocks.{AreMaximalBlocks, IsAscending}
 use Rattle.ipnet.specs.CanonicalTexts.{canonical_text}
-use Rattle.ipnet.specs.declared.parser.Grammar.{Grammar}
-use Rattle.netset_lib.specs.Answers.{AreListsRead}
-use Rattle.ipnet_lists.specs.Lists.{ListEntry, IsInEntries}
 
 -- A change of a list of networks: a network is added, or a network is removed.
 pub data ListChange : Type 0 where
@@ -46,11 +43,3 @@ pub record AreChangeLines (Before After : Address → Type 0) (text : List ℕ) 
   pub changes : List ListChange
   pub exact : AreChanges before after changes
   pub spelled : text ≡ text_of_changes changes
-
--- No line of the two lists is refused, and the text is the changes from the answer of the first to the answer of the
--- second.
-pub record IsChangesAnswer (grammar : Grammar) (lists : List (List ℕ)) (text : List ℕ) : Type 0 where
-  pub first : List ListEntry
-  pub second : List ListEntry
-  pub read : AreListsRead grammar 0 lists (first ∷ second ∷ []) []
-  pub right : AreChangeLines (IsInEntries first) (IsInEntries second) text

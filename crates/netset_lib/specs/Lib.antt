@@ -1,5 +1,6 @@
 -- The definitions that the contracts of this crate use.
 pub mod Operations
+pub mod Combinations
 pub mod Outputs
 pub mod Answers
 pub mod Counts
@@ -13,7 +14,6 @@ pub mod ListSets
 pub mod Replies
 pub mod PlanAnswers
 pub mod Planning
-pub mod PairSets
 pub mod SetsOf
 pub mod Changes
 pub mod ChangeSteps
@@ -21,7 +21,7 @@ pub mod Listings
 pub mod ListingSteps
 pub mod Runs
 pub mod Commands
-pub mod Sessions
+pub mod SetReaders
 pub mod Streams
 pub mod RuleLines
 pub mod RuleContentsOf

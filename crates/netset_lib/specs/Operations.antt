@@ -1,22 +1,18 @@
 -- The operations on lists, by the addresses of each list. `In` is the addresses of a list: `IsInEntries` for its
 -- entries, and `IsMember` for a set in private contracts.
-use Rattle.std.specs.Prelude.{◌≡◌, ◌⊎◌, ◌≤◌, ⊤, ℕ, List, [], ◌∷◌, All}
+use Rattle.std.specs.Prelude.{◌≡◌, ◌⊎◌, ⊤, List, [], ◌∷◌, All}
 use Rattle.ipnet_base.specs.Address.{Family, IPv4, IPv6, Address, IsAddress}
 use Rattle.ipnet_sets.specs.ManySets.{IsInSome, IsInEach}
 use Rattle.netset_lib.specs.declared.operation.Families.{Families}
 use Rattle.netset_lib.specs.declared.operation.Families.TheVariants.{Named, Ipv4, Ipv6, Both}
-use Rattle.netset_lib.specs.declared.operation.ListOperation.{ListOperation}
-use Rattle.netset_lib.specs.declared.operation.ListOperation.TheVariants.{Union, Intersection, Difference}
-use Rattle.netset_lib.specs.declared.operation.ListOperation.TheVariants.{SymmetricDifference}
-use Rattle.netset_lib.specs.declared.operation.ListOperation.TheVariants.{Complement}
 
--- The number of lists that the operation takes.
-abbrev pub IsCountFor : ListOperation → ℕ → Type 0
-IsCountFor Union n = 1 ≤ n
-IsCountFor Intersection n = 2 ≤ n
-IsCountFor Difference n = 2 ≤ n
-IsCountFor SymmetricDifference n = n ≡ 2
-IsCountFor (Complement families) n = n ≡ 1
+-- The operations on lists.
+pub data ListOperation : Type 0 where
+  Union : ListOperation
+  Intersection : ListOperation
+  Difference : ListOperation
+  SymmetricDifference : ListOperation
+  Complement : (families : Families) → ListOperation
 
 -- The addresses of the first list that are in no other list.
 abbrev pub IsInFirstAlone : {L : Type 0} → (L → Address → Type 0) → List L → Address → Type 0

@@ -1,4 +1,4 @@
--- Plans of networks in the addresses of lists: their text, and why there is none.
+-- Plans of networks in the addresses of a set: their text, and why there is none.
 use Rattle.std.specs.Prelude.{◌≡◌, ◌≢◌, ◌↔◌, ◌<◌, ◌≤◌, ◌⊎◌, ◌++◌, ◌∷◌, ℕ, List, [], Any, All, length, codes}
 use Rattle.ipnet_base.specs.Address.{Family, IPv4, IPv6, width, Address}
 use Rattle.ipnet_base.specs.Network.{Network}
@@ -7,17 +7,11 @@ use Rattle.ipnet.specs.declared.parser.Grammar.TheVariants.{Strict}
 use Rattle.ipnet_pools.specs.Fits.{HasRoom}
 use Rattle.ipnet_pools.specs.Placements.{CanPlace}
 use Rattle.ipnet_pools.specs.Plans.{requests_of, IsPlan, KeepsRoom}
-use Rattle.ipnet_sets.specs.declared.set.IpSet.{IpSet}
-use Rattle.ipnet_sets.specs.Members.{IsMember}
 use Rattle.ipnet_text.specs.LineTexts.{text_of_lines}
-use Rattle.netset_lib.specs.declared.answer.Request.{Request}
 use Rattle.netset_lib.specs.declared.operation.Families.{Families}
 use Rattle.netset_lib.specs.declared.operation.Families.TheVariants.{Named, Ipv4, Ipv6, Both}
 use Rattle.netset_lib.specs.declared.plan.PlanFailure.{PlanFailure}
 use Rattle.netset_lib.specs.declared.plan.PlanFailure.TheVariants as Faults
-use Rattle.netset_lib.specs.Answers.{AreListsRead, IsNamedOperation}
-use Rattle.ipnet_lists.specs.Lists.{ListEntry, IsInEntries}
-use Rattle.netset_lib.specs.Operations.{IsInResult, IsCountFor}
 
 -- The text of a prefix length: a decimal number of at most 128 without leading zeros, after "/" or without it.
 -- Example: `24` and `/24` are 24; `024`, `+24`, `129` and the empty text are not prefix lengths.
@@ -80,24 +74,3 @@ IsPlanFailure InSet families lengths Faults.Family = (family : Family) → ¬ (I
 IsPlanFailure InSet families lengths (Faults.PrefixLen p greatest) = HasLongLength InSet families lengths p greatest
 IsPlanFailure InSet families lengths Faults.NoPlacement = HasNoPlacement InSet families lengths
 IsPlanFailure InSet families lengths Faults.Memory = HasRoomForEach InSet families lengths
-
--- No line is refused, and the set has the addresses of the operation's result. A complement for the families of the
--- list has a set only if the list has an entry.
-pub record IsResultSet (request : Request) (lists : List (List ℕ)) (set : IpSet) : Type 0 where
-  pub count : IsCountFor request.operation (length lists)
-  pub entries : List (List ListEntry)
-  pub read : AreListsRead request.grammar 0 lists entries []
-  pub right : (x : Address) → IsMember set x ↔ IsInResult IsInEntries request.operation entries x
-  pub named : IsNamedOperation request.operation → entries ≢ [] ∷ []
-
--- No line is refused, and `Holds` is true of the addresses of the operation's result.
-pub record HoldsOfResult (request : Request) (lists : List (List ℕ)) (Holds : (Address → Type 0) → Type 0) : Type 0
-  where
-    pub entries : List (List ListEntry)
-    pub read : AreListsRead request.grammar 0 lists entries []
-    pub right : Holds (IsInResult IsInEntries request.operation entries)
-
--- The lists have a result, and the text is a plan in its addresses.
-abbrev pub IsPlanAnswer : Families → List ℕ → Request → List (List ℕ) → List ℕ → Type 0
-IsPlanAnswer families lengths request lists text =
-    HoldsOfResult request lists (λ InSet. IsPlanText InSet families lengths text)

@@ -4,9 +4,7 @@ use Rattle.ipnet_base.specs.Address.{Address}
 use Rattle.ipnet_base.specs.Network.{Network, InBlock}
 use Rattle.ipnet_base.specs.Blocks.{IsMaximal}
 use Rattle.ipnet.specs.CanonicalTexts.{canonical_text}
-use Rattle.ipnet.specs.declared.parser.Grammar.{Grammar}
 use Rattle.ipnet_sets.specs.SetRanges.{IsInRange}
-use Rattle.netset_lib.specs.Answers.{AreListsRead}
 use Rattle.netset_lib.specs.EntryAnswers.{AreAnswers}
 use Rattle.ipnet_lists.specs.Lists.{ListEntry}
 
@@ -39,11 +37,3 @@ IsRouteLine InTable Holding e line =
 -- The lines of the entries, in order.
 abbrev pub AreRouteLines : (Network → Type 0) → (ListEntry → Network → Type 0) → List ListEntry → List ℕ → Type 0
 AreRouteLines InTable Holding = AreAnswers (IsRouteLine InTable Holding)
-
--- No line of the two lists is refused, and the text has a line for each entry of the second list, with the first as the
--- table.
-pub record IsRouteAnswer (grammar : Grammar) (lists : List (List ℕ)) (text : List ℕ) : Type 0 where
-  pub table : List ListEntry
-  pub entries : List ListEntry
-  pub read : AreListsRead grammar 0 lists (table ∷ entries ∷ []) []
-  pub right : AreRouteLines (IsTableNetwork table) Holds entries text

@@ -5,8 +5,7 @@ use Rattle.ipnet.specs.declared.parser.Grammar.{Grammar}
 use Rattle.netset_lib.specs.declared.answer.Form.{Form}
 use Rattle.netset_lib.specs.declared.operation.Families.{Families}
 use Rattle.netset_lib.specs.declared.operation.Families.TheVariants.{Named, Ipv4, Ipv6, Both}
-use Rattle.netset_lib.specs.declared.operation.ListOperation.{ListOperation}
-use Rattle.netset_lib.specs.declared.operation.ListOperation.TheVariants as Operations
+use Rattle.netset_lib.specs.Operations as Operations
 use Rattle.netset_lib.specs.Answers.{IsAnswer}
 use Rattle.ipnet_lists.specs.Lists.{ListEntry, IsListRead, IsInEntries, HaveAddresses}
 
@@ -57,33 +56,28 @@ IsInScript grammar (SymmetricDifference first second) x =
 IsInScript grammar (Complement families only) x =
     IsAddress x × IsChosenFor families (IsInScript grammar only) x.family × ¬ (IsInScript grammar only x)
 
--- The answer of the operation on these lists.
-abbrev pub IsAnswerOf : ListOperation → Grammar → Form → List (List ℕ) → List ℕ → Type 0
-IsAnswerOf operation grammar form =
-    IsAnswer (record { operation = operation; grammar = grammar; form = form })
-
 -- The bytes that the script gives in this form: a file gives its own, and a call gives its answer over the bytes that
 -- the scripts below it give. Each of these has a form of its own.
 abbrev pub Gives : Grammar → Form → Script → List ℕ → Type 0
 Gives grammar form (File bytes) text = text ≡ bytes
 Gives grammar form (Aggregate only) text =
     (below : Form) × (list : List ℕ) × Gives grammar below only list
-    × IsAnswerOf Operations.Union grammar form (list ∷ []) text
+    × IsAnswer Operations.Union grammar form (list ∷ []) text
 Gives grammar form (Union first second) text =
     (left right : Form) × (one other : List ℕ) × Gives grammar left first one × Gives grammar right second other
-    × IsAnswerOf Operations.Union grammar form (one ∷ other ∷ []) text
+    × IsAnswer Operations.Union grammar form (one ∷ other ∷ []) text
 Gives grammar form (Intersection first second) text =
     (left right : Form) × (one other : List ℕ) × Gives grammar left first one × Gives grammar right second other
-    × IsAnswerOf Operations.Intersection grammar form (one ∷ other ∷ []) text
+    × IsAnswer Operations.Intersection grammar form (one ∷ other ∷ []) text
 Gives grammar form (Difference first second) text =
     (left right : Form) × (one other : List ℕ) × Gives grammar left first one × Gives grammar right second other
-    × IsAnswerOf Operations.Difference grammar form (one ∷ other ∷ []) text
+    × IsAnswer Operations.Difference grammar form (one ∷ other ∷ []) text
 Gives grammar form (SymmetricDifference first second) text =
     (left right : Form) × (one other : List ℕ) × Gives grammar left first one × Gives grammar right second other
-    × IsAnswerOf Operations.SymmetricDifference grammar form (one ∷ other ∷ []) text
+    × IsAnswer Operations.SymmetricDifference grammar form (one ∷ other ∷ []) text
 Gives grammar form (Complement families only) text =
     (below : Form) × (list : List ℕ) × Gives grammar below only list
-    × IsAnswerOf (Operations.Complement families) grammar form (list ∷ []) text
+    × IsAnswer (Operations.Complement families) grammar form (list ∷ []) text
 
 -- The bytes are a list without refused lines that has exactly the addresses of the set.
 pub record IsListOf (grammar : Grammar) (InSet : Address → Type 0) (bytes : List ℕ) : Type 0 where

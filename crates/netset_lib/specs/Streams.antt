@@ -1,44 +1,28 @@
 -- The answers of a filter or a route that are written while the second list is read.
-use Rattle.std.specs.Prelude.{◌≡◌, Bool, not, ℕ, List, [], ◌∷◌, ◌++◌, length, Option, IfSome}
+use Rattle.std.specs.Prelude.{◌≡◌, Bool, ℕ, List, [], ◌∷◌, ◌++◌, length, Option, IfSome}
 use Rattle.std.specs.Io.KnownBytes.{Appends, Keeps}
 use Rattle.ipnet.specs.declared.parser.Grammar.{Grammar}
 use Rattle.ipnet.specs.Lines.{lines_of}
 use Rattle.ipnet_text.specs.Inputs.{GaveWhole}
 use Rattle.ipnet_text.specs.Outputs.{IsFrontWritten}
-use Rattle.netset_lib.specs.declared.failure.Failure.{Failure}
-use Rattle.netset_lib.specs.declared.failure.Failure.TheVariants as Failures
 use Rattle.netset_lib.specs.declared.answerer.Answerer.{Answerer}
-use Rattle.netset_lib.specs.declared.command.Work.{Work}
-use Rattle.netset_lib.specs.declared.command.Work.TheVariants.{Combine, Ask}
 use Rattle.netset_lib.specs.declared.query.Query.{Query}
-use Rattle.netset_lib.specs.declared.query.Query.TheVariants.{Count, Compare, Filter, Route}
-use Rattle.netset_lib.specs.declared.session.stream.StreamFailure.{StreamFailure}
-use Rattle.netset_lib.specs.declared.session.stream.StreamFailure.TheVariants as StreamFailures
-use Rattle.netset_lib.specs.declared.session.stream.Streamed.{Streamed}
-use Rattle.netset_lib.specs.Answering.{IsAnswerBy, IsFoundBy}
+use Rattle.netset_lib.specs.declared.stream.Stream.{Stream}
+use Rattle.netset_lib.specs.declared.stream.StreamFailure.{StreamFailure}
+use Rattle.netset_lib.specs.declared.stream.StreamFailure.TheVariants as StreamFailures
+use Rattle.netset_lib.specs.declared.stream.Streamed.{Streamed}
+use Rattle.netset_lib.specs.Answering.{IsAnswererFor, IsAnswerBy, IsFoundBy}
 use Rattle.netset_lib.specs.Answers.{AreListsRead, HasRefused}
 use Rattle.netset_lib.specs.EntryAnswers.{AreAnswers, IsFoundIn}
 use Rattle.ipnet_lists.specs.Lists.{ListEntry, Refusal, AreContents, AreRead, after_mark}
-use Rattle.netset_lib.specs.Replies.{AreReplies, IsFoundFor, work_grammar}
+use Rattle.netset_lib.specs.Replies.{AreReplies, IsFoundFor, found_for}
+use Rattle.netset_lib.specs.SetReaders.{WereRead}
 
--- A filter and a route can be streamed.
-abbrev pub HasStream : Query → Type 0
-HasStream Count = ⊥
-HasStream Compare = ⊥
-HasStream (Filter side) = Unit {0}
-HasStream Route = Unit {0}
-
--- The work is a filter or a route, and one list was read.
-abbrev pub CanStream : Work → ℕ → Type 0
-CanStream (Combine request) n = ⊥
-CanStream (Ask query grammar) n = HasStream query × (n ≡ 1)
-
--- Whether the stream succeeded: a filter found an entry, or a route found none without a route.
-abbrev pub found_by_stream : Query → Bool → Bool
-found_by_stream Count succeeded = succeeded
-found_by_stream Compare succeeded = succeeded
-found_by_stream (Filter side) succeeded = succeeded
-found_by_stream Route succeeded = not succeeded
+-- The stream has read one list, of which its answerer was made for the query.
+pub record WasAsked (query : Query) (grammar : Grammar) (lists : List (List ℕ)) (stream : Stream) : Type 0 where
+  pub first : List ListEntry
+  pub read : WereRead grammar lists (first ∷ []) stream.lists
+  pub for : IsAnswererFor query stream.answerer first
 
 -- After the first list the reader gave the bytes of the second one, up to their end. Exactly the answers to the entries
 -- of the second list were written, in order. Refused lines are left out and counted; the first list has none.
@@ -57,14 +41,7 @@ pub record IsStreamed (query : Query) (grammar : Grammar) (lists : List (List �
   pub right : AreReplies query first entries text
   pub written : Appends held held_after text
   pub count : streamed.refused ≡ length refusals
-  pub is_found : IsFoundIn (IsFoundFor query first) (found_by_stream query streamed.succeeded) entries
-
--- The work is a filter or a route, and its lines were streamed.
-abbrev pub IsWorkStreamed : Work → List (List ℕ) → Option (List ℕ) → Option (List ℕ) → Option (List ℕ)
-    → Option (List ℕ) → Streamed → Type 0
-IsWorkStreamed (Combine request) lists left left_after held held_after streamed = ⊥
-IsWorkStreamed (Ask query grammar) lists left left_after held held_after streamed =
-    IsStreamed query grammar lists left left_after held held_after streamed
+  pub is_found : IsFoundIn (IsFoundFor query first) (found_for query streamed.succeeded) entries
 
 -- The first lines of a list have these entries and refused lines. `left` has the bytes of the list.
 -- Example: `10.0.0.1` is the entry of the first line of `10.0.0.1\n::1\n`.
@@ -90,34 +67,21 @@ pub record IsStreamedInPart (query : Query) (grammar : Grammar) (lists : List (L
   pub read : IsFrontRead grammar (length lists) left entries refusals
   pub written : IsFrontWritten (AreReplies query first entries) held held_after
 
--- The work is a filter or a route, and a first part of its lines was streamed.
-abbrev pub IsWorkStreamedInPart : Work → List (List ℕ) → Option (List ℕ) → Option (List ℕ) → Option (List ℕ) → Type 0
-IsWorkStreamedInPart (Combine request) lists left held held_after = ⊥
-IsWorkStreamedInPart (Ask query grammar) lists left held held_after =
-    IsStreamedInPart query grammar lists left held held_after
-
--- Why a stream cannot begin: other work or another number of lists, or refused lines in the first list.
-abbrev pub IsNoStart : Work → List (List ℕ) → Failure → Type 0
-IsNoStart work lists Failures.Count = ¬ (CanStream work (length lists))
-IsNoStart work lists (Failures.Refused lines) = HasRefused (work_grammar work) lists lines
-IsNoStart work lists Failures.NoFamily = ⊥
-IsNoStart work lists Failures.Unreadable = ⊥
-IsNoStart work lists Failures.Memory = ⊥
-
--- Why a stream ended, and what was written then. When a read, a write or memory fails is not specified.
-abbrev pub IsStreamFailure : Work → List (List ℕ) → Option (List ℕ) → Option (List ℕ) → Option (List ℕ)
+-- Why a stream ended, and what was written then: the first list has refused lines, or it ended in the second. When a
+-- read, a write or memory fails is not specified.
+abbrev pub IsStreamFailure : Query → Grammar → List (List ℕ) → Option (List ℕ) → Option (List ℕ) → Option (List ℕ)
     → StreamFailure → Type 0
-IsStreamFailure work lists left held held_after (StreamFailures.Start failure) =
-    IsNoStart work lists failure × Keeps held held_after
-IsStreamFailure work lists left held held_after (StreamFailures.Read failure) =
-    IsWorkStreamedInPart work lists left held held_after
-IsStreamFailure work lists left held held_after StreamFailures.Unwritable =
-    IsWorkStreamedInPart work lists left held held_after
+IsStreamFailure query grammar lists left held held_after (StreamFailures.Start lines) =
+    HasRefused grammar lists lines × Keeps held held_after
+IsStreamFailure query grammar lists left held held_after (StreamFailures.Read failure) =
+    IsStreamedInPart query grammar lists left held held_after
+IsStreamFailure query grammar lists left held held_after StreamFailures.Unwritable =
+    IsStreamedInPart query grammar lists left held held_after
 
 -- The stream had begun when it failed.
 -- Only private contracts use this.
 abbrev pub IsBroken : StreamFailure → Type 0
-IsBroken (StreamFailures.Start failure) = ⊥
+IsBroken (StreamFailures.Start lines) = ⊥
 IsBroken (StreamFailures.Read failure) = Unit {0}
 IsBroken StreamFailures.Unwritable = Unit {0}
 

@@ -1,10 +1,10 @@
-//! An operation on lists and the form of its result.
-ghost use Rattle.std.specs.Prelude.{IfOk, string_bytes};
+//! The form of a set, and an answer that is made.
+ghost use Rattle.std.specs.Prelude.{◌≡◌, IfOk, string_bytes};
 ghost use Rattle.ipnet_sets.specs.Members.{IsMember};
 ghost use Rattle.netset_lib.specs.Answers.{IsSetText};
 
-use crate::operation::ListOperation;
-use ipnet::Grammar;
+use crate::failure::Failure;
+use crate::runs::TextCommand;
 use ipnet_lists::{network_lines, range_lines};
 use ipnet_sets::IpSet;
 use std::alloc::{AllocError, Global};
@@ -22,25 +22,29 @@ pub enum Form {
     Ranges,
 }
 
-/// An operation on lists, the grammar of their entries, and the form of the result.
-#[derive(Clone, Copy, Debug, PartialEq, Eq)]
-pub struct Request {
-    /// What is made of them.
-    pub operation: ListOperation,
-    /// How their entries are read.
-    pub grammar: Grammar,
-    /// How the answer is written.
-    pub form: Form,
-}
-
-/// The answer over lists.
+/// The answer of a filter or a route, which is made while its second list is read.
 #[derive(Debug, Drop)]
 pub struct Answer {
     /// Its text.
     pub text: String,
-    /// Whether two compared lists have the same addresses, a filter printed an entry, or each entry has a route. Other
-    /// work always succeeds.
+    /// Whether a filter printed an entry, or each entry has a route.
     pub succeeded: bool,
+}
+
+impl TextCommand for Answer {
+    type Text = String;
+
+    type Failure = Failure;
+
+    ghost is_answer = { λ answer text. text ≡ string_bytes answer.text };
+
+    ghost is_outcome = { λ answer succeeded. succeeded ≡ answer.succeeded };
+
+    ghost is_failure = { λ _ _. ⊥ };
+
+    fn answer(self) -> Result<(String, bool), Failure> {
+        Ok((self.text, self.succeeded))
+    }
 }
 
 /// The set in this form.

@@ -1,7 +1,7 @@
 //! Filters and routes: how each entry of the second list is answered, once the first list was read.
 ghost use Rattle.std.specs.Prelude.{◌≡◌, ◌++◌, [], None, OnOk, IfOk, string_bytes, true, false};
 ghost use Rattle.std.specs.Str.{IsUtf8};
-ghost use Rattle.netset_lib.specs.Answering.{IsAnswererFor, AreAnswersBy, AddsAnswer};
+ghost use Rattle.netset_lib.specs.Answering.{IsAnswererFor, AreAnswersBy, AddsAnswer, found_by};
 ghost use Rattle.ipnet_lists.specs.FoundEntry.{entry_of};
 ghost use Rattle.ipnet_lists.specs.Reading.{WasMadeOf};
 ghost use Rattle.netset_lib.specs.Routing.{route_line};
@@ -19,9 +19,24 @@ use std::str;
 
 /// The first list of a filter or a route: the set in which kept entries lie, or the table of networks.
 #[derive(Drop)]
-pub(crate) enum Answerer {
+pub enum Answerer {
+    /// The set in which the entries lie that a filter keeps.
     Filter(IpSet),
+    /// The table of networks.
     Route(RouteTable<()>),
+}
+
+impl Answerer {
+    /// Whether a query with this answerer succeeds. `found` is whether a filter printed an entry, or an entry has no
+    /// route.
+    pub(crate) fn is_success(&self, found: bool) -> bool
+        ensures { found_by self.now result ≡ found }
+    {
+        match self {
+            Answerer::Filter(_) => found,
+            Answerer::Route(_) => !found,
+        }
+    }
 }
 
 /// The answers to entries.
@@ -113,7 +128,7 @@ impl Collector<Answers> for Answerer {
     }
 }
 
-/// Reads the first list of a filter or a route. Other queries have no answerer, which is an error.
+/// Reads the first list of a filter or a route.
 pub(crate) fn read_answerer<R: Read>(
     query: Query,
     reading: &mut Reading,
@@ -129,7 +144,6 @@ pub(crate) fn read_answerer<R: Read>(
             Ok(Answerer::Filter(side_set(alloc, side, set)?))
         }
         Query::Route => Ok(Answerer::Route(read_table(reading, input)?)),
-        Query::Count | Query::Compare => Err(ReadFailure::Memory),
     }
 }
 

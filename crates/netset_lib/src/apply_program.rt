@@ -2,65 +2,68 @@
 ghost use Rattle.std.specs.Prelude.{IsTrue};
 ghost use Rattle.ipnet_sets.specs.Members.{IsMember};
 ghost use Rattle.netset_lib.specs.ApplySteps.{IsChangeFailure};
-ghost use Rattle.netset_lib.specs.ChangeLists.{IsChangedAnswer};
-ghost use Rattle.netset_lib.specs.Runs.{OfCombined, HoldsOfSet, IsFault, HasNoResult};
+ghost use Rattle.netset_lib.specs.ChangeLists.{IsChangedText};
 
+use crate::answer::Form;
 use crate::apply::changed_text;
 use crate::change_line::ChangeCause;
-use crate::failure::Failure;
-use crate::runs::{Fault, TextCommand};
-use crate::session::Session;
+use crate::runs::TextCommand;
+use ipnet::Grammar;
 use ipnet_lists::ListFailure;
+use ipnet_sets::IpSet;
+use std::alloc::Global;
 
-/// The addresses that the changes make of the session's result, as `changed_text` makes them. The session has read the
-/// lists of an operation; its request has the form of the answer and the grammar of the changes.
+/// The addresses that the changes make of the set, as `changed_text` makes them.
 ///
-/// The names: each list, and then the changes.
+/// The last of the names is the name of the changes.
 ///
 /// | Status | On `faults` | When |
 /// |---|---|---|
-/// | 2 | as `AnswerCommand` says | the lists have no result |
 /// | 2 | `NAME:LINE: not a change of the list: TEXT (CAUSE)`, ten at most | as `changed_text` refuses them |
 /// | 2 | `netset: out of memory` | memory runs out |
 /// | 2 | `netset: output cannot be written` | a write fails, or the flush after it; the answer may be out in part |
 /// | 0 | nothing | otherwise |
 ///
 /// ```text
-/// "10.0.0.0/8\n", and "- 10.0.0.0/8\n+ 10.0.0.0/9\n": status 0, and out gets "10.0.0.0/9\n"
-/// "10.0.0.0/8\n", and "- 10.0.0.0/9\n", named c:      status 2, and faults gets
+/// 10.0.0.0/8, and "- 10.0.0.0/8\n+ 10.0.0.0/9\n": status 0, and out gets "10.0.0.0/9\n"
+/// 10.0.0.0/8, and "- 10.0.0.0/9\n", named c:      status 2, and faults gets
 ///     "c:1: not a change of the list: - 10.0.0.0/9 (the list has no such network)\n"
 /// ```
 pub struct ApplyCommand<'a> {
-    /// The session.
-    pub session: Session,
+    /// The allocator.
+    pub alloc: Global,
+    /// The set.
+    pub set: IpSet,
     /// The changes.
     pub changes: &'a [u8],
+    /// The grammar of the changes.
+    pub grammar: Grammar,
+    /// The form of the answer.
+    pub form: Form,
 }
 
 impl<'a> TextCommand for ApplyCommand<'a> {
     type Text = String;
 
-    type Failure = Fault<Failure, ListFailure<ChangeCause>>;
+    type Failure = ListFailure<ChangeCause>;
 
-    ghost is_answer = { λ command text. OfCombined (λ request lists.
-        IsChangedAnswer request lists command.changes.now text) command.session };
+    ghost is_answer = { λ c text. IsChangedText c.form c.grammar (IsMember c.set) c.changes.now text };
 
     ghost is_outcome = { λ _ succeeded. IsTrue succeeded };
 
-    ghost is_failure = { λ command. IsFault (HasNoResult command.session) (λ failure. OfCombined (λ request lists.
-        HoldsOfSet request lists (λ set. IsChangeFailure request.grammar (IsMember set) command.changes.now failure))
-        command.session) };
+    ghost is_failure = { λ c. IsChangeFailure c.grammar (IsMember c.set) c.changes.now };
 
-    fn answer(self) -> Result<(String, bool), Fault<Failure, ListFailure<ChangeCause>>> {
-        let ApplyCommand { session, changes } = self;
-        let alloc = session.alloc();
-        let Some(request) = session.request() else {
-            return Err(Fault::Lists(Failure::Count));
-        };
-        let set = session.into_set()?;
-        match changed_text(alloc, request.form, &set, changes, request.grammar) {
+    fn answer(self) -> Result<(String, bool), ListFailure<ChangeCause>> {
+        let ApplyCommand {
+            alloc,
+            set,
+            changes,
+            grammar,
+            form,
+        } = self;
+        match changed_text(alloc, form, &set, changes, grammar) {
             Ok(text) => Ok((text, true)),
-            Err(failure) => Err(Fault::Other(failure)),
+            Err(failure) => Err(failure),
         }
     }
 }

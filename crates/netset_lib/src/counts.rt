@@ -4,8 +4,6 @@ ghost use Rattle.ipnet_base.specs.Address.{IPv6};
 ghost use Rattle.ipnet_sets.specs.Members.{IsCountOf, IsMember, IsMemberOf};
 ghost use Rattle.netset_lib.specs.Counts.{IsCountsLine, IsCountLine, AreCountLines, IsTotalText, IsCountText};
 ghost use Rattle.netset_lib.specs.Counts.{IsComparison};
-ghost use Rattle.ipnet_lists.specs.Lists.{ListEntry, IsInEntries};
-ghost use Rattle.netset_lib.specs.ListSets.{HaveMembers};
 
 use ipnet_lists::name_of;
 use ipnet_sets::IpSet;
@@ -86,14 +84,13 @@ fn push_total(alloc: Global, text: &mut String, sets: &[IpSet]) -> Result<(), Al
     }
 }
 
-/// The counts of the sets, which have these names, and the total. The sets have the addresses of lists.
+/// The counts of the sets, which have these names, and the total.
 pub(crate) fn counts_text(
     alloc: Global,
     names: &[&str],
     sets: &[IpSet],
 ) -> Result<String, AllocError>
-    ensures { IfOk result (λ text. (entries : List (List ListEntry)) → HaveMembers sets.now entries
-        → IsCountText IsInEntries names.now entries (string_bytes text)) }
+    ensures { IfOk result (λ text. IsCountText IsMember names.now sets.now (string_bytes text)) }
 {
     let mut text = String::new(alloc);
     push_count_lines(&mut text, names, sets)?;

@@ -1,10 +1,12 @@
-//! The operations on the sets of lists.
-ghost use Rattle.std.specs.Prelude.{◌≡◌, ◌↔◌, ◌∷◌, [], IfOk, IsTrue, length};
+//! The operations on sets.
+ghost use Rattle.std.specs.Prelude.{◌≡◌, ◌↔◌, ◌∷◌, [], false, IfOk, IfErr, IsTrue};
 ghost use Rattle.ipnet_base.specs.Address.{IPv4, IPv6, Address, IsAddress, ip_address};
 ghost use Rattle.ipnet_sets.specs.ManySets.{IsInSome};
 ghost use Rattle.ipnet_sets.specs.Members.{IsMember, IsFromTo};
-ghost use Rattle.netset_lib.specs.Operations.{IsInFirstAlone, IsInComplement, IsInResult, IsChosen};
+ghost use Rattle.netset_lib.specs.Combinations.{HasFamily, IsInCombined, IsCombined, IsCombineFailure};
+ghost use Rattle.netset_lib.specs.Operations.{IsInFirstAlone, IsInComplement, IsChosen};
 
+use crate::failure::Failure;
 use ipnet::{IpAddr, Ipv4Addr, Ipv6Addr};
 use ipnet_sets::IpSet;
 use std::alloc::{AllocError, Global};
@@ -22,7 +24,7 @@ pub enum Families {
     Both,
 }
 
-/// An operation on lists.
+/// An operation, and the sets that it combines.
 ///
 /// ```text
 /// of 10.0.0.0-10.0.0.5 and 10.0.0.4-10.0.0.9
@@ -30,40 +32,20 @@ pub enum Families {
 /// Intersection           10.0.0.4-10.0.0.5
 /// Difference             10.0.0.0-10.0.0.3
 /// SymmetricDifference    10.0.0.0-10.0.0.3, 10.0.0.6-10.0.0.9
-/// Complement(Named), of the first alone: 0.0.0.0-9.255.255.255, 10.0.0.6-255.255.255.255
+/// Complement(Named), of the first: 0.0.0.0-9.255.255.255, 10.0.0.6-255.255.255.255
 /// ```
-#[derive(Clone, Copy, Debug, PartialEq, Eq)]
-pub enum ListOperation {
-    /// The addresses of all lists.
-    Union,
-    /// The addresses that are in every list.
-    Intersection,
-    /// The addresses of the first list that are in none of the others.
-    Difference,
-    /// The addresses that are in exactly one of two lists.
-    SymmetricDifference,
-    /// The addresses of some families that are not in the list.
-    Complement(Families),
-}
-
-impl ListOperation {
-    ghost use Rattle.netset_lib.specs.Operations.{IsCountFor};
-
-    /// Whether the operation takes this number of lists.
-    ///
-    /// ```text
-    /// Union takes 1 and more, Intersection and Difference 2 and more, SymmetricDifference 2, Complement 1
-    /// ```
-    pub fn takes(self, count: usize) -> bool
-        ensures { IsTrue result ↔ IsCountFor self count }
-    {
-        match self {
-            ListOperation::Union => count >= 1,
-            ListOperation::Intersection | ListOperation::Difference => count >= 2,
-            ListOperation::SymmetricDifference => count == 2,
-            ListOperation::Complement(_) => count == 1,
-        }
-    }
+#[derive(Drop)]
+pub enum Combination {
+    /// The addresses of all sets.
+    Union(Vec<IpSet>),
+    /// The addresses that are in every set. Without a set there are none.
+    Intersection(Vec<IpSet>),
+    /// The addresses of the first set that are in no other. Without a set there are none.
+    Difference(Vec<IpSet>),
+    /// The addresses that are in exactly one of two sets.
+    SymmetricDifference(IpSet, IpSet),
+    /// The addresses of some families that are not in the set.
+    Complement(Families, IpSet),
 }
 
 /// The addresses of the first set that are in none of the others.
@@ -133,6 +115,16 @@ fn addresses_of_families(
     ipv4.union(alloc, &ipv6)
 }
 
+/// The addresses of the first set that are in no other. Without a set there are none.
+fn difference_of_all(alloc: Global, sets: &[IpSet]) -> Result<IpSet, AllocError>
+    ensures { IfOk result (λ s. (x : Address) → IsMember s x ↔ IsInFirstAlone IsMember sets.now x) }
+{
+    match sets {
+        [first, others @ ..] => difference_of(alloc, first, others),
+        [] => Ok(IpSet::new(alloc)),
+    }
+}
+
 /// The addresses of the families that are not in the set.
 fn complement_of(alloc: Global, families: Families, set: &IpSet) -> Result<IpSet, AllocError>
     ensures { IfOk result (λ s. (x : Address)
@@ -140,27 +132,6 @@ fn complement_of(alloc: Global, families: Families, set: &IpSet) -> Result<IpSet
 {
     let all = addresses_of_families(alloc, families, set)?;
     all.difference(alloc, set)
-}
-
-/// Returns the result of the operation on the sets, or the empty set if it takes another number of sets. Fails if
-/// memory runs out.
-pub(crate) fn combine_sets(
-    alloc: Global,
-    operation: ListOperation,
-    sets: &[IpSet],
-) -> Result<IpSet, AllocError>
-    ensures { IfOk result (λ s. (x : Address) → IsMember s x ↔ IsInResult IsMember operation sets.now x) }
-{
-    match (operation, sets) {
-        (ListOperation::Union, sets) => IpSet::union_all(alloc, sets),
-        (ListOperation::Intersection, sets) => IpSet::intersection_all(alloc, sets),
-        (ListOperation::Difference, [first, others @ ..]) => difference_of(alloc, first, others),
-        (ListOperation::SymmetricDifference, [first, second]) => {
-            first.symmetric_difference(alloc, second)
-        }
-        (ListOperation::Complement(families), [set]) => complement_of(alloc, families, set),
-        _ => Ok(IpSet::new(alloc)),
-    }
 }
 
 /// Returns the union of the sets. The union of one set is that set, and not a copy of it.
@@ -173,16 +144,49 @@ fn union_of_owned(alloc: Global, mut sets: Vec<IpSet>) -> Result<IpSet, AllocErr
     IpSet::union_all(alloc, sets.as_slice())
 }
 
-/// Returns the same as `combine_sets`, but copies no set if the operation is the union of one set.
-pub(crate) fn combine_owned_sets(
-    alloc: Global,
-    operation: ListOperation,
-    sets: Vec<IpSet>,
-) -> Result<IpSet, AllocError>
-    ensures { IfOk result (λ s. (x : Address) → IsMember s x ↔ IsInResult IsMember operation sets.items x) }
+/// Whether the complement is asked for the families of a set without an address.
+fn has_no_family(combination: &Combination) -> bool
+    ensures yes { IsTrue result → ¬ (HasFamily combination.now) }
+    ensures no { result ≡ false → HasFamily combination.now }
 {
-    match operation {
-        ListOperation::Union => union_of_owned(alloc, sets),
-        _ => combine_sets(alloc, operation, sets.as_slice()),
+    match combination {
+        Combination::Complement(Families::Named, set) => set.is_empty(),
+        Combination::Complement(Families::Ipv4 | Families::Ipv6 | Families::Both, _) => false,
+        Combination::Union(_) | Combination::Intersection(_) | Combination::Difference(_) => false,
+        Combination::SymmetricDifference(_, _) => false,
     }
+}
+
+/// The result of the operation.
+fn combined_set(alloc: Global, combination: Combination) -> Result<IpSet, AllocError>
+    ensures { IfOk result (λ s. (x : Address) → IsMember s x ↔ IsInCombined combination x) }
+{
+    match combination {
+        Combination::Union(sets) => union_of_owned(alloc, sets),
+        Combination::Intersection(sets) => IpSet::intersection_all(alloc, sets.as_slice()),
+        Combination::Difference(sets) => difference_of_all(alloc, sets.as_slice()),
+        Combination::SymmetricDifference(first, second) => {
+            first.symmetric_difference(alloc, &second)
+        }
+        Combination::Complement(families, set) => complement_of(alloc, families, &set),
+    }
+}
+
+/// Returns the result of the operation on the sets.
+///
+/// The error is `NoFamily` for the complement of a set without an address, if no family is chosen; and otherwise
+/// `Memory`, if memory runs out.
+///
+/// ```text
+/// Difference of 10.0.0.0/30 and 10.0.0.3:  10.0.0.0 to 10.0.0.2
+/// Complement(Named) of no address:         NoFamily
+/// ```
+pub fn combine(alloc: Global, combination: Combination) -> Result<IpSet, Failure>
+    ensures combined { IfOk result (IsCombined combination) }
+    ensures failure { IfErr result (IsCombineFailure combination) }
+{
+    if has_no_family(&combination) {
+        return Err(Failure::NoFamily);
+    }
+    Ok(combined_set(alloc, combination)?)
 }

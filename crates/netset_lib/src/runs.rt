@@ -7,12 +7,9 @@ ghost use Rattle.ipnet_lists.specs.Reports.{OfNew, IsReport};
 ghost use Rattle.ipnet_lists.specs.Reports as lists;
 ghost use Rattle.ipnet_text.specs.Outputs.{IsWritten, IsFrontWritten};
 ghost use Rattle.netset_lib.specs.ListReports.{IsListReport, IsListBegun};
-ghost use Rattle.netset_lib.specs.Reports.{IsFailureReport, IsFailureBegun, words_line, unwritable};
+ghost use Rattle.netset_lib.specs.Reports.{words_line, unwritable};
 ghost use Rattle.netset_lib.specs.Runs.{IsReported, IsReportBegun, OfFault, exit_of_fault};
-ghost use Rattle.netset_lib.specs.declared.runs.Fault.TheVariants.{Lists};
 
-use crate::failure::Failure;
-use crate::program::report_failure;
 use crate::reports::{OUT_OF_MEMORY, UNWRITABLE, report_words};
 use crate::write::write_and_flush;
 use ipnet_lists::{LineCause, ListFailure, Refusals, report_refused, report_since};
@@ -124,30 +121,6 @@ pub enum Fault<L, F> {
     Lists(L),
     /// The question about them has no answer.
     Other(F),
-}
-
-impl<F: Drop> From<Failure> for Fault<Failure, F> {
-    ghost from_gives = { λ failure result. result ≡ Lists failure };
-
-    fn from(failure: Failure) -> Fault<Failure, F> {
-        Fault::Lists(failure)
-    }
-}
-
-impl Report for Failure {
-    ghost exit = { λ _. 2 };
-
-    ghost is_reported = { λ failure names. IsWritten (IsFailureReport failure names) };
-
-    ghost is_begun = { λ failure names. IsFrontWritten (IsFailureBegun failure names) };
-
-    fn status(&self) -> u8 {
-        2
-    }
-
-    fn report<X: Write>(&self, names: &[&str], faults: &mut X) -> io::Result<()> {
-        report_failure(faults, names, self)
-    }
 }
 
 impl<C: LineCause> Report for ListFailure<C> {

@@ -2,7 +2,6 @@
 use Rattle.std.specs.Prelude.{ℕ, List, codes}
 use Rattle.ipnet_base.specs.Address.{Address}
 use Rattle.ipnet_base.specs.Network.{Network}
-use Rattle.ipnet.specs.declared.parser.Grammar.{Grammar}
 use Rattle.ipnet_bars.specs.declared.bar.BarForm.{BarForm}
 use Rattle.ipnet_bars.specs.declared.frame.Frame.{Frame}
 use Rattle.ipnet_bars.specs.declared.marks.RowWidth.{RowWidth}
@@ -12,9 +11,6 @@ use Rattle.ipnet_bars.specs.ComparisonBars.{IsComparisonBar}
 use Rattle.ipnet_bars.specs.Frames.{IsFrame, HasNoFrame}
 use Rattle.ipnet_sets.specs.declared.set.IpSet.{IpSet}
 use Rattle.ipnet_sets.specs.Members.{IsMember, IsUnion}
-use Rattle.netset_lib.specs.declared.answer.Request.{Request}
-use Rattle.netset_lib.specs.PairSets.{ArePairSets}
-use Rattle.netset_lib.specs.PlanAnswers.{IsResultSet}
 
 -- The number of marks in a row, as a word of a command line.
 abbrev pub width_text : RowWidth → List ℕ
@@ -39,21 +35,6 @@ pub record IsFramedComparison (before after : IpSet) (frame : Frame) (form : Bar
   pub network : Network
   pub is_frame : IsFrame frame (IsMember all) network
   pub bar : IsComparisonBar (IsMember before) (IsMember after) network form.row_width form.marks text
-
--- No line of the lists is refused, and the text is the bar of the addresses of the operation's result.
-pub record IsBarAnswer (request : Request) (lists : List (List ℕ)) (frame : Frame) (form : BarForm) (text : List ℕ)
-    : Type 0 where
-  pub set : IpSet
-  pub result : IsResultSet request lists set
-  pub right : IsFramedBar (IsMember set) frame form text
-
--- No line of the two lists is refused, and the text is the bar that compares their addresses.
-pub record IsComparisonAnswer (grammar : Grammar) (lists : List (List ℕ)) (frame : Frame) (form : BarForm)
-    (text : List ℕ) : Type 0 where
-  pub before : IpSet
-  pub after : IpSet
-  pub pair : ArePairSets grammar lists before after
-  pub right : IsFramedComparison before after frame form text
 
 -- The two sets together have no address around which to draw a frame.
 abbrev pub HasNoCommonFrame : Frame → IpSet → IpSet → Type 0

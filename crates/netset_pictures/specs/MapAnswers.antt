@@ -1,15 +1,10 @@
 -- Maps of lists: the network that a map shows, and its document.
 use Rattle.std.specs.Prelude.{ℕ, List, codes}
 use Rattle.ipnet_base.specs.Network.{Network}
-use Rattle.ipnet.specs.declared.parser.Grammar.{Grammar}
 use Rattle.ipnet_bars.specs.Frames.{IsFrame}
 use Rattle.ipnet_sets.specs.declared.set.IpSet.{IpSet}
 use Rattle.ipnet_sets.specs.ManySets.{IsInSome}
 use Rattle.ipnet_sets.specs.Members.{IsMember, IsUnion}
-use Rattle.netset_lib.specs.declared.answer.Request.{Request}
-use Rattle.netset_lib.specs.PairSets.{ArePairSets}
-use Rattle.netset_lib.specs.PlanAnswers.{IsResultSet}
-use Rattle.netset_lib.specs.SetsOf.{AreSetsOf}
 use Rattle.svg_maps.specs.declared.style.Theme.{Theme}
 use Rattle.svg_maps.specs.declared.style.Theme.TheVariants.{Auto, Light, Dark}
 use Rattle.svg_maps.specs.Overlays.{IsOutlinedSetMap, IsOutlinedChangeMap, IsOutlinedSetsMap}
@@ -45,25 +40,3 @@ pub record IsFramedChangeMap (before after : IpSet) (request : MapRequest) (text
   pub network : Network
   pub is_frame : IsFrame request.frame (IsMember all) network
   pub shown : IsOutlinedChangeMap request.look before after network text
-
--- No line of the lists is refused, and the text is the map of the addresses of the operation's result.
-pub record IsMapAnswer (operation : Request) (lists : List (List ℕ)) (request : MapRequest) (text : List ℕ) : Type 0
-  where
-    pub set : IpSet
-    pub result : IsResultSet operation lists set
-    pub right : IsFramedMap set request text
-
--- No line of the lists is refused, and the text is the map of their addresses, each list by its name.
-pub record IsSetsMapAnswer (operation : Request) (lists names : List (List ℕ)) (request : MapRequest) (text : List ℕ)
-    : Type 0 where
-  pub sets : List IpSet
-  pub of_lists : AreSetsOf operation.grammar lists sets
-  pub right : IsFramedSetsMap sets names request text
-
--- No line of the two lists is refused, and the text is the map of the change from the first list to the second.
-pub record IsChangeMapAnswer (grammar : Grammar) (lists : List (List ℕ)) (request : MapRequest) (text : List ℕ) : Type 0
-  where
-    pub before : IpSet
-    pub after : IpSet
-    pub pair : ArePairSets grammar lists before after
-    pub right : IsFramedChangeMap before after request text

@@ -10,9 +10,8 @@ use Rattle.ipnet_bars.specs.Parts.{HasNone}
 use Rattle.ipnet_pools.specs.Plans.{IsPlan, KeepsRoom}
 use Rattle.ipnet_sets.specs.declared.set.IpSet.{IpSet}
 use Rattle.ipnet_sets.specs.Members.{IsMember}
-use Rattle.netset_lib.specs.declared.answer.Request.{Request}
 use Rattle.netset_lib.specs.declared.operation.Families.{Families}
-use Rattle.netset_lib.specs.PlanAnswers.{IsPlanFamily, IsResultSet}
+use Rattle.netset_lib.specs.PlanAnswers.{IsPlanFamily}
 
 -- The address is in the frame, and is not free after the plan: it is not in the set, or a planned network covers it.
 -- Example: 10.0.0.0 to 10.0.0.63 in 10.0.0.0/24, if the set is 10.0.0.0/24 and 10.0.0.0/26 is planned.
@@ -42,10 +41,3 @@ pub record IsPlanBarText (InSet : Address → Type 0) (families : Families) (len
   pub plan : IsPlan InSet family lengths networks
   pub keeps : KeepsRoom InSet family lengths networks
   pub shown : (HasNone InSet (all_of family) × (text ≡ [])) ⊎ IsBarOfPlan InSet family networks form text
-
--- No line of the lists is refused, and the text is the bar of a plan in the addresses of the operation's result.
-pub record IsPlanBarAnswer (request : Request) (lists : List (List ℕ)) (families : Families) (lengths : List ℕ)
-    (form : BarForm) (text : List ℕ) : Type 0 where
-  pub set : IpSet
-  pub result : IsResultSet request lists set
-  pub right : IsPlanBarText (IsMember set) families lengths form text

@@ -1,4 +1,4 @@
--- Runs of the filter of a log, by the lists of its set.
+-- Runs of the filter of a log, by its set.
 use Rattle.std.proofs.Common.{◌≡◌, ◌≤◌, ◌==◌, ◌↔◌, ℕ, List, [], ◌∷◌, ◌++◌, length, Option, refl, sym, ap, ◌∙◌, subst}
 use Rattle.std.proofs.Common.{arith}
 use Rattle.std.proofs.Common.{append-nil}
@@ -6,10 +6,9 @@ use Rattle.std.specs.Io.KnownBytes.{Appends, Keeps}
 use Rattle.std.proofs.KnownBytes.{Keeps-trans}
 use Rattle.ipnet.specs.Lines.{lines_of}
 use Rattle.ipnet_sets.specs.Members.{IsMember}
-use Rattle.netset_lib.specs.declared.answer.Request.{Request}
+use Rattle.ipnet_sets.specs.declared.set.IpSet.{IpSet}
 use Rattle.netset_lib.specs.Filters.{IsOnSide}
-use Rattle.ipnet_lists.specs.Lists.{IsInEntries, after_mark}
-use Rattle.netset_lib.specs.Operations.{IsInResult}
+use Rattle.ipnet_lists.specs.Lists.{after_mark}
 use Rattle.netset_words.specs.declared.line_filter.LineFilter.{LineFilter}
 use Rattle.netset_words.specs.declared.lines_program.FilteredLog.{FilteredLog}
 use Rattle.netset_words.specs.declared.log_line.LinesRequest.{LinesRequest}
@@ -22,18 +21,17 @@ use Rattle.netset_words.proofs.LogBytes.{whole_result}
 use Rattle.netset_words.proofs.LogSets.{same_lines}
 
 -- the result of a log, with the counts
-abbrev IsResultFor : Request → LinesRequest → List (List ℕ) → Option (List ℕ) → Option (List ℕ) → Option (List ℕ)
+abbrev IsResultFor : LinesRequest → IpSet → Option (List ℕ) → Option (List ℕ) → Option (List ℕ)
     → Option (List ℕ) → FilteredLog → Type 0
-IsResultFor request how lists left left_after held held_after log =
-    (r : LogResult) × HasCounts log r × IsLogFiltered request how lists left left_after held held_after r
+IsResultFor how set left left_after held held_after log =
+    (r : LogResult) × HasCounts log r × IsLogFiltered how set left left_after held held_after r
 
-module _ (request : Request) (how : LinesRequest) (lists : List (List ℕ)) (left left_after held held_after : Option
-    (List ℕ)) where
+module _ (how : LinesRequest) (set : IpSet) (left left_after held held_after : Option (List ℕ)) where
   -- a log that was read to its end
-  pub log_filtered : (filter f : LineFilter) (log : FilteredLog) → IsFilterFor request how lists filter
+  pub log_filtered : (filter f : LineFilter) (log : FilteredLog) → IsFilterFor how set filter
       → IsStreamed how filter.set left left_after held held_after f → log.printed ≡ f.answers.printed
       → log.nones ≡ f.answers.nones → log.undecided ≡ f.undecided
-      → IsResultFor request how lists left left_after held held_after log
+      → IsResultFor how set left left_after held held_after log
   log_filtered filter f log h s printed nones undecided =
       let lines = lines_of (after_mark s.bytes) in
       let w = whole_result how filter.set s.written 0 lines f s.all in (
@@ -44,35 +42,28 @@ module _ (request : Request) (how : LinesRequest) (lists : List (List ℕ)) (lef
           undecided = rw undecided w.undecided;
         },
         record {
-          entries = h.entries;
-          read = h.read;
           bytes = s.bytes;
           given = s.given;
           right = same_lines how (IsMember filter.set)
-              (IsOnSide how.side (IsInResult IsInEntries request.operation h.entries)) h.same 1 lines w.result w.are;
+              (IsOnSide how.side (IsMember set)) h.same 1 lines w.result w.are;
           written = subst (Appends held held_after)
               (sym (append-nil s.written) ∙ ap (λ z. s.written ++ z) (sym s.none) ∙ w.text) s.out;
         },
       )
 
   -- and one that was not
-  pub log_in_part : (filter : LineFilter) → IsFilterFor request how lists filter
+  pub log_in_part : (filter : LineFilter) → IsFilterFor how set filter
       → IsFrontPrinted how (IsMember filter.set) left held held_after
-      → IsLogFilteredInPart request how lists left held held_after
+      → IsLogFilteredInPart how set left held held_after
   log_in_part filter h p = record {
-    entries = h.entries;
-    read = h.read;
-    printed = record {
-      lines = p.lines;
-      others = p.others;
-      front = p.front;
-      result = p.result;
-      right = same_lines how (IsMember filter.set)
-          (IsOnSide how.side (IsInResult IsInEntries request.operation h.entries)) h.same 1 p.lines p.result p.right;
-      part = p.part;
-      begins = p.begins;
-      written = p.written;
-    };
+    lines = p.lines;
+    others = p.others;
+    front = p.front;
+    result = p.result;
+    right = same_lines how (IsMember filter.set) (IsOnSide how.side (IsMember set)) h.same 1 p.lines p.result p.right;
+    part = p.part;
+    begins = p.begins;
+    written = p.written;
   }
 
   no_refusal : (rs : List WordRefusal) → length rs ≡ 0 → rs ≡ []
@@ -83,9 +74,9 @@ module _ (request : Request) (how : LinesRequest) (lists : List (List ℕ)) (lef
   pub all_decided : (log : FilteredLog) (status : ℕ) → status ≤ 1 → (status ≤ 1) ↔ (log.undecided.count ≡ 0)
       → (status ≤ 1 → log.printed ≡ (status == 0)) → (faults then after : Option (List ℕ))
       → (log.undecided.count ≡ 0 → Keeps faults then) → (log.nones ≡ 0 → Keeps then after)
-      → IsResultFor request how lists left left_after held held_after log
+      → IsResultFor how set left left_after held held_after log
       → ((r : LogResult) × (r.undecided ≡ []) × (r.printed ≡ (status == 0)) × (r.nones ≡ 0 → Keeps faults after)
-      × IsLogFiltered request how lists left left_after held held_after r)
+      × IsLogFiltered how set left left_after held held_after r)
   all_decided log status few decided printed faults then after quiet report (r, counts, is) = (
     r,
     no_refusal r.undecided (sym counts.undecided.count ∙ decided.0 few),
@@ -96,8 +87,8 @@ module _ (request : Request) (how : LinesRequest) (lists : List (List ℕ)) (lef
 
   -- and if some are not
   pub some_undecided : (log : FilteredLog) (status : ℕ) → status ≡ 2 → (status ≤ 1) ↔ (log.undecided.count ≡ 0)
-      → IsResultFor request how lists left left_after held held_after log
-      → IsLogFilteredButSome request how lists left left_after held held_after
+      → IsResultFor how set left left_after held held_after log
+      → IsLogFilteredButSome how set left left_after held held_after
   some_undecided log status two decided (r, counts, is) = record {
     result = r;
     some = λ none. let few = decided.1 (counts.undecided.count ∙ ap length none) in absurd (omega (arith, few, two));

@@ -2,9 +2,6 @@
 use Rattle.std.proofs.Common.{◌⊎◌, ◌↔◌, ℕ, ◌+◌, Bool, true, false, List, [], ◌∷◌, inl, inr}
 use Rattle.std.proofs.lemmas.List.Elements.{All-weaker}
 use Rattle.ipnet_base.specs.Address.{Address, IsAddress}
-use Rattle.netset_lib.specs.declared.filter.Side.{Side}
-use Rattle.netset_lib.specs.declared.filter.Side.TheVariants as Sides
-use Rattle.netset_lib.specs.Filters.{IsOnSide}
 use Rattle.netset_words.specs.declared.log_line.LinesRequest.{LinesRequest}
 use Rattle.netset_words.specs.declared.log_line.Verdict.{Verdict}
 use Rattle.netset_words.specs.declared.log_line.Verdict.TheVariants as Verdicts
@@ -66,15 +63,3 @@ module _ (how : LinesRequest) (P Q : Address → Type 0) (same : (x : Address) �
   same_lines n [] r h = h
   same_lines n (line ∷ lines) r (a, b, is, more, both) =
       (a, b, one_line n line a is, same_lines (n + 1) lines b more, both)
-
--- ---- the sides of a set
-
-on_side : (side : Side) (P Q : Address → Type 0) (x : Address) → P x ↔ Q x → IsOnSide side P x ↔ IsOnSide side Q x
-on_side Sides.Inside P Q x h = h
-on_side Sides.Outside P Q x h = (λ no is. no (h.1 is), λ no is. no (h.0 is))
-
-pub on_same_side : (side : Side) (A P Q : Address → Type 0) (x : Address) → A x ↔ IsOnSide side P x → P x ↔ Q x
-    → A x ↔ IsOnSide side Q x
-on_same_side side A P Q x h same =
-    let sides = on_side side P Q x same in
-    (λ a. sides.0 (h.0 a), λ q. h.1 (sides.1 q))

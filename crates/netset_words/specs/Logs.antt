@@ -5,12 +5,10 @@ use Rattle.std.specs.Io.KnownBytes.{Appends}
 use Rattle.ipnet.specs.Lines.{lines_of}
 use Rattle.ipnet_base.specs.Address.{Address, IsAddress}
 use Rattle.ipnet_sets.specs.Members.{IsMember}
+use Rattle.ipnet_sets.specs.declared.set.IpSet.{IpSet}
 use Rattle.ipnet_text.specs.Inputs.{GaveWhole}
-use Rattle.netset_lib.specs.declared.answer.Request.{Request}
-use Rattle.netset_lib.specs.Answers.{AreListsRead}
 use Rattle.netset_lib.specs.Filters.{IsOnSide}
-use Rattle.ipnet_lists.specs.Lists.{ListEntry, IsInEntries, after_mark}
-use Rattle.netset_lib.specs.Operations.{IsInResult}
+use Rattle.ipnet_lists.specs.Lists.{after_mark}
 use Rattle.netset_words.specs.declared.line_filter.LineFilter.{LineFilter}
 use Rattle.netset_words.specs.declared.lines_program.FilteredLog.{FilteredLog}
 use Rattle.netset_words.specs.declared.log_line.LinesRequest.{LinesRequest}
@@ -18,27 +16,24 @@ use Rattle.ipnet_lists.specs.RefusedLines.{AreRefused}
 use Rattle.netset_words.specs.LogLines.{LogResult, IsLog, AreLogLines}
 use Rattle.netset_words.specs.FilterSteps.{IsLogUpTo}
 
--- No line of the lists is refused. The reader gave the bytes of a log, up to their end, and exactly the lines of the
--- result were written. An entry is inside the set if it lies in the addresses of the operation's result.
--- Example: by the union of one list with `10.0.0.0/8`, the log `"10.0.0.1 GET /\n::1 GET /\nx\n"` has one printed line,
+-- The reader gave the bytes of a log, up to their end, and exactly the lines of the result were written.
+-- Example: by the set 10.0.0.0/8, the log `"10.0.0.1 GET /\n::1 GET /\nx\n"` has one printed line,
 -- `10.0.0.1 GET /`, and one line without an entry.
-pub record IsLogFiltered (request : Request) (how : LinesRequest) (lists : List (List ℕ))
-    (left left_after held held_after : Option (List ℕ)) (result : LogResult) : Type 0 where
-  pub entries : List (List ListEntry)
-  pub read : AreListsRead request.grammar 0 lists entries []
+pub record IsLogFiltered (how : LinesRequest) (set : IpSet) (left left_after held held_after : Option (List ℕ))
+    (result : LogResult) : Type 0 where
   pub bytes : List ℕ
   pub given : GaveWhole left left_after bytes
-  pub right : IsLog how (IsOnSide how.side (IsInResult IsInEntries request.operation entries)) bytes result
+  pub right : IsLog how (IsOnSide how.side (IsMember set)) bytes result
   pub written : Appends held held_after result.text
 
 -- A log was read up to its end, and some of its lines are not decided. Exactly the lines of the result were written:
 -- each of the other lines that is to be printed.
 -- Example: of a line of 2 MiB without an entry, and `10.0.0.1`, only `10.0.0.1` was written.
-pub record IsLogFilteredButSome (request : Request) (how : LinesRequest) (lists : List (List ℕ))
-    (left left_after held held_after : Option (List ℕ)) : Type 0 where
+pub record IsLogFilteredButSome (how : LinesRequest) (set : IpSet) (left left_after held held_after : Option (List ℕ))
+    : Type 0 where
   pub result : LogResult
   pub some : result.undecided ≢ []
-  pub filtered : IsLogFiltered request how lists left left_after held held_after result
+  pub filtered : IsLogFiltered how set left left_after held held_after result
 
 -- The reader had the bytes `left` of a log. A first part of what is printed of its first lines was written.
 -- Example: the reader of `10.0.0.1\n::1\n10.0.0.2\n` fails after two lines. By `10.0.0.0/8`, `10.0.0.1\n` was written,
@@ -54,21 +49,14 @@ pub record IsFrontPrinted (how : LinesRequest) (InSet : Address → Type 0) (lef
   pub begins : StartsWith result.text part
   pub written : Appends held held_after part
 
--- No line of the lists is refused, and a first part of what is printed of a log was written.
-pub record IsLogFilteredInPart (request : Request) (how : LinesRequest) (lists : List (List ℕ))
-    (left held held_after : Option (List ℕ)) : Type 0 where
-  pub entries : List (List ListEntry)
-  pub read : AreListsRead request.grammar 0 lists entries []
-  pub printed : IsFrontPrinted how (IsOnSide how.side (IsInResult IsInEntries request.operation entries)) left held
-      held_after
-
--- The filter has read no line of a log. Its set is the result of the lists, on the side that is asked for.
-pub record IsFilterFor (request : Request) (how : LinesRequest) (lists : List (List ℕ)) (f : LineFilter) : Type 0 where
-  pub entries : List (List ListEntry)
-  pub read : AreListsRead request.grammar 0 lists entries []
-  pub same : (x : Address) → IsAddress x
-      → IsMember f.set x ↔ IsOnSide how.side (IsInResult IsInEntries request.operation entries) x
+-- The filter has read no line of a log. Its set is this one, on the side that is asked for.
+pub record IsFilterFor (how : LinesRequest) (set : IpSet) (f : LineFilter) : Type 0 where
+  pub same : (x : Address) → IsAddress x → IsMember f.set x ↔ IsOnSide how.side (IsMember set) x
   pub begun : IsLogUpTo how f.set [] 0 [] f
+
+-- A first part of what is printed of a log by this set was written.
+abbrev pub IsLogFilteredInPart : LinesRequest → IpSet → Option (List ℕ) → Option (List ℕ) → Option (List ℕ) → Type 0
+IsLogFilteredInPart how set = IsFrontPrinted how (IsOnSide how.side (IsMember set))
 
 -- These are the counts of the result.
 pub record HasCounts (log : FilteredLog) (result : LogResult) : Type 0 where

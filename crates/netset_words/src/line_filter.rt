@@ -1,15 +1,11 @@
 //! The lines of a log, read one after another. A line longer than 1 MiB is decided by its front.
 ghost use Rattle.std.specs.Prelude.{◌≡◌, ◌≢◌, ◌≤◌, ◌<◌, ◌+◌, ◌-◌, ◌++◌, ◌∷◌, [], List, ℕ, All, length, take, OnOk};
-ghost use Rattle.std.specs.Prelude.{Err, IfErr, IfOk};
+ghost use Rattle.std.specs.Prelude.{IfOk};
 ghost use Rattle.std.specs.Prelude.{if◌then◌else◌, not};
 ghost use Rattle.std.specs.List.{suffix_len};
 ghost use Rattle.ipnet_sets.specs.Members.{IsMember};
 ghost use Rattle.ipnet_sets.specs.declared.set.IpSet.{IpSet};
 ghost use Rattle.ipnet.specs.Lines.{lines_of};
-ghost use Rattle.netset_lib.specs.Replies.{IsWorkFailure, TakesCount};
-ghost use Rattle.netset_lib.specs.Sessions.{WereRead};
-ghost use Rattle.netset_lib.specs.declared.answer.Request.{Request};
-ghost use Rattle.netset_lib.specs.declared.command.Work.TheVariants.{Combine};
 ghost use Rattle.netset_words.specs.declared.log_line.LinesRequest.{LinesRequest};
 ghost use Rattle.netset_words.specs.declared.line_filter.Rest.TheVariants.{Kept};
 ghost use Rattle.ipnet_lists.specs.RefusedLines.{HasMore};
@@ -26,7 +22,6 @@ use ipnet_lists::{RefusedPart, next_number};
 use ipnet_sets::IpSet;
 use memchr::memchr;
 use netset_lib::filter::side_set;
-use netset_lib::{Failure, Session};
 use std::alloc::{AllocError, Global};
 
 /// At most this many bytes of a line are kept: 1 MiB.
@@ -225,25 +220,14 @@ impl LineFilter {
     ghost use Rattle.netset_words.specs.FilterSteps.{IsFilterUpTo, IsLogUpTo, ReadsUpTo, GoesOn, EndsLine, ReadsEnd};
     ghost use Rattle.netset_words.specs.FilterSteps.{EndsLog};
 
-    /// Returns a filter that has read no line. The set is the result of the session. The error is a failure of the
-    /// session, as `Session::into_set` has it.
+    /// Returns a filter that has read no line. Fails if memory runs out.
     ///
     /// ```text
-    /// of a union that has read "10.0.0.0/8\n", with Side::Outside: entries that lie outside 10.0.0.0/8 choose a line
+    /// by 10.0.0.0/8, with Side::Outside: entries that lie outside 10.0.0.0/8 choose a line
     /// ```
-    pub fn from_session(
-        alloc: Global,
-        session: Session,
-        how: LinesRequest,
-    ) -> Result<LineFilter, Failure>
-        ensures filter { IfOk result (λ f. (request : Request) → (lists : List (List ℕ))
-            → WereRead (Combine request) lists session → IsFilterFor request how lists f) }
-        ensures failure { IfErr result (λ failure. (request : Request) → (lists : List (List ℕ))
-            → WereRead (Combine request) lists session → IsWorkFailure (Combine request) lists failure) }
-        ensures count { (request : Request) → (lists : List (List ℕ)) → WereRead (Combine request) lists session
-            → ¬ (TakesCount (Combine request) (length lists)) → result ≡ Err Failure.Count }
+    pub fn from_set(alloc: Global, set: IpSet, how: LinesRequest) -> Result<LineFilter, AllocError>
+        ensures { IfOk result (IsFilterFor how set) }
     {
-        let set = session.into_set()?;
         let side = side_set(alloc, how.side, set)?;
         Ok(LineFilter::new(alloc, how, side))
     }

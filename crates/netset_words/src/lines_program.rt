@@ -7,7 +7,6 @@ ghost use Rattle.ipnet_sets.specs.Members.{IsMember};
 ghost use Rattle.ipnet_sets.specs.declared.set.IpSet.{IpSet};
 ghost use Rattle.ipnet_text.specs.Inputs.{GaveWhole};
 ghost use Rattle.ipnet_lists.specs.Lists.{after_mark};
-ghost use Rattle.netset_lib.specs.declared.answer.Request.{Request};
 ghost use Rattle.netset_words.specs.declared.log_line.LinesRequest.{LinesRequest};
 ghost use Rattle.netset_words.specs.LogLines.{LogResult};
 ghost use Rattle.netset_words.specs.Logs.{IsLogFiltered, IsLogFilteredButSome, IsLogFilteredInPart, IsFrontPrinted};
@@ -133,15 +132,15 @@ pub fn filter_log<R: Read, W: Write, X: Write>(
     out: &mut W,
     faults: &mut X,
 ) -> Result<FilteredLog, LogFailure>
-    ensures whole { IfOk result (λ log. (request : Request) → (how : LinesRequest) → (lists : List (List ℕ))
-        → IsFilterFor request how lists filter
-        → ((r : LogResult) × HasCounts log r × IsLogFiltered request how lists (R.remaining input.old)
+    ensures whole { IfOk result (λ log. (how : LinesRequest) → (set : IpSet)
+        → IsFilterFor how set filter
+        → ((r : LogResult) × HasCounts log r × IsLogFiltered how set (R.remaining input.old)
         (R.remaining input.new) (W.contents out.old) (W.contents out.new) r)) }
-    ensures part { IfErr result (λ _. (request : Request) → (how : LinesRequest) → (lists : List (List ℕ))
-        → IsFilterFor request how lists filter → IsLogFilteredInPart request how lists (R.remaining input.old)
+    ensures part { IfErr result (λ _. (how : LinesRequest) → (set : IpSet)
+        → IsFilterFor how set filter → IsLogFilteredInPart how set (R.remaining input.old)
         (W.contents out.old) (W.contents out.new)) }
-    ensures quiet { IfOk result (λ log. (request : Request) → (how : LinesRequest) → (lists : List (List ℕ))
-        → IsFilterFor request how lists filter → log.undecided.count ≡ 0
+    ensures quiet { IfOk result (λ log. (how : LinesRequest) → (set : IpSet)
+        → IsFilterFor how set filter → log.undecided.count ≡ 0
         → Keeps (X.contents faults.old) (X.contents faults.new)) }
 {
     let LineFilter {
@@ -219,17 +218,17 @@ pub fn run_lines<R: Read, W: Write, X: Write>(
     faults: &mut X,
 ) -> u8
     ensures status { result ≤ 2 }
-    ensures filtered { result ≤ 1 → (request : Request) → (how : LinesRequest) → (lists : List (List ℕ))
-        → IsFilterFor request how lists filter
+    ensures filtered { result ≤ 1 → (how : LinesRequest) → (set : IpSet)
+        → IsFilterFor how set filter
         → ((r : LogResult) × (r.undecided ≡ []) × (r.printed ≡ (result == 0))
         × (r.nones ≡ 0 → Keeps (X.contents faults.old) (X.contents faults.new))
-        × IsLogFiltered request how lists (R.remaining input.old) (R.remaining input.new)
+        × IsLogFiltered how set (R.remaining input.old) (R.remaining input.new)
         (W.contents out.old) (W.contents out.new) r) }
-    ensures cut_short { result ≡ 2 → (request : Request) → (how : LinesRequest) → (lists : List (List ℕ))
-        → IsFilterFor request how lists filter
-        → IsLogFilteredButSome request how lists (R.remaining input.old) (R.remaining input.new)
+    ensures cut_short { result ≡ 2 → (how : LinesRequest) → (set : IpSet)
+        → IsFilterFor how set filter
+        → IsLogFilteredButSome how set (R.remaining input.old) (R.remaining input.new)
         (W.contents out.old) (W.contents out.new)
-        ⊎ IsLogFilteredInPart request how lists (R.remaining input.old) (W.contents out.old) (W.contents out.new) }
+        ⊎ IsLogFilteredInPart how set (R.remaining input.old) (W.contents out.old) (W.contents out.new) }
 {
     let name = names.get(1).copied().unwrap_or("log");
     match filter_log(filter, names, input, out, faults) {

@@ -1,24 +1,30 @@
 //! Facts about changes that are applied, each the contract of a function that computes nothing.
-ghost use Rattle.std.specs.Prelude.{◌≡◌, ◌∷◌, List, [], ℕ};
-ghost use Rattle.netset_lib.specs.Answers.{IsAnswer};
-ghost use Rattle.netset_lib.specs.Changes.{IsChangesAnswer};
-ghost use Rattle.netset_lib.specs.ChangeLists.{IsChangedAnswer, HaveRefusedChanges};
-ghost use Rattle.netset_lib.specs.declared.operation.ListOperation.TheVariants.{Union};
+ghost use Rattle.std.specs.Prelude.{List};
+ghost use Rattle.ipnet_lists.specs.Lists.{RefusalFor};
+ghost use Rattle.ipnet_sets.specs.Members.{IsMember};
+ghost use Rattle.netset_lib.specs.Answers.{IsSetText};
+ghost use Rattle.netset_lib.specs.Changes.{AreChangeLines};
+ghost use Rattle.netset_lib.specs.ChangeLists.{IsChangedText, HasRefusedChanges};
+ghost use Rattle.netset_lib.specs.declared.change_line.ChangeCause.{ChangeCause};
 
-use crate::answer::Request;
+use crate::answer::Form;
+use ipnet::Grammar;
+use ipnet_sets::IpSet;
 
-/// The changes from one list to another, applied to the first list, give the answer of the union of the other list.
-/// None of them is refused. The request is of a union; it has the grammar of the lists and the form of the answers.
+/// The changes from one set to another, applied to the first set, give the text of the other set. None of them is
+/// refused, in either grammar.
 pub fn applied_changes_make_the_other_answer(
-    request: Request,
-    old: &[u8],
-    new: &[u8],
+    form: Form,
+    grammar: Grammar,
+    before: &IpSet,
+    after: &IpSet,
     changes: &[u8],
+    text: &[u8],
 )
-    ensures answer { (text : List ℕ) → request.operation ≡ Union
-        → IsChangesAnswer request.grammar (old.now ∷ new.now ∷ []) changes.now
-        → IsChangedAnswer request (old.now ∷ []) changes.now text → IsAnswer request (new.now ∷ []) text }
-    ensures accepted { request.operation ≡ Union
-        → IsChangesAnswer request.grammar (old.now ∷ new.now ∷ []) changes.now
-        → ¬ (HaveRefusedChanges request (old.now ∷ []) changes.now) }
+    ensures answer { AreChangeLines (IsMember before.now) (IsMember after.now) changes.now
+        → IsChangedText form grammar (IsMember before.now) changes.now text.now
+        → IsSetText form (IsMember after.now) text.now }
+    ensures accepted { (refused : List (RefusalFor ChangeCause))
+        → AreChangeLines (IsMember before.now) (IsMember after.now) changes.now
+        → ¬ (HasRefusedChanges grammar (IsMember before.now) changes.now refused) }
 {}

@@ -51,10 +51,9 @@ returns-else-not-write_and_flush-clause-answered g c = λ _.
 
 pub returns-in-Err-clause-none : goal.returns-in-Err-clause-none
 returns-in-Err-clause-none g c = λ one.
-    let (none, reported) = none_reported c.args.command.request c.args.command.session c.in-Err.why c.args.names.now
-    (g.X.Write.contents c.args.faults.now) (g.X.Write.contents c.end_with.new.faults)
-    (IsTrue c.end_with.result.is_reported) c.in-Err.ensures.failure (sym c.end_with.ensures.status ∙ one)
-    c.end_with.ensures.front c.end_with.ensures.whole in
+    let (none, reported) = none_reported c.args.command c.in-Err.why (g.X.Write.contents c.args.faults.now)
+    (g.X.Write.contents c.end_with.new.faults) (IsTrue c.end_with.result.is_reported) c.in-Err.ensures.failure
+    (sym c.end_with.ensures.status ∙ one) c.end_with.ensures.front c.end_with.ensures.whole in
     (Keeps-refl (g.W.Write.contents c.args.out.now), none, reported)
 
 pub returns-in-Err-clause-cut_short : goal.returns-in-Err-clause-cut_short

@@ -4,19 +4,19 @@ use Rattle.netset_words.proofs.LogRuns.{log_filtered, log_in_part}
 use Rattle.netset_words.proofs.lines_program.filter_log.Goals as goal
 
 pub returns-clause-whole : goal.returns-clause-whole
-returns-clause-whole g c = λ request how lists h.
+returns-clause-whole g c = λ how set h.
     let left = g.R.Read.remaining in
     let to = g.W.Write.contents in
-    log_filtered request how lists (left c.args.input.now) (left c.read_log.new.input) (to c.args.out.now)
+    log_filtered how set (left c.args.input.now) (left c.read_log.new.input) (to c.args.out.now)
     (to c.read_log.new.out) c.args.filter _ _ h (c.in_ok-answers.ensures.whole how c.args.filter.set h.begun) refl refl
     refl
 
 pub returns-in_err-answers-clause-part : goal.returns-in_err-answers-clause-part
 returns-in_err-answers-clause-part g c =
     on_err c.from_residual.result _
-    (λ request how lists h. log_in_part request how lists (g.R.Read.remaining c.args.input.now)
+    (λ how set h. log_in_part how set (g.R.Read.remaining c.args.input.now)
     (g.R.Read.remaining c.args.input.now) (g.W.Write.contents c.args.out.now) (g.W.Write.contents c.read_log.new.out)
     c.args.filter h (c.in_err-answers.ensures.part how c.args.filter.set h.begun))
 
 pub returns-clause-quiet : goal.returns-clause-quiet
-returns-clause-quiet g c = λ request how lists h. c.in_ok-answers.ensures.quiet how c.args.filter.set h.begun
+returns-clause-quiet g c = λ how set h. c.in_ok-answers.ensures.quiet how c.args.filter.set h.begun

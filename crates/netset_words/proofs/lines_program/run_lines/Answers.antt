@@ -3,20 +3,20 @@ use Rattle.netset_words.proofs.LogRuns.{all_decided, some_undecided}
 use Rattle.netset_words.proofs.lines_program.run_lines.Goals as goal
 
 pub returns-in-Ok-clause-filtered : goal.returns-in-Ok-clause-filtered
-returns-in-Ok-clause-filtered g c = λ few request how lists h.
-    all_decided request how lists (g.R.Read.remaining c.args.input.now) (g.R.Read.remaining c.filter_log.new.input)
+returns-in-Ok-clause-filtered g c = λ few how set h.
+    all_decided how set (g.R.Read.remaining c.args.input.now) (g.R.Read.remaining c.filter_log.new.input)
     (g.W.Write.contents c.args.out.now) (g.W.Write.contents c.filter_log.new.out) c.in-Ok.log c.log_status.result few
     c.log_status.ensures.decided c.log_status.ensures.printed (g.X.Write.contents c.args.faults.now)
     (g.X.Write.contents c.filter_log.new.faults) (g.X.Write.contents c.report_nones.new.faults)
-    (c.in-Ok.ensures.quiet request how lists h) c.report_nones.ensures (c.in-Ok.ensures.whole request how lists h)
+    (c.in-Ok.ensures.quiet how set h) c.report_nones.ensures (c.in-Ok.ensures.whole how set h)
 
 pub returns-in-Ok-clause-cut_short : goal.returns-in-Ok-clause-cut_short
-returns-in-Ok-clause-cut_short g c = λ two request how lists h.
-    inl (some_undecided request how lists (g.R.Read.remaining c.args.input.now)
+returns-in-Ok-clause-cut_short g c = λ two how set h.
+    inl (some_undecided how set (g.R.Read.remaining c.args.input.now)
     (g.R.Read.remaining c.filter_log.new.input) (g.W.Write.contents c.args.out.now)
     (g.W.Write.contents c.filter_log.new.out) c.in-Ok.log c.log_status.result two c.log_status.ensures.decided
-    (c.in-Ok.ensures.whole request how lists h))
+    (c.in-Ok.ensures.whole how set h))
 
 pub returns-in-Err-clause-cut_short : goal.returns-in-Err-clause-cut_short
-returns-in-Err-clause-cut_short g c = λ two request how lists h.
-    inr (c.in-Err.ensures.part request how lists h)
+returns-in-Err-clause-cut_short g c = λ two how set h.
+    inr (c.in-Err.ensures.part how set h)

@@ -1,22 +1,11 @@
-use Rattle.std.proofs.Common.{Err, ap, ◌∙◌}
+use Rattle.std.proofs.Common.{Err, ap, sym, ◌∙◌}
+use Rattle.ipnet_sets.proofs.SetEqualLaws.{equal_by_addresses}
 use Rattle.netset_pictures.proofs.bar_program.ComparisonBarCommandTextCommand.answer.Goals as goal
 
-pub returns-in-Ok-clause-text : goal.returns-in-Ok-clause-text
-returns-in-Ok-clause-text c = λ grammar lists h. record {
-  before = c.in_ok-before.before;
-  after = c.in_ok-before.after;
-  pair = c.in_ok-before.ensures.pair grammar lists h;
-  right = c.in-Ok.ensures.bar;
-}
+pub returns-clause-failure : goal.returns-clause-failure
+returns-clause-failure c = λ e. c.framed_comparison_text.ensures.none (c.in-Err.is ∙ ap Err e)
 
 pub returns-in-Ok-clause-outcome : goal.returns-in-Ok-clause-outcome
-returns-in-Ok-clause-outcome c = λ grammar lists h.
-    c.are_same.ensures grammar lists (c.in_ok-before.ensures.pair grammar lists h)
-
-pub returns-clause-failure : goal.returns-clause-failure
-returns-clause-failure c = λ grammar lists h. (
-  c.in_ok-before.before,
-  c.in_ok-before.after,
-  c.in_ok-before.ensures.pair grammar lists h,
-  λ e. c.framed_comparison_text.ensures.none (c.in-Err.is ∙ ap Err e),
-)
+returns-in-Ok-clause-outcome c =
+    let by = equal_by_addresses c.args.self.before c.args.self.after in
+    (λ yes. by.0 (sym c.eq.ensures ∙ yes), λ same. c.eq.ensures ∙ by.1 same)

@@ -6,17 +6,11 @@ use Rattle.netset_pictures.specs.MapAnswers.{IsFramedSetsMap}
 use Rattle.netset_pictures.proofs.map_program.SetsMapCommandTextCommand.answer.Goals as goal
 
 pub returns-in-Ok-clause-text : goal.returns-in-Ok-clause-text
-returns-in-Ok-clause-text c = λ r lists h. record {
-  sets = c.in_ok-sets.sets.items;
-  of_lists = c.in_ok-sets.ensures.sets r lists h;
-  right = subst (λ sets. IsFramedSetsMap sets (map (λ name. name.now) c.args.self.names.now) c.args.self.request
-      (string_bytes c.in-Ok.text)) c.as_slice.ensures.value c.in-Ok.ensures.map;
-}
+returns-in-Ok-clause-text c =
+    subst (λ sets. IsFramedSetsMap sets (map (λ name. name.now) c.args.self.names.now) c.args.self.request
+    (string_bytes c.in-Ok.text)) c.as_slice.ensures.value c.in-Ok.ensures.map
 
 pub returns-clause-failure : goal.returns-clause-failure
-returns-clause-failure c = λ r lists h. (
-  c.in_ok-sets.sets.items,
-  c.in_ok-sets.ensures.sets r lists h,
-  λ e. subst (λ sets. HasNoFrame c.args.self.request.frame (IsInSome IsMember sets)) c.as_slice.ensures.value
-      (c.framed_sets_map_text.ensures.none (c.in-Err.is ∙ ap Err e)),
-)
+returns-clause-failure c = λ e.
+    subst (λ sets. HasNoFrame c.args.self.request.frame (IsInSome IsMember sets)) c.as_slice.ensures.value
+    (c.framed_sets_map_text.ensures.none (c.in-Err.is ∙ ap Err e))

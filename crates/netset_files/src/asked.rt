@@ -1,0 +1,127 @@
+//! A filter or a route: its two lists, one after the other.
+ghost use Rattle.std.specs.Prelude.{◌≡◌, ◌≤◌, IfErr};
+ghost use Rattle.netset_lib.specs.SetReaders.{has_entry, refused_count};
+
+use crate::input::{open_list, report_unread};
+use crate::lists::{ListReader, Lists};
+use crate::output::Writers;
+use ipnet_lists::ReadFailure;
+use netset_lib::{Answer, Answerer, Query, SetReader, Stream, run_stream};
+use std::io::Read;
+
+/// A reader of the first list of a query.
+#[derive(Drop)]
+pub struct FirstReader {
+    /// The reader.
+    pub lists: SetReader,
+    /// The query.
+    pub query: Query,
+}
+
+impl ListReader for FirstReader {
+    type List = Answerer;
+
+    ghost refused = { λ first. refused_count first.lists };
+
+    ghost holds = { λ first. has_entry first.lists };
+
+    fn read<R: Read>(self, input: &mut R) -> Result<(FirstReader, Answerer), ReadFailure> {
+        let FirstReader { lists, query } = self;
+        let (lists, answerer) = lists.read_answerer(query, input)?;
+        Ok((FirstReader { lists, query }, answerer))
+    }
+
+    fn refused_count(&self) -> usize {
+        self.lists.refused_count()
+    }
+
+    fn has_entry(&self) -> bool {
+        self.lists.has_entry()
+    }
+}
+
+/// A reader of the second list.
+#[derive(Drop)]
+struct SecondReader {
+    lists: SetReader,
+    answerer: Answerer,
+}
+
+impl ListReader for SecondReader {
+    type List = Answer;
+
+    ghost refused = { λ second. refused_count second.lists };
+
+    ghost holds = { λ second. has_entry second.lists };
+
+    fn read<R: Read>(self, input: &mut R) -> Result<(SecondReader, Answer), ReadFailure> {
+        let SecondReader { lists, answerer } = self;
+        let (lists, answer) = lists.read_answers(&answerer, input)?;
+        Ok((SecondReader { lists, answerer }, answer))
+    }
+
+    fn refused_count(&self) -> usize {
+        self.lists.refused_count()
+    }
+
+    fn has_entry(&self) -> bool {
+        self.lists.has_entry()
+    }
+}
+
+/// Reads the first list of the query, which has this name. If that fails, it is reported, and the error is the exit
+/// status.
+pub fn read_first(rt: &HostRuntime, first: Lists<FirstReader>, name: &str) -> Result<Stream, u8>
+    ensures { IfErr result (λ status. status ≡ 2) }
+{
+    let (first, answerer) = first.read(rt, name)?;
+    let FirstReader { lists, .. } = first.end()?;
+    Ok(Stream { lists, answerer })
+}
+
+/// Reads the two lists of the query, which have these names, and returns the answer to the entries of the second. If
+/// there are `entries`, the second has these lines. If that fails, it is reported, and the error is the exit status.
+pub fn read_answers(
+    rt: &HostRuntime,
+    first: Lists<FirstReader>,
+    names: &[&str; 2],
+    entries: Option<String>,
+) -> Result<(SetReader, Answer), u8>
+    ensures { IfErr result (λ status. status ≡ 2) }
+{
+    let (first, answerer) = first.read(rt, names[0])?;
+    let Lists {
+        reader,
+        reports,
+        total,
+        allowed,
+    } = first;
+    let FirstReader { lists, .. } = reader;
+    let second = Lists {
+        reader: SecondReader { lists, answerer },
+        reports,
+        total,
+        allowed,
+    };
+    let (second, answer) = second.read_last(rt, names[1], entries)?;
+    let SecondReader { lists, .. } = second.end()?;
+    Ok((lists, answer))
+}
+
+/// Streams the second list, which has this name, and returns the exit status. `names` are the names of both.
+#[inline(never)]
+pub fn stream_list(
+    rt: &HostRuntime,
+    stream: Stream,
+    names: &[&str],
+    name: &str,
+    writers: &mut Writers<'_>,
+) -> u8
+    ensures { result ≤ 2 }
+{
+    let (out, faults) = (&mut writers.answer, &mut writers.faults);
+    match open_list(rt, name) {
+        Ok(mut input) => run_stream(stream, names, &mut input, out, faults),
+        Err(unread) => report_unread(rt, name, &unread),
+    }
+}

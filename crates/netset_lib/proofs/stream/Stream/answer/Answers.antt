@@ -1,0 +1,21 @@
+use Rattle.std.proofs.Common.{refl, sym, ◌∙◌}
+use Rattle.std.proofs.lemmas.Result.{err_from_is_err_and}
+use Rattle.netset_lib.proofs.StreamLaws.{stream_right}
+use Rattle.netset_lib.proofs.StreamParts.{part_right}
+use Rattle.netset_lib.proofs.stream.Stream.answer.Goals as goal
+
+pub returns-clause-streamed : goal.returns-clause-streamed
+returns-clause-streamed g c = λ query grammar lists h.
+    stream_right query grammar lists c.args.self c.in_ok-reading.reading
+    (g.R.Read.remaining c.args.input.now) (g.R.Read.remaining c.stream_entries.new.input)
+    (g.W.Write.contents c.args.out.now) (g.W.Write.contents c.stream_entries.new.out) _ h
+    (sym c.refused_count.ensures ∙ c.if-refused_count-ne0.false) c.in_ok-reading.ensures.whole refl
+
+pub returns-in_err-reading-clause-failure : goal.returns-in_err-reading-clause-failure
+returns-in_err-reading-clause-failure g c =
+    let p = err_from_is_err_and c.from_residual.result c.from_residual.ensures.1 in
+    rw (p.1, p.2) (λ query grammar lists h.
+    part_right query grammar lists c.args.self (g.R.Read.remaining c.args.input.now)
+    (g.W.Write.contents c.args.out.now) (g.W.Write.contents c.stream_entries.new.out) _ h
+    (sym c.refused_count.ensures ∙ c.if-refused_count-ne0.false) c.in_err-reading.ensures.part
+    c.in_err-reading.ensures.cause)

@@ -1,0 +1,20 @@
+use Rattle.std.proofs.Common.{◌≡◌, false, [], string_bytes}
+use Rattle.std.specs.Io.KnownBytes.{Keeps}
+use Rattle.ipnet_lists.specs.Reading.{at_first_line}
+use Rattle.netset_lib.specs.Streams.{IsWritten}
+use Rattle.ipnet_lists.proofs.WindowReading.{IsListUpTo}
+use Rattle.netset_lib.proofs.stream.stream_entries.Given as goal
+
+-- the list was read up to what is pending, the answers to its entries were written, and if no line was refused, nothing
+-- was reported
+abbrev pub invariant-loop : goal.invariant-loop
+invariant-loop g l = record {
+  text : string_bytes l.answers.text ≡ [];
+  found : l.answers.found ≡ false;
+  list : IsListUpTo l.more (g.R.Read.remaining l.fn.input) (g.R.Read.remaining l.input)
+      (at_first_line l.fn.stream.lists.reading.lines) l.reading
+      (IsWritten l.fn.stream.answerer (g.W.Write.contents l.fn.out) (g.W.Write.contents l.fn.out) false)
+      (IsWritten l.fn.stream.answerer (g.W.Write.contents l.fn.out) (g.W.Write.contents l.out) l.found);
+  quiet : l.reading.lines.refused.count ≡ l.fn.stream.lists.reading.lines.refused.count
+      → Keeps (g.X.Write.contents l.fn.faults) (g.X.Write.contents l.faults);
+}

@@ -1,0 +1,14 @@
+use Rattle.std.proofs.Common.{inr}
+use Rattle.netset_lib.proofs.StreamParts.{streamed_part, part_or_kept}
+use Rattle.netset_lib.proofs.stream_program.run_stream.Goals as goal
+
+pub returns-in-Ok-clause-cut_short : goal.returns-in-Ok-clause-cut_short
+returns-in-Ok-clause-cut_short g c = λ two query grammar lists h.
+    inr (streamed_part query grammar lists (g.R.Read.remaining c.args.input.now) (g.R.Read.remaining c.answer.new.input)
+    (g.W.Write.contents c.args.out.now) (g.W.Write.contents c.answer.new.out) c.in-Ok.streamed
+    (c.in-Ok.ensures.streamed query grammar lists h))
+
+pub returns-in-Err-clause-cut_short : goal.returns-in-Err-clause-cut_short
+returns-in-Err-clause-cut_short g c = λ two query grammar lists h.
+    part_or_kept query grammar lists (g.R.Read.remaining c.args.input.now) (g.W.Write.contents c.args.out.now)
+    (g.W.Write.contents c.answer.new.out) c.in-Err.failure (c.in-Err.ensures.failure query grammar lists h)

@@ -1,0 +1,86 @@
+//! A filter or a route whose answers are written while its second list is read, over any writers.
+ghost use Rattle.std.specs.Prelude.{◌≡◌, ◌≤◌, ◌==◌, ◌⊎◌, ◌↔◌, List, ℕ};
+ghost use Rattle.std.specs.Io.KnownBytes.{Keeps};
+ghost use Rattle.ipnet.specs.declared.parser.Grammar.{Grammar};
+ghost use Rattle.netset_lib.specs.Streams.{WasAsked, IsStreamed, IsStreamedInPart};
+ghost use Rattle.netset_lib.specs.declared.query.Query.{Query};
+
+use crate::reports::{UNWRITABLE, report_words};
+use crate::stream::{Stream, StreamFailure, Streamed};
+use ipnet_lists::{name_of, report_since};
+use std::io;
+use std::io::{Read, Write};
+
+/// Writes the answers of a filter or a route to `out` while the second list is read from `input`, and returns the exit
+/// status. `names` are the names of the two lists, for the reports on `faults`.
+///
+/// | Status | On `faults` | When |
+/// |---|---|---|
+/// | 2 | `NAME:LINE: not a network, an address or a range: TEXT (CAUSE)`, ten at most | such lines of the first list |
+/// | 2 | the same | such lines of the second list are left out |
+/// | 2 | `netset: NAME: cannot be read`, or `out of memory` | the second list is answered in part |
+/// | 2 | `netset: output cannot be written` | a write fails, or a flush |
+/// | 1 | nothing | a filter printed nothing, or an entry has no route |
+/// | 0 | nothing | otherwise |
+///
+/// ```text
+/// Filter by "10.0.0.0/8\n", of "10.0.0.1\nx\n10.0.0.2\n": status 2, and out gets "10.0.0.1\n10.0.0.2\n"
+/// ```
+pub fn run_stream<R: Read, W: Write, X: Write>(
+    stream: Stream,
+    names: &[&str],
+    input: &mut R,
+    out: &mut W,
+    faults: &mut X,
+) -> u8
+    ensures status { result ≤ 2 }
+    ensures streamed { result ≤ 1 → (query : Query) → (grammar : Grammar) → (lists : List (List ℕ))
+        → WasAsked query grammar lists stream
+        → ((s : Streamed) × (s.refused ≡ 0) × (s.succeeded ≡ (result == 0))
+        × IsStreamed query grammar lists (R.remaining input.old) (R.remaining input.new)
+        (W.contents out.old) (W.contents out.new) s) }
+    ensures cut_short { result ≡ 2 → (query : Query) → (grammar : Grammar) → (lists : List (List ℕ))
+        → WasAsked query grammar lists stream
+        → Keeps (W.contents out.old) (W.contents out.new)
+        ⊎ IsStreamedInPart query grammar lists (R.remaining input.old) (W.contents out.old) (W.contents out.new) }
+    ensures faultless { result ≤ 1 → Keeps (X.contents faults.old) (X.contents faults.new) }
+{
+    match stream.answer(names, input, out, faults) {
+        Ok(streamed) => stream_status(streamed),
+        Err(failure) => {
+            let _ = report_stream(faults, names, &failure);
+            2
+        }
+    }
+}
+
+/// The exit status of a stream.
+fn stream_status(streamed: Streamed) -> u8
+    ensures status { result ≤ 2 }
+    ensures whole { (result ≤ 1) ↔ (streamed.refused ≡ 0) }
+    ensures succeeded { result ≤ 1 → streamed.succeeded ≡ (result == 0) }
+{
+    if streamed.refused != 0 {
+        2
+    } else if streamed.succeeded {
+        0
+    } else {
+        1
+    }
+}
+
+/// Reports why a stream ended. Bytes of the list's name that are not printable ASCII are escaped.
+fn report_stream<X: Write>(
+    faults: &mut X,
+    names: &[&str],
+    failure: &StreamFailure,
+) -> io::Result<()> {
+    match failure {
+        StreamFailure::Start(lines) => report_since(faults, names, lines, (0, 0)),
+        StreamFailure::Read(failure) => {
+            let name = name_of(names, 1).as_bytes().escape_ascii();
+            writeln!(faults, "netset: {name}: {failure}")
+        }
+        StreamFailure::Unwritable => report_words(faults, UNWRITABLE),
+    }
+}
