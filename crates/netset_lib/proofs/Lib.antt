@@ -18,6 +18,7 @@ pub mod AnsweringLaws
 pub mod ListLaws
 pub mod StreamLaws
 pub mod StreamParts
+pub mod RuleAddressLaws
 pub mod RuleLaws
 pub mod RuleAnswerLaws
 pub mod RuleWritingLaws

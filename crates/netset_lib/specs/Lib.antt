@@ -23,6 +23,7 @@ pub mod Runs
 pub mod Commands
 pub mod SetReaders
 pub mod Streams
+pub mod RuleAddresses
 pub mod RuleLines
 pub mod RuleContentsOf
 pub mod RuleSteps

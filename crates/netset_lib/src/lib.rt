@@ -30,6 +30,7 @@ pub mod query;
 mod reasons;
 pub mod reports;
 mod route;
+mod rule_addresses;
 pub mod rule_answer;
 pub mod rule_line;
 pub mod rule_list;
