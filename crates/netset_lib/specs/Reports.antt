@@ -3,6 +3,8 @@ use Rattle.std.specs.Prelude.{ℕ, List, [], ◌∷◌, ◌++◌, codes, decimal
 use Rattle.std.specs.List.{concat}
 use Rattle.netset_lib.specs.declared.failure.Failure.{Failure}
 use Rattle.netset_lib.specs.declared.failure.Failure.TheVariants as Failures
+use Rattle.netset_lib.specs.declared.write.PieceFailure.{PieceFailure}
+use Rattle.netset_lib.specs.declared.write.PieceFailure.TheVariants as Pieces
 
 -- The line that reports these words. Example: `netset: out of memory`, and a line feed (10).
 abbrev pub words_line : List ℕ → List ℕ
@@ -24,3 +26,8 @@ memory_line = words_line (codes "out of memory")
 abbrev pub failure_words : Failure → List ℕ
 failure_words Failures.NoFamily = codes "the list has no entries: choose --ipv4 or --ipv6, or both"
 failure_words Failures.Memory = codes "out of memory"
+
+-- The words for an answer of which only a front was written.
+abbrev pub piece_words : PieceFailure → List ℕ
+piece_words Pieces.Memory = codes "out of memory"
+piece_words Pieces.Unwritable = unwritable
