@@ -1,5 +1,5 @@
 -- Wildcard masks, and the addresses that follow the word of a rule.
-use Rattle.std.proofs.Common.{◌≡◌, ℕ, ◌-◌, ◌<◌, ◌≤◌, ◌⊎◌, List, sym, ap, ◌∙◌, subst}
+use Rattle.std.proofs.Common.{◌≡◌, ℕ, ◌-◌, ◌<◌, ◌≤◌, ◌⊎◌, List, sym, ap, ◌∙◌}
 use Rattle.std.proofs.Common.{arith, inl, inr}
 use Rattle.std.proofs.lemmas.Bool.{cases_lt}
 use Rattle.std.proofs.lemmas.Nat.{pow_below}
@@ -9,15 +9,9 @@ use Rattle.ipnet_base.specs.Network.{Network}
 use Rattle.ipnet_base.proofs.MaskLaws.{masks_add_up}
 use Rattle.ipnet.specs.NetworkParts.{HasAddressAndNetmask}
 use Rattle.ipnet.specs.declared.parser.Grammar.{Grammar}
-use Rattle.ipnet_lists.specs.Causes.{IsNetmaskNumber}
 use Rattle.ipnet_lists.specs.Entries.{IsAddressText}
-use Rattle.ipnet_lists.specs.Words.{leading_word, after_word}
-use Rattle.netset_lib.specs.declared.rule_line.RuleCause.{RuleCause}
-use Rattle.netset_lib.specs.declared.rule_line.RuleCause.TheVariants.{UnknownWord, NoEntry, TwoEntries, BadEntry}
-use Rattle.netset_lib.specs.declared.rule_line.RuleCause.TheVariants.{NoHost, Netmask, EitherMask, NoMask}
 use Rattle.ipnet_lists.proofs.EntryTexts.{one_address}
-use Rattle.netset_lib.specs.RuleAddresses.{IsWildcardedBy, IsEitherMask, HasSecondAddress, WriteWildcard}
-use Rattle.netset_lib.specs.RuleSteps.{IsAddressesCause, IsMaskCause}
+use Rattle.netset_lib.specs.RuleAddresses.{IsWildcardedBy, IsEitherMask, WriteWildcard}
 
 -- the host mask of a prefix length is all ones only for 0, and 0 only for 32
 hostmask_whole : (p : ℕ) → p ≤ 32 → (0 < p) ⊎ (hostmask_number IPv4 p ≡ 4294967295)
@@ -126,31 +120,3 @@ no_wildcard grammar address_text mask_text address mask a m none n w =
     let one = one_address grammar address_text address w.address a w.writes_address in
     let two = one_address grammar mask_text mask w.mask m w.writes_mask in
     none n (rw (one, two) w.addresses)
-
--- the second of two addresses is not a wildcard mask that is accepted
-pub second_cause : (grammar : Grammar) (text first second : List ℕ) (x m : Address) (cause : RuleCause)
-    → first ≡ leading_word text → second ≡ after_word text → IsAddressText grammar first x
-    → IsAddressText grammar second m → x.family ≡ IPv4 → m.family ≡ IPv4 → IsMaskCause m.number cause
-    → IsAddressesCause grammar text cause
-second_cause grammar text first second x m cause is also a b of_x of_m h = of cause h
-  where
-    has : (IsSo : ℕ → Type 0) → IsSo m.number → HasSecondAddress grammar text IsSo
-    has IsSo so = record {
-      first = x;
-      second = m;
-      writes_first = subst (λ z. IsAddressText grammar z x) is a;
-      writes_second = subst (λ z. IsAddressText grammar z m) also b;
-      first_family = of_x;
-      second_family = of_m;
-      is_so = so;
-    }
-
-    of : (c : RuleCause) → IsMaskCause m.number c → IsAddressesCause grammar text c
-    of Netmask so = has IsNetmaskNumber so
-    of EitherMask so = has IsEitherMask so
-    of NoMask so = has (λ number. IsNetmaskNumber number → ⊥) so
-    of UnknownWord never = absurd never
-    of NoEntry never = absurd never
-    of TwoEntries never = absurd never
-    of (BadEntry reported) never = absurd never
-    of NoHost never = absurd never

@@ -16,8 +16,8 @@ pub returns-in-Ok-clause-some : goal.returns-in-Ok-clause-some
 returns-in-Ok-clause-some c =
     let fits : c.to_bits.result ≤ 4294967295 = search rules in
     let netmask : ipv4_bits c.from_bits-netmask.result ≡ 4294967295 - ipv4_bits c.args.mask =
-    bits_from_number c.from_bits-netmask.result (4294967295 - c.to_bits.result) (omega arith) c.from_bits-netmask.ensures
-    ∙ ap (λ n. 4294967295 - n) c.to_bits.ensures in
+    bits_from_number c.from_bits-netmask.result (4294967295 - c.to_bits.result) (omega arith)
+    c.from_bits-netmask.ensures ∙ ap (λ n. 4294967295 - n) c.to_bits.ensures in
     wildcarded (ipv4_network c.in-Ok.network) (ipv4_address c.args.address) (ipv4_address c.args.mask)
     (ipv4_bits c.from_bits-netmask.result) refl refl (omega (arith, fits, c.to_bits.ensures)) netmask
     (λ either. let yes = c.is_either_mask.ensures.1 either in let is_not = c.if-is_either_mask.false in absurd cc)
@@ -26,8 +26,8 @@ returns-in-Ok-clause-some c =
 pub returns-in-Err-clause-none : goal.returns-in-Err-clause-none
 returns-in-Err-clause-none c = λ none n w.
     let netmask : ipv4_bits c.from_bits-netmask.result ≡ 4294967295 - ipv4_bits c.args.mask =
-    bits_from_number c.from_bits-netmask.result (4294967295 - c.to_bits.result) (omega arith) c.from_bits-netmask.ensures
-    ∙ ap (λ n. 4294967295 - n) c.to_bits.ensures in
+    bits_from_number c.from_bits-netmask.result (4294967295 - c.to_bits.result) (omega arith)
+    c.from_bits-netmask.ensures ∙ ap (λ n. 4294967295 - n) c.to_bits.ensures in
     c.in-Err.ensures.refused.0 refl n
     (netmasked n (ipv4_address c.args.address) (ipv4_address c.args.mask) (ipv4_bits c.from_bits-netmask.result) netmask
     w)
