@@ -31,6 +31,7 @@ pub mod ScriptLaws
 pub mod ChangeTexts
 pub mod AppliedLaws
 pub mod PrefixLaws
+pub mod PrefixChoiceLaws
 pub mod TextLaws
 pub mod TextAnswerLaws
 pub mod TextLineLaws

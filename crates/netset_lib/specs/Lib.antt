@@ -35,6 +35,8 @@ pub mod ChangeLists
 pub mod ApplySteps
 pub mod Scripts
 pub mod PrefixLines
+pub mod PrefixEntries
+pub mod PrefixEntryOf
 pub mod PrefixSteps
 pub mod PrefixAnswers
 pub mod PrefixReading

@@ -56,6 +56,9 @@ prefix_reason Prefixes.UnknownWord = codes "a rule begins with permit or deny"
 prefix_reason (Prefixes.NoNetwork cause) = network_reason cause
 prefix_reason Prefixes.BadBounds = codes "after the network: ge or le and a number, each at most once"
 prefix_reason (Prefixes.RefusedBounds error) = bounds_reason error
+prefix_reason Prefixes.NoName = codes "after prefix-list: a name"
+prefix_reason Prefixes.NoNumber = codes "after seq: a number up to 4294967295"
+prefix_reason Prefixes.OtherFamily = codes "ip is for IPv4 networks, and ipv6 for IPv6 networks"
 
 -- The words for a line that is not a network.
 abbrev pub no_network : List ℕ

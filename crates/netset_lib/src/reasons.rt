@@ -87,6 +87,9 @@ fn prefix_reason(cause: &PrefixCause) -> &'static str
         PrefixCause::NoNetwork(cause) => network_reason(*cause),
         PrefixCause::BadBounds => "after the network: ge or le and a number, each at most once",
         PrefixCause::RefusedBounds(error) => bounds_reason(error),
+        PrefixCause::NoName => "after prefix-list: a name",
+        PrefixCause::NoNumber => "after seq: a number up to 4294967295",
+        PrefixCause::OtherFamily => "ip is for IPv4 networks, and ipv6 for IPv6 networks",
     }
 }
 
