@@ -32,16 +32,19 @@ abbrev pub vrp_part : Payload → List ℕ
 vrp_part vrp = 9 ∷ canonical_text (ip_network vrp.network) ++ codes "-" ++ decimal vrp.max_len ++ codes " AS"
     ++ decimal vrp.asn
 
--- The VRPs, each after a TAB. Example: TAB, `192.0.2.0/24-25 AS64496`.
-abbrev pub why_part : List Payload → List ℕ
-why_part [] = []
-why_part (vrp ∷ vrps) = vrp_part vrp ++ why_part vrps
+-- The text has the VRPs in order, each after a TAB. One that is written like the one before it is left out; `last` is
+-- the text of the one before the first, or empty.
+-- Example: for two VRPs 192.0.2.0/24 with 25 and AS 64496, TAB and `192.0.2.0/24-25 AS64496`, once.
+abbrev pub IsWhyText : List ℕ → List Payload → List ℕ → Type 0
+IsWhyText last [] part = part ≡ []
+IsWhyText last (vrp ∷ vrps) part = ((vrp_part vrp ≡ last) × IsWhyText last vrps part)
+    ⊎ ((vrp_part vrp ≢ last) × (rest : List ℕ) × (part ≡ vrp_part vrp ++ rest) × IsWhyText (vrp_part vrp) vrps rest)
 
--- The text after the validity of a route: if `why`, the VRPs that cover it, the longest networks first, and VRPs of one
--- network by AS number and greatest length; else nothing.
+-- The text after the validity of a route: if `why`, the VRPs that cover it, each once, the longest networks first, and
+-- VRPs of one network by AS number and greatest length; else nothing.
 -- Example: TAB, `192.0.2.0/24-25 AS64496`, TAB, `192.0.0.0/16-16 AS64497`.
 abbrev pub IsWhyPart : List Payload → Bool → Network → List ℕ → Type 0
-IsWhyPart vrps true n part = (covering : List Payload) × AreCovering vrps n covering × (part ≡ why_part covering)
+IsWhyPart vrps true n part = (covering : List Payload) × AreCovering vrps n covering × IsWhyText [] covering part
 IsWhyPart vrps false n part = part ≡ []
 
 -- A route of this validity is printed: any route, or only one of the wanted validity. Example: with `--only invalid`,

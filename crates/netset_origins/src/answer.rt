@@ -1,10 +1,10 @@
 //! The validity of the routes of a list, by a list of validated ROA payloads (VRPs).
-ghost use Rattle.std.specs.Prelude.{◌≡◌, ◌⊎◌, ◌++◌, ◌↔◌, IsTrue, IfOk, IfErr, OnOk, List, Some};
+ghost use Rattle.std.specs.Prelude.{◌≡◌, ◌⊎◌, ◌++◌, ◌↔◌, [], ℕ, IsTrue, IfOk, IfErr, OnOk, List, Some};
 ghost use Rattle.ipnet_origins.specs.declared.origins.Validity.TheVariants.{Invalid};
 ghost use Rattle.ipnet.specs.NetworkOf.{ip_network};
 ghost use Rattle.ipnet_origins.specs.OriginsOf.{payloads_of};
 ghost use Rattle.ipnet_origins.specs.declared.payload.Payload.{Payload};
-ghost use Rattle.netset_origins.specs.OriginAnswers.{validity_word, vrp_part, why_part, IsShown, IsOriginAnswer};
+ghost use Rattle.netset_origins.specs.OriginAnswers.{validity_word, vrp_part, IsShown, IsOriginAnswer, IsWhyText};
 ghost use Rattle.netset_origins.specs.OriginAnswers.{AreVrpsOf, IsVrpsFailure, IsOriginsFailure};
 ghost use Rattle.netset_origins.specs.OriginSteps.{AreVrpsRead, AreJudged, AddsRoute, AddsWhy, AddsLine};
 ghost use Rattle.netset_origins.specs.RouteLines.{IsRouteText, IsRouteCause};
@@ -159,12 +159,27 @@ fn push_vrp(text: &mut Vec<u8>, vrp: &Payload) -> Result<(), AllocError>
     text.extend_from_slice(Buffer::new().format(vrp.asn()).as_bytes())
 }
 
-/// Appends the VRPs. Fails if memory runs out.
-fn push_vrps(text: &mut Vec<u8>, vrps: &[Payload]) -> Result<(), AllocError>
-    ensures { OnOk result (text.new.items ≡ text.old.items ++ why_part vrps.now) }
+/// Returns the text of a VRP, after a TAB. Fails if memory runs out.
+fn vrp_text(alloc: Global, vrp: &Payload) -> Result<Vec<u8>, AllocError>
+    ensures { IfOk result (λ text. text.items ≡ vrp_part vrp.now) }
 {
+    let mut text = Vec::new(alloc);
+    push_vrp(&mut text, vrp)?;
+    Ok(text)
+}
+
+/// Appends the VRPs, without those that are written like the one before them. Fails if memory runs out.
+fn push_vrps(alloc: Global, text: &mut Vec<u8>, vrps: &[Payload]) -> Result<(), AllocError>
+    ensures { OnOk result ((part : List ℕ) × IsWhyText [] vrps.now part × (text.new.items ≡ text.old.items ++ part)) }
+{
+    let mut last = Vec::new(alloc);
     for vrp in vrps {
-        push_vrp(text, vrp)?;
+        let part = vrp_text(alloc, vrp)?;
+        if part.as_slice() == last.as_slice() {
+            continue;
+        }
+        text.extend_from_slice(part.as_slice())?;
+        last = part;
     }
     Ok(())
 }
@@ -187,7 +202,7 @@ impl Judge {
             return Ok(());
         }
         let covering = self.table.covering(self.alloc, network)?;
-        push_vrps(text, covering.as_slice())
+        push_vrps(self.alloc, text, covering.as_slice())
     }
 
     /// Appends the line of a route with this text, network and validity. Fails if memory runs out.

@@ -1,5 +1,5 @@
 //! A line of a list of routes: a network, and the AS number that announced it.
-ghost use Rattle.std.specs.Prelude.{◌≡◌, ◌↔◌, IsTrue, IfOk, IfErr, IfSome, IsNone, All, Option, ℕ};
+ghost use Rattle.std.specs.Prelude.{◌≡◌, ◌↔◌, true, IsTrue, IfOk, IfErr, IfSome, IsNone, All, Option, ℕ};
 ghost use Rattle.std.specs.Char.{is_ascii_digit};
 ghost use Rattle.std.specs.List.{list_all, list_any};
 ghost use Rattle.netset_origins.specs.RouteLines.{is_set_byte, IsAsSet, IsOrigin, network_part, origin_part};
