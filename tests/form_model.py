@@ -20,8 +20,8 @@ def networks_of(ranges, least):
     return texts
 
 
-def lines(texts, prefix=""):
-    return "".join(prefix + text + "\n" for text in texts)
+def lines(texts, prefix="", suffix=""):
+    return "".join(prefix + text + suffix + "\n" for text in texts)
 
 
 def json_text(networks):
@@ -49,37 +49,89 @@ def ipset_text(networks, name, family):
     return lines(commands + ["swap {0}.new {0}".format(name), "destroy {}.new".format(name)])
 
 
+def frr_text(networks, name, family):
+    """A prefix list: none of its name stays, and one without an entry would permit everything."""
+    begin = "{} prefix-list {}".format({4: "ip", 6: "ipv6"}[family], name)
+    every = {4: "0.0.0.0/0 le 32", 6: "::/0 le 128"}[family]
+    entries = ["permit " + network for network in networks] or ["deny " + every]
+    return lines(["no " + begin] + ["{} seq {} {}".format(begin, 5 * place, entry)
+                                    for place, entry in enumerate(entries, 1)])
+
+
+def bird_text(networks, name):
+    if not networks:
+        return "define {} = [];\n".format(name)
+    return "define {} = [\n    ".format(name) + ",\n    ".join(networks) + "\n];\n"
+
+
+def iptables_text(networks, chain, target):
+    rules = ["-A {} -s {} -j {}".format(chain, network, target) for network in networks]
+    return lines(["*filter", ":{} - [0:0]".format(chain), "-F " + chain] + rules + ["COMMIT"])
+
+
+# the forms that have a name for each family
+WITH_SETS = {"nft": lambda networks, name, _: nft_text(networks, name), "ipset": ipset_text, "frr": frr_text,
+             "bird": lambda networks, name, _: bird_text(networks, name)}
+
+
 def by_family(ranges, names, text_of):
     """The text of each family that has a name, IPv4 first."""
     return "".join(text_of([a_range for a_range in ranges if a_range[0] == family], names[family], family)
                    for family in (4, 6) if names.get(family))
 
 
-def refusal(form, ranges, least, names):
+class Request:
+    """What is asked for: a form, the texts around lines, the least prefix length, the names of the sets by family, the
+    families, and the chain and the target of iptables."""
+
+    def __init__(self, form, around=("", ""), least=0, names=None, families=(), rules=()):
+        self.form, self.around, self.least, self.names = form, around, least, names or {}
+        self.families, self.rules = families, rules
+
+    def chosen(self, ranges):
+        """The ranges of the families that are asked for: all, if none is."""
+        return [a_range for a_range in ranges if a_range[0] in (self.families or (4, 6))]
+
+    def arguments(self):
+        """The options that ask for this."""
+        words = ["--format", self.form] if self.form != "plain" else []
+        for option, text in zip(("--prefix", "--suffix"), self.around):
+            words += [option + "=" + text] if text else []
+        words += ["--min-length", str(self.least)] if self.least else []
+        for family, name in self.names.items():
+            words += ["--ipv{}-set".format(family), name]
+        words += ["-{}".format(family) for family in self.families]
+        for option, name in zip(("--chain", "--target"), self.rules):
+            words += [option, name]
+        return words
+
+
+def refusal(request, ranges):
     """Why the set has no text in the form, or nothing."""
-    families = [family for family in (4, 6) if any(a_range[0] == family for a_range in ranges)]
+    families = [family for family in (4, 6) if any(a_range[0] == family for a_range in request.chosen(ranges))]
     for family in families:
-        if form != "ranges" and least > WIDTH[family]:
-            return "/{}: the prefix length is above {}".format(least, WIDTH[family])
+        if request.form != "ranges" and request.least > WIDTH[family]:
+            return "/{}: the prefix length is above {}".format(request.least, WIDTH[family])
     for family in families:
-        if form in ("nft", "ipset") and not names.get(family):
+        if request.form in WITH_SETS and not request.names.get(family):
             return "the result has IPv{0} addresses: name a set for them by --ipv{0}-set".format(family)
     return None
 
 
-def form_text(form, ranges, prefix="", least=0, names=None):
+def form_text(request, ranges):
     """The text of the set in this form."""
-    if form == "plain":
-        return lines(networks_of(ranges, least), prefix)
-    if form == "ranges":
-        return lines(map(range_text, ranges), prefix)
-    if form == "json":
-        return json_text(networks_of(ranges, least))
-    if form == "csv":
-        return csv_text(networks_of(ranges, least))
-    if form == "nft":
-        return by_family(ranges, names, lambda part, name, _: nft_text(networks_of(part, least), name))
-    return by_family(ranges, names, lambda part, name, family: ipset_text(networks_of(part, max(least, 1)), name, family))
+    ranges, least, names = request.chosen(ranges), request.least, request.names
+    if request.form == "plain":
+        return lines(networks_of(ranges, least), *request.around)
+    if request.form == "ranges":
+        return lines(map(range_text, ranges), *request.around)
+    if request.form == "iptables":
+        return iptables_text(networks_of(ranges, least), *request.rules)
+    if request.form in WITH_SETS:
+        text_of = WITH_SETS[request.form]
+        low = max(least, 1) if request.form == "ipset" else least
+        return by_family(ranges, names, lambda part, name, family: text_of(networks_of(part, low), name, family))
+    return {"json": json_text, "csv": csv_text}[request.form](networks_of(ranges, least))
 
 
 def random_set_entry(chance, near, width):
@@ -103,26 +155,19 @@ def random_ranges(chance):
 
 
 def random_request(chance):
-    """A random form: its name, the text before lines, the least prefix length and the names of the sets."""
-    form = chance.choice(("plain", "plain", "ranges", "json", "csv", "nft", "ipset"))
-    prefix = chance.choice(("", "permit ", "- ", "x" * chance.randrange(60))) if form in ("plain", "ranges") else ""
+    """A random request."""
+    form = chance.choice(("plain", "plain", "ranges", "json", "csv", "nft", "ipset", "frr", "bird", "iptables"))
+    texts = ("", "permit ", "- ", ";", " le 32", "x" * chance.randrange(60))
+    around = (chance.choice(texts), chance.choice(texts)) if form in ("plain", "ranges") else ("", "")
     least = 0 if form == "ranges" else chance.choice((0, 0, 1, 2, 8, 24, 27, 31, 32, 33, 120, 128))
-    word = "inet filter a{}" if form == "nft" else "a{}"
+    word = chance.choice({"nft": ("inet filter a{}",), "frr": ("a{}", "same")}.get(form, ("a{}",)))
     kept = chance.choice(((4, 6), (4, 6), (4,), (6,)))
-    names = {family: word.format(family) for family in kept} if form in ("nft", "ipset") else {}
-    return form, prefix, least, names
+    names = {family: word.format(family) for family in kept} if form in WITH_SETS else {}
+    rules = ("blocked", chance.choice(("DROP", "ACCEPT", "other"))) if form == "iptables" else ()
+    families = chance.choice(((4,), (6,)) if rules else ((), (), (4,), (6,), (4, 6)))
+    return Request(form, around, least, names, families, rules)
 
 
 def is_short(ranges, least):
     """Whether the set has few networks of at least this prefix length."""
     return all((last - first) >> max(0, WIDTH[family] - least) < 2000 for family, first, last in ranges)
-
-
-def arguments(form, prefix, least, names):
-    """The options that ask for the form."""
-    words = ["--format", form] if form != "plain" else []
-    words += ["--prefix", prefix] if prefix else []
-    words += ["--min-length", str(least)] if least else []
-    for family, name in names.items():
-        words += ["--ipv{}-set".format(family), name]
-    return words

@@ -73,10 +73,15 @@ pub record AreFormOptions (matches : ArgMatches) (options : FormOptions) : Type 
   pub format : option_map (λ word. word.now) options.format ≡ first_value (found_of matches) (codes "format")
   pub ranges : IsFlag matches (codes "ranges") options.ranges
   pub prefix : option_map (λ word. word.now) options.prefix ≡ first_value (found_of matches) (codes "prefix")
+  pub suffix : option_map (λ word. word.now) options.suffix ≡ first_value (found_of matches) (codes "suffix")
   pub least : option_map (λ word. word.now) options.min_length ≡ first_value (found_of matches) (codes "min-length")
   pub ipv4_set : option_map (λ word. word.now) options.sets.ipv4 ≡ first_value (found_of matches) (codes "ipv4-set")
   pub ipv6_set : option_map (λ word. word.now) options.sets.ipv6 ≡ first_value (found_of matches) (codes "ipv6-set")
   pub maxelem : option_map (λ word. word.now) options.maxelem ≡ first_value (found_of matches) (codes "maxelem")
+  pub chain : option_map (λ word. word.now) options.chain ≡ first_value (found_of matches) (codes "chain")
+  pub target : option_map (λ word. word.now) options.target ≡ first_value (found_of matches) (codes "target")
+  pub ipv4_only : IsFlag matches (codes "ipv4-only") options.ipv4_only
+  pub ipv6_only : IsFlag matches (codes "ipv6-only") options.ipv6_only
 
 -- The routes of this validity are asked for by the option `--only`; or it names no validity, and all routes are.
 abbrev pub IsOnly : ArgMatches → Option Validity → Type 0

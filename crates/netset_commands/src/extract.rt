@@ -6,7 +6,7 @@ ghost use Rattle.netset_lib.specs.Commands.{grammar_of};
 ghost use Rattle.netset_lib.specs.declared.command.Flags.{Flags};
 
 use crate::arguments::{
-    ANY_LISTS, ArgumentFailure, FIRST, SHARED, flags_of, is_set, reads_input_twice,
+    ANY_LISTS, ArgumentFailure, FIRST, MAPPED, SHARED, flags_of, is_set, reads_input_twice,
     report_argument_failure,
 };
 use crate::reading::report_only;
@@ -22,7 +22,7 @@ pub const EXTRACT: &str = "extract";
 /// The id of the flag `--first`. The id `first` belongs to the first list.
 const FIRST_ENTRY: &str = "first-entry";
 
-/// The name of its other flag.
+/// The name of the flag for ranges.
 const RANGES: &str = "ranges";
 
 /// The command `extract`.
@@ -44,6 +44,12 @@ pub const EXTRACT_COMMAND: Subcommand = Subcommand {
                 help: "Read two addresses around a - with blanks as a range; without it, as two addresses",
                 ..ARGUMENT
             },
+            Argument {
+                id: MAPPED,
+                form: Form::Flag(MAPPED),
+                help: "Print an IPv4-mapped address, as ::ffff:10.0.0.1, as the IPv4 address",
+                ..ARGUMENT
+            },
             ANY_LISTS,
         ],
     ],
@@ -54,11 +60,13 @@ fn request_of(matches: &ArgMatches) -> ExtractRequest
     ensures grammar { (flags : Flags) × AreFlags matches.now flags × (result.grammar ≡ grammar_of flags.legacy) }
     ensures first { IsFlag matches.now (codes "first-entry") result.first }
     ensures ranges { IsFlag matches.now (codes "ranges") result.ranges }
+    ensures mapped { IsFlag matches.now (codes "mapped") result.mapped }
 {
     ExtractRequest {
         grammar: flags_of(matches).grammar(),
         first: is_set(matches, FIRST_ENTRY),
         ranges: is_set(matches, RANGES),
+        mapped: is_set(matches, MAPPED),
     }
 }
 

@@ -17,6 +17,16 @@ const FORMAT: &str = "format";
 
 const PREFIX: &str = "prefix";
 
+const SUFFIX: &str = "suffix";
+
+const IPV4_ONLY: &str = "ipv4-only";
+
+const IPV6_ONLY: &str = "ipv6-only";
+
+const CHAIN: &str = "chain";
+
+const TARGET: &str = "target";
+
 const MIN_LENGTH: &str = "min-length";
 
 const IPV4_SET: &str = "ipv4-set";
@@ -26,7 +36,9 @@ const IPV6_SET: &str = "ipv6-set";
 const MAXELEM: &str = "maxelem";
 
 /// The values of `--format`.
-const FORMATS: &[&str] = &["plain", "ranges", "json", "csv", "nft", "ipset"];
+const FORMATS: &[&str] = &[
+    "plain", "ranges", "json", "csv", "nft", "ipset", "frr", "bird", "iptables",
+];
 
 /// The arguments for the form of an answer that is a set.
 pub const ANSWER_FORM: &[Argument] = &[
@@ -46,6 +58,27 @@ pub const ANSWER_FORM: &[Argument] = &[
         ..ARGUMENT
     },
     Argument {
+        id: SUFFIX,
+        form: Form::Value(SUFFIX, "TEXT"),
+        help: "Print TEXT after each line, for plain and ranges",
+        may_have_dash: true,
+        ..ARGUMENT
+    },
+    Argument {
+        id: IPV4_ONLY,
+        form: Form::Flag(IPV4_ONLY),
+        letter: Some('4'),
+        help: "Print only the IPv4 part of the answer; with -6, both parts",
+        ..ARGUMENT
+    },
+    Argument {
+        id: IPV6_ONLY,
+        form: Form::Flag(IPV6_ONLY),
+        letter: Some('6'),
+        help: "Print only the IPv6 part of the answer; with -4, both parts",
+        ..ARGUMENT
+    },
+    Argument {
         id: MIN_LENGTH,
         form: Form::Value(MIN_LENGTH, "LEN"),
         help: "Print networks of at least this prefix length: a shorter one as its subnets of length LEN",
@@ -60,13 +93,25 @@ pub const ANSWER_FORM: &[Argument] = &[
     Argument {
         id: IPV4_SET,
         form: Form::Value(IPV4_SET, "SET"),
-        help: "The set of the IPv4 networks: for nft its family, table and name, as in 'inet filter allowed'",
+        help: "The set or list of the IPv4 networks, for nft, ipset, frr and bird; for nft as in 'inet filter allowed'",
         ..ARGUMENT
     },
     Argument {
         id: IPV6_SET,
         form: Form::Value(IPV6_SET, "SET"),
-        help: "The set of the IPv6 networks, for nft and ipset",
+        help: "The set or list of the IPv6 networks, for the same formats",
+        ..ARGUMENT
+    },
+    Argument {
+        id: CHAIN,
+        form: Form::Value(CHAIN, "CHAIN"),
+        help: "The chain that gets the rules, for iptables, with -4 or -6",
+        ..ARGUMENT
+    },
+    Argument {
+        id: TARGET,
+        form: Form::Value(TARGET, "TARGET"),
+        help: "The target of the rules, for iptables, such as DROP",
         ..ARGUMENT
     },
 ];
@@ -76,16 +121,23 @@ fn options_of<'a>(matches: &ArgMatches<'a>) -> FormOptions<'a>
     ensures { AreFormOptions matches.now result }
 {
     let ranges = is_set(matches, RANGES);
+    let ipv4_only = is_set(matches, IPV4_ONLY);
+    let ipv6_only = is_set(matches, IPV6_ONLY);
     FormOptions {
         format: matches.get_str(FORMAT),
         ranges,
         prefix: matches.get_str(PREFIX),
+        suffix: matches.get_str(SUFFIX),
         min_length: matches.get_str(MIN_LENGTH),
         sets: SetNames {
             ipv4: matches.get_str(IPV4_SET),
             ipv6: matches.get_str(IPV6_SET),
         },
         maxelem: matches.get_str(MAXELEM),
+        chain: matches.get_str(CHAIN),
+        target: matches.get_str(TARGET),
+        ipv4_only,
+        ipv6_only,
     }
 }
 

@@ -39,10 +39,11 @@ impl<'a> LineHandler<'a, Vec<EntryLine<'a>>, NotEntry> for EntryReader {
 
     ghost broken = { λ h. not_entry h.grammar };
 
-    fn refuse_broken(&self) -> NotEntry {
-        NotEntry {
-            grammar: self.grammar,
-        }
+    fn refuse_broken(&self) -> NotEntry
+        ensures { result ≡ not_entry self.now.grammar }
+    {
+        let grammar = self.grammar;
+        NotEntry { grammar }
     }
 
     fn take(

@@ -1,8 +1,7 @@
 -- The networks of the ranges of a set, one range after the other, are the maximal blocks of the set.
-use Rattle.std.proofs.Common.{◌≡◌, ℕ, ◌+◌, ◌<◌, ◌≤◌, ◌^◌, Bool, true, ◌⊎◌, List, [], ◌∷◌, ◌++◌, All, AllPairs, map}
+use Rattle.std.proofs.Common.{◌≡◌, ℕ, ◌<◌, ◌≤◌, ◌^◌, Bool, true, ◌≢◌, List, [], ◌∷◌, ◌++◌, All, AllPairs, map}
 use Rattle.std.proofs.Common.{Option, Some, None}
-use Rattle.std.proofs.Common.{refl, sym, ap, ◌∙◌, subst, arith, inl, inr}
-use Rattle.std.proofs.lemmas.List.{map-append}
+use Rattle.std.proofs.Common.{refl, sym, ap, ◌∙◌, subst, arith}
 use Rattle.std.proofs.lemmas.List.Elements.{All-head, All-tail}
 use Rattle.ipnet_base.specs.Address.{IPv4, IPv6, Address, IsAddress, address_at, width}
 use Rattle.ipnet_base.specs.Network.{Network}
@@ -12,7 +11,6 @@ use Rattle.ipnet_base.proofs.ListLaws.{pairs_tail, all_from_members, all_at}
 use Rattle.ipnet_base.proofs.ListLaws.{any_from_contains}
 use Rattle.ipnet_base.proofs.UniqueLaws.{AreMaximalBlocks-same_set, AreMaximalBlocks-unique}
 use Rattle.ipnet_base.proofs.WalkLaws.{blocks_exist}
-use Rattle.ipnet.specs.CanonicalTexts.{canonical_text}
 use Rattle.ipnet_sets.specs.declared.set.IpSet.{IpSet}
 use Rattle.ipnet_sets.specs.BoundaryRanges.{ranges_of}
 use Rattle.ipnet_sets.specs.Members.{IsMember}
@@ -24,11 +22,13 @@ use Rattle.ipnet_lists.specs.SetLines.{range_text}
 use Rattle.netset_forms.specs.declared.parts.Item.{Item}
 use Rattle.netset_forms.specs.declared.parts.Item.TheVariants as Items
 use Rattle.netset_forms.specs.declared.parts.Part.{Part}
-use Rattle.netset_forms.specs.Forms.{FitsFamilies, AreBlocksIn, network_row}
+use Rattle.netset_forms.specs.Forms.{FitsFamilies, AreBlocksIn}
 use Rattle.netset_forms.specs.FormSteps.{AreBlocksOf, IsCut, IsPutUpTo, PutsSome, CutsSome, rest_in, front_in}
 use Rattle.netset_forms.specs.FormSteps.{none_after}
-use Rattle.netset_forms.specs.FormSteps.{end_of, layout_of, item_text, IsItemsText, IsTextIfSome, FitsIfSome}
+use Rattle.netset_forms.specs.FormSteps.{end_of, layout_of, items_of, number_after, IsItemsText, IsTextIfSome}
+use Rattle.netset_forms.specs.FormSteps.{FitsIfSome}
 use Rattle.netset_forms.specs.Layouts.{Layout, text_in}
+use Rattle.netset_forms.proofs.ItemLaws.{no_items, items_append}
 use Rattle.netset_forms.proofs.PieceLaws.{up_to_start, up_to_more, up_to_cut, up_to_end, rest_append, rest_none}
 
 -- the blocks of ranges that lie apart are the maximal blocks of all of them
@@ -68,20 +68,21 @@ ranges_fit InSet least ranges valid fits h = all_from_members (IsFitting least) 
     (record { of_family = refl; from_start = some; to_end = omega arith })) in
     record { some = some; fits = fits x member; small = valid x member })
 
-module _ (layout : Layout) (item_of : Network → List ℕ) (least : ℕ) (InSet : Address → Type 0) where
+module _ (layout : Layout) (item : Item) (least : ℕ) (InSet : Address → Type 0) where
   -- the items of some ranges of the set are put, and the items of the others are left
-  pub record IsPutting (a b : Option (List ℕ)) (piece here : List ℕ) (none : Bool) (left : List AddressRange) : Type 0
-    where
-      pub all : List Network
-      pub maximal : AreMaximalBlocks InSet least all
-      pub rest : List Network
-      pub of_left : AreBlocksOf least left rest
-      pub up_to : IsPutUpTo a b piece here (rest_in layout none (map item_of rest)) (text_in layout (map item_of all))
-      pub fitting : All (IsFitting least) left
+  pub record IsPutting (a b : Option (List ℕ)) (piece here : List ℕ) (none : Bool) (number : ℕ)
+      (left : List AddressRange) : Type 0 where
+    pub all : List Network
+    pub maximal : AreMaximalBlocks InSet least all
+    pub rest : List Network
+    pub of_left : AreBlocksOf least left rest
+    pub up_to : IsPutUpTo a b piece here (rest_in layout none (items_of item number rest))
+        (text_in layout (items_of item 5 all))
+    pub fitting : All (IsFitting least) left
 
   pub putting_start : (a : Option (List ℕ)) (piece : List ℕ) (ranges : List AddressRange)
       → FitsFamilies InSet least → ((x : Address) → InSet x → IsAddress x) → AreRangesOf InSet ranges
-      → IsPutting a a piece piece true ranges
+      → IsPutting a a piece piece true 5 ranges
   putting_start a piece ranges fits valid h =
       let fitting = ranges_fit InSet least ranges valid fits h in
       let (blocks, of_ranges) = blocks_of_ranges least ranges fitting in record {
@@ -90,108 +91,122 @@ module _ (layout : Layout) (item_of : Network → List ℕ) (least : ℕ) (InSet
             (λ x. ((h.members x).1, (h.members x).0)) (maximal_of_ranges least ranges blocks h.apart of_ranges);
         rest = blocks;
         of_left = of_ranges;
-        up_to = up_to_start a piece (text_in layout (map item_of blocks));
+        up_to = up_to_start a piece (text_in layout (items_of item 5 blocks));
         fitting = fitting;
       }
 
-  pub first_fits : (a b : Option (List ℕ)) (piece here : List ℕ) (none : Bool) (left later : List AddressRange)
-      (r : AddressRange) → left ≡ r ∷ later → IsPutting a b piece here none left → IsFitting least r
-  first_fits a b piece here none left later r split h =
+  pub first_fits : (a b : Option (List ℕ)) (piece here : List ℕ) (none : Bool) (number : ℕ)
+      (left later : List AddressRange) (r : AddressRange) → left ≡ r ∷ later
+      → IsPutting a b piece here none number left → IsFitting least r
+  first_fits a b piece here none number left later r split h =
       All-head (IsFitting least) r later (subst (All (IsFitting least)) split h.fitting)
 
   -- what is left is the items of the first range, and then of the later ones
-  cut_range : (none : Bool) (left later : List AddressRange) (r : AddressRange) (blocks rest : List Network)
+  cut_range : (none : Bool) (number : ℕ) (left later : List AddressRange) (r : AddressRange)
+      (blocks rest : List Network)
       → left ≡ r ∷ later → AreMaximalBlocks (IsInRange r) least blocks → AreBlocksOf least left rest
       → (others : List Network) × AreBlocksOf least later others
-      × (rest_in layout none (map item_of rest)
-      ≡ front_in layout none (map item_of blocks)
-      ++ rest_in layout (none_after none (map item_of blocks)) (map item_of others))
-  cut_range none left later r blocks rest split maximal of_left =
+      × (rest_in layout none (items_of item number rest)
+      ≡ front_in layout none (items_of item number blocks)
+      ++ rest_in layout (none_after none (items_of item number blocks))
+      (items_of item (number_after number blocks) others))
+  cut_range none number left later r blocks rest split maximal of_left =
       let (front, others, h, k, e) = subst (λ z. AreBlocksOf least z rest) split of_left in
       let same : front ≡ blocks = AreMaximalBlocks-unique (IsInRange r) least front blocks h maximal in (
         others,
         k,
-        ap (λ z. rest_in layout none (map item_of z)) (e ∙ ap (λ z. z ++ others) same)
-            ∙ ap (rest_in layout none) (map-append item_of blocks others)
-            ∙ rest_append layout none (map item_of blocks) (map item_of others),
+        ap (λ z. rest_in layout none (items_of item number z)) (e ∙ ap (λ z. z ++ others) same)
+            ∙ ap (rest_in layout none) (items_append item number blocks others)
+            ∙ rest_append layout none (items_of item number blocks)
+            (items_of item (number_after number blocks) others),
       )
 
-  pub putting_more : (a b c : Option (List ℕ)) (piece here new : List ℕ) (none now : Bool)
+  pub putting_more : (a b c : Option (List ℕ)) (piece here new : List ℕ) (none now : Bool) (number later_number : ℕ)
       (left later : List AddressRange) (r : AddressRange) (blocks : List Network)
-      → left ≡ r ∷ later → AreMaximalBlocks (IsInRange r) least blocks → now ≡ none_after none (map item_of blocks)
-      → IsInPieces b c new (here ++ front_in layout none (map item_of blocks)) → IsPutting a b piece here none left
-      → IsPutting a c piece new now later
-  putting_more a b c piece here new none now left later r blocks split maximal is_none put h =
-      let (others, of_later, cut) = cut_range none left later r blocks h.rest split maximal h.of_left in record {
+      → left ≡ r ∷ later → AreMaximalBlocks (IsInRange r) least blocks
+      → now ≡ none_after none (items_of item number blocks) → later_number ≡ number_after number blocks
+      → IsInPieces b c new (here ++ front_in layout none (items_of item number blocks))
+      → IsPutting a b piece here none number left → IsPutting a c piece new now later_number later
+  putting_more a b c piece here new none now number later_number left later r blocks split maximal is_none is_number
+      put h =
+      let (others, of_later, cut) = cut_range none number left later r blocks h.rest split maximal h.of_left in record {
         all = h.all;
         maximal = h.maximal;
         rest = others;
         of_left = of_later;
-        up_to = up_to_more a b c piece here new (rest_in layout none (map item_of h.rest))
-            (front_in layout none (map item_of blocks)) (rest_in layout now (map item_of others))
-            (text_in layout (map item_of h.all)) h.up_to
-            (cut ∙ ap (λ z. front_in layout none (map item_of blocks) ++ rest_in layout z (map item_of others))
-            (sym is_none)) put;
+        up_to = up_to_more a b c piece here new (rest_in layout none (items_of item number h.rest))
+            (front_in layout none (items_of item number blocks))
+            (rest_in layout now (items_of item later_number others))
+            (text_in layout (items_of item 5 h.all)) h.up_to
+            (cut ∙ ap (λ z. front_in layout none (items_of item number blocks)
+            ++ rest_in layout z (items_of item (number_after number blocks) others)) (sym is_none)
+            ∙ ap (λ z. front_in layout none (items_of item number blocks)
+            ++ rest_in layout now (items_of item z others)) (sym is_number)) put;
         fitting = All-tail (IsFitting least) r later (subst (All (IsFitting least)) split h.fitting);
       }
 
   text_of_all : (all : List Network) → FitsFamilies InSet least → AreMaximalBlocks InSet least all
-      → AreBlocksIn layout item_of least InSet (text_in layout (map item_of all))
+      → AreBlocksIn layout (items_of item 5) least InSet (text_in layout (items_of item 5 all))
   text_of_all all fits maximal = record { fits = fits; blocks = all; maximal = maximal; spelled = refl }
 
-  pub putting_cut : (a b c : Option (List ℕ)) (piece here : List ℕ) (none : Bool) (left later : List AddressRange)
-      (r : AddressRange) (blocks : List Network)
+  pub putting_cut : (a b c : Option (List ℕ)) (piece here : List ℕ) (none : Bool) (number : ℕ)
+      (left later : List AddressRange) (r : AddressRange) (blocks : List Network)
       → left ≡ r ∷ later → AreMaximalBlocks (IsInRange r) least blocks
-      → IsCut b c here (front_in layout none (map item_of blocks)) → FitsFamilies InSet least
-      → IsPutting a b piece here none left → CutsSome (AreBlocksIn layout item_of least InSet) a c piece
-  putting_cut a b c piece here none left later r blocks split maximal cut fits h =
-      let (others, of_later, is) = cut_range none left later r blocks h.rest split maximal h.of_left in (
-        text_in layout (map item_of h.all),
+      → IsCut b c here (front_in layout none (items_of item number blocks)) → FitsFamilies InSet least
+      → IsPutting a b piece here none number left
+      → CutsSome (AreBlocksIn layout (items_of item 5) least InSet) a c piece
+  putting_cut a b c piece here none number left later r blocks split maximal cut fits h =
+      let (others, of_later, is) = cut_range none number left later r blocks h.rest split maximal h.of_left in (
+        text_in layout (items_of item 5 h.all),
         text_of_all h.all fits h.maximal,
-        up_to_cut a b c piece here (rest_in layout none (map item_of h.rest))
-            (front_in layout none (map item_of blocks))
-            (rest_in layout (none_after none (map item_of blocks)) (map item_of others))
-            (text_in layout (map item_of h.all)) h.up_to is cut,
+        up_to_cut a b c piece here (rest_in layout none (items_of item number h.rest))
+            (front_in layout none (items_of item number blocks))
+            (rest_in layout (none_after none (items_of item number blocks))
+            (items_of item (number_after number blocks) others))
+            (text_in layout (items_of item 5 h.all)) h.up_to is cut,
       )
 
-  none_left : (none : Bool) (left : List AddressRange) (rest : List Network) → left ≡ [] → AreBlocksOf least left rest
-      → rest_in layout none (map item_of rest) ≡ end_of layout none ++ []
-  none_left none left rest over of_left =
-      ap (λ z. rest_in layout none (map item_of z)) (subst (λ z. AreBlocksOf least z rest) over of_left)
-      ∙ rest_none layout none
+  none_left : (none : Bool) (number : ℕ) (left : List AddressRange) (rest : List Network) → left ≡ []
+      → AreBlocksOf least left rest → rest_in layout none (items_of item number rest) ≡ end_of layout none ++ []
+  none_left none number left rest over of_left =
+      ap (λ z. rest_in layout none (items_of item number z)) (subst (λ z. AreBlocksOf least z rest) over of_left)
+      ∙ ap (rest_in layout none) (no_items item number) ∙ rest_none layout none
 
-  pub putting_end : (a b c : Option (List ℕ)) (piece here new : List ℕ) (none : Bool) (left : List AddressRange)
+  pub putting_end : (a b c : Option (List ℕ)) (piece here new : List ℕ) (none : Bool) (number : ℕ)
+      (left : List AddressRange)
       → left ≡ [] → IsInPieces b c new (here ++ end_of layout none) → FitsFamilies InSet least
-      → IsPutting a b piece here none left → PutsSome (AreBlocksIn layout item_of least InSet) a c piece new
-  putting_end a b c piece here new none left over put fits h =
-      let text = text_in layout (map item_of h.all) in (
+      → IsPutting a b piece here none number left
+      → PutsSome (AreBlocksIn layout (items_of item 5) least InSet) a c piece new
+  putting_end a b c piece here new none number left over put fits h =
+      let text = text_in layout (items_of item 5 h.all) in (
         text,
         text_of_all h.all fits h.maximal,
         up_to_end a c piece new [] text refl
-            (up_to_more a b c piece here new (rest_in layout none (map item_of h.rest)) (end_of layout none) [] text
-            h.up_to (none_left none left h.rest over h.of_left) put),
+            (up_to_more a b c piece here new (rest_in layout none (items_of item number h.rest)) (end_of layout none) []
+            text h.up_to (none_left none number left h.rest over h.of_left) put),
       )
 
-  pub putting_end_cut : (a b c : Option (List ℕ)) (piece here : List ℕ) (none : Bool) (left : List AddressRange)
+  pub putting_end_cut : (a b c : Option (List ℕ)) (piece here : List ℕ) (none : Bool) (number : ℕ)
+      (left : List AddressRange)
       → left ≡ [] → IsCut b c here (end_of layout none) → FitsFamilies InSet least
-      → IsPutting a b piece here none left → CutsSome (AreBlocksIn layout item_of least InSet) a c piece
-  putting_end_cut a b c piece here none left over cut fits h =
-      let text = text_in layout (map item_of h.all) in (
+      → IsPutting a b piece here none number left
+      → CutsSome (AreBlocksIn layout (items_of item 5) least InSet) a c piece
+  putting_end_cut a b c piece here none number left over cut fits h =
+      let text = text_in layout (items_of item 5 h.all) in (
         text,
         text_of_all h.all fits h.maximal,
-        up_to_cut a b c piece here (rest_in layout none (map item_of h.rest)) (end_of layout none) [] text
-            h.up_to (none_left none left h.rest over h.of_left) cut,
+        up_to_cut a b c piece here (rest_in layout none (items_of item number h.rest)) (end_of layout none) [] text
+            h.up_to (none_left none number left h.rest over h.of_left) cut,
       )
 
 -- ---- the text of a part
 
-pub items_of_blocks : (item : Item) (layout : Layout) (least : ℕ) (InSet : Address → Type 0)
-    → (item ≡ Items.Network) ⊎ (item ≡ Items.Row)
-    → AreBlocksIn layout (item_text item) least InSet ≡ IsItemsText item layout least InSet
+pub items_of_blocks : (item : Item) (layout : Layout) (least : ℕ) (InSet : Address → Type 0) → item ≢ Items.Range
+    → AreBlocksIn layout (items_of item 5) least InSet ≡ IsItemsText item layout least InSet
 items_of_blocks Items.Network layout least InSet h = refl
 items_of_blocks Items.Row layout least InSet h = refl
-items_of_blocks Items.Range layout least InSet (inl e) = absurd cc
-items_of_blocks Items.Range layout least InSet (inr e) = absurd cc
+items_of_blocks Items.Range layout least InSet h = absurd (h refl)
+items_of_blocks Items.Entry layout least InSet h = refl
 
 ranges_of_value : (s : IpSet) → (ranges : List AddressRange) × AreRangesOf (IsMember s) ranges
 ranges_of_value s = (
@@ -211,17 +226,20 @@ blocks_of_value s least fits =
           (λ x. ((h.members x).1, (h.members x).0)) (maximal_of_ranges least ranges blocks h.apart of_ranges),
     )
 
+text_of_blocks : (item : Item) (layout : Layout) (least : ℕ) (s : IpSet) → FitsFamilies (IsMember s) least
+    → (text : List ℕ) × AreBlocksIn layout (items_of item 5) least (IsMember s) text
+text_of_blocks item layout least s fits =
+    let (all, maximal) = blocks_of_value s least fits in
+    (_, text_of_all layout item least (IsMember s) all fits maximal)
+
 text_of_items : (item : Item) (layout : Layout) (least : ℕ) (s : IpSet) → FitsFamilies (IsMember s) least
     → (text : List ℕ) × IsItemsText item layout least (IsMember s) text
-text_of_items Items.Network layout least s fits =
-    let (all, maximal) = blocks_of_value s least fits in
-    (_, text_of_all layout canonical_text least (IsMember s) all fits maximal)
-text_of_items Items.Row layout least s fits =
-    let (all, maximal) = blocks_of_value s least fits in
-    (_, text_of_all layout network_row least (IsMember s) all fits maximal)
+text_of_items Items.Network layout least s fits = text_of_blocks Items.Network layout least s fits
+text_of_items Items.Row layout least s fits = text_of_blocks Items.Row layout least s fits
 text_of_items Items.Range layout least s fits =
     let (ranges, h) = ranges_of_value s in
     (text_in layout (map range_text ranges), record { ranges = ranges; fewest = h; spelled = refl })
+text_of_items Items.Entry layout least s fits = text_of_blocks Items.Entry layout least s fits
 
 -- a part has a text
 pub text_if_some : (part : Option Part) → FitsIfSome part → (text : List ℕ) × IsTextIfSome part text

@@ -1,10 +1,9 @@
 -- Sets with the same addresses have the same texts, so the text of a set is the text of what it was made of.
-use Rattle.std.proofs.Common.{◌≡◌, ◌↔◌, ℕ, List, [], max, Option, Some, None}
+use Rattle.std.proofs.Common.{◌↔◌, ℕ, List, [], max, Option, Some, None}
 use Rattle.std.specs.Borrow.{Bor}
 use Rattle.ipnet_base.specs.Address.{Family, IPv4, IPv6, Address}
 use Rattle.ipnet_base.specs.Network.{Network}
 use Rattle.ipnet_base.proofs.UniqueLaws.{AreMaximalBlocks-same_set}
-use Rattle.ipnet.specs.CanonicalTexts.{canonical_text}
 use Rattle.ipnet.specs.declared.parser.Grammar.{Grammar}
 use Rattle.ipnet_rules.specs.declared.rules.Action.{Action}
 use Rattle.ipnet_sets.specs.declared.set.IpSet.{IpSet}
@@ -17,17 +16,24 @@ use Rattle.netset_forms.specs.declared.form.AnswerForm.{AnswerForm}
 use Rattle.netset_forms.specs.declared.form.AnswerForm.TheVariants as Forms
 use Rattle.netset_forms.specs.declared.form.FormRequest.{FormRequest}
 use Rattle.netset_forms.specs.declared.form.SetNames.{SetNames}
-use Rattle.netset_forms.specs.FormAnswers.{IsAskedText, IsFormAnswer, IsPermittedForm}
+use Rattle.netset_forms.specs.FormAnswers.{IsFormAnswer, IsPermittedForm}
 use Rattle.netset_forms.specs.Forms.{AreBlocksIn, AreRangesIn, IsFamilyText, AreFamilyTexts, IsFormText, IsOfFamily}
-use Rattle.netset_forms.specs.Forms.{network_row, ipset_kind}
+use Rattle.netset_forms.specs.Forms.{plain_items, row_items, entries_from, ipset_kind, frr_of, IsOfFamilies}
+use Rattle.netset_forms.specs.Forms.{IsAskedText, HasOne}
+use Rattle.netset_forms.specs.Forms.{IsFormFailure, IsAskedFailure}
 use Rattle.netset_forms.specs.Layouts.{Layout, line_layout, json_layout, csv_layout, nft_layout, ipset_layout}
+use Rattle.netset_forms.specs.Layouts.{bird_layout, chain_layout}
+use Rattle.netset_forms.specs.declared.form.FormFailure.{FormFailure}
+use Rattle.netset_forms.specs.declared.form.FormFailure.TheVariants as Failures
+use Rattle.netset_lib.specs.declared.operation.Families.{Families}
+use Rattle.netset_lib.specs.declared.operation.Families.TheVariants as Chosen
 
 -- ---- two sets with the same addresses
 
 blocks_same : (A B : Address → Type 0) → ((x : Address) → A x ↔ B x) → (layout : Layout)
-    (item_of : Network → List ℕ) (least : ℕ) (text : List ℕ) → AreBlocksIn layout item_of least A text
-    → AreBlocksIn layout item_of least B text
-blocks_same A B same layout item_of least text h = record {
+    (items_of : List Network → List (List ℕ)) (least : ℕ) (text : List ℕ) → AreBlocksIn layout items_of least A text
+    → AreBlocksIn layout items_of least B text
+blocks_same A B same layout items_of least text h = record {
   fits = λ x b. h.fits x ((same x).1 b);
   blocks = h.blocks;
   maximal = AreMaximalBlocks-same_set A B least h.blocks same h.maximal;
@@ -47,43 +53,84 @@ ranges_same A B same layout text h = record {
 }
 
 family_same : (A B : Address → Type 0) → ((x : Address) → A x ↔ B x) → (layout_of : List ℕ → Layout)
-    (name : Option (Bor (List ℕ))) (family : Family) (least : ℕ) (text : List ℕ)
-    → IsFamilyText layout_of name family least A text → IsFamilyText layout_of name family least B text
-family_same A B same layout_of None family least text h = (λ x i. h.0 x ((same x).1 i.0, i.1), h.1)
-family_same A B same layout_of (Some name) family least text h =
+    (items_of : List Network → List (List ℕ)) (name : Option (Bor (List ℕ))) (family : Family) (least : ℕ)
+    (text : List ℕ) → IsFamilyText layout_of items_of name family least A text
+    → IsFamilyText layout_of items_of name family least B text
+family_same A B same layout_of items_of None family least text h = (λ x i. h.0 x ((same x).1 i.0, i.1), h.1)
+family_same A B same layout_of items_of (Some name) family least text h =
     blocks_same (IsOfFamily A family) (IsOfFamily B family)
-    (λ x. (λ i. ((same x).0 i.0, i.1), λ i. ((same x).1 i.0, i.1))) (layout_of name.now) canonical_text least text h
+    (λ x. (λ i. ((same x).0 i.0, i.1), λ i. ((same x).1 i.0, i.1))) (layout_of name.now) items_of least text h
 
 families_same : (A B : Address → Type 0) → ((x : Address) → A x ↔ B x) → (layout4 layout6 : List ℕ → Layout)
-    (names : SetNames) (least : ℕ) (text : List ℕ) → AreFamilyTexts layout4 layout6 names least A text
-    → AreFamilyTexts layout4 layout6 names least B text
-families_same A B same layout4 layout6 names least text h = record {
+    (items_of : List Network → List (List ℕ)) (names : SetNames) (least : ℕ) (text : List ℕ)
+    → AreFamilyTexts layout4 layout6 items_of names least A text
+    → AreFamilyTexts layout4 layout6 items_of names least B text
+families_same A B same layout4 layout6 items_of names least text h = record {
   fits = λ x b. h.fits x ((same x).1 b);
   ipv4 = h.ipv4;
   ipv6 = h.ipv6;
-  ipv4_part = family_same A B same layout4 names.ipv4 IPv4 least h.ipv4 h.ipv4_part;
-  ipv6_part = family_same A B same layout6 names.ipv6 IPv6 least h.ipv6 h.ipv6_part;
+  ipv4_part = family_same A B same layout4 items_of names.ipv4 IPv4 least h.ipv4 h.ipv4_part;
+  ipv6_part = family_same A B same layout6 items_of names.ipv6 IPv6 least h.ipv6 h.ipv6_part;
   spelled = h.spelled;
 }
 
 form_same : (A B : Address → Type 0) → ((x : Address) → A x ↔ B x) → (form : AnswerForm) (least : ℕ)
     (text : List ℕ) → IsFormText form least A text → IsFormText form least B text
-form_same A B same (Forms.Networks prefix) least text h =
-    blocks_same A B same (line_layout prefix.now) canonical_text least text h
-form_same A B same (Forms.Ranges prefix) least text h = ranges_same A B same (line_layout prefix.now) text h
-form_same A B same Forms.Json least text h = blocks_same A B same json_layout canonical_text least text h
-form_same A B same Forms.Csv least text h = blocks_same A B same csv_layout network_row least text h
-form_same A B same (Forms.Nft names) least text h = families_same A B same nft_layout nft_layout names least text h
+form_same A B same (Forms.Networks lines) least text h =
+    blocks_same A B same (line_layout lines.prefix.now lines.suffix.now) plain_items least text h
+form_same A B same (Forms.Ranges lines) least text h =
+    ranges_same A B same (line_layout lines.prefix.now lines.suffix.now) text h
+form_same A B same Forms.Json least text h = blocks_same A B same json_layout plain_items least text h
+form_same A B same Forms.Csv least text h = blocks_same A B same csv_layout row_items least text h
+form_same A B same (Forms.Nft names) least text h =
+    families_same A B same nft_layout nft_layout plain_items names least text h
 form_same A B same (Forms.Ipset names most) least text h =
-    families_same A B same (ipset_layout (ipset_kind most IPv4)) (ipset_layout (ipset_kind most IPv6)) names
-    (max least 1) text h
+    families_same A B same (ipset_layout (ipset_kind most IPv4)) (ipset_layout (ipset_kind most IPv6)) plain_items
+    names (max least 1) text h
+form_same A B same (Forms.Frr names) least text h =
+    families_same A B same (frr_of IPv4) (frr_of IPv6) (entries_from 5) names least text h
+form_same A B same (Forms.Bird names) least text h =
+    families_same A B same bird_layout bird_layout plain_items names least text h
+form_same A B same (Forms.Iptables rules) least text h =
+    blocks_same A B same (chain_layout rules.chain.now rules.target.now) plain_items least text h
+
+-- ---- the addresses of some families
+
+chosen_same : (A B : Address → Type 0) → ((x : Address) → A x ↔ B x) → (families : Families) (x : Address)
+    → IsOfFamilies families A x ↔ IsOfFamilies families B x
+chosen_same A B same Chosen.Named x = same x
+chosen_same A B same Chosen.Ipv4 x = (λ i. ((same x).0 i.0, i.1), λ i. ((same x).1 i.0, i.1))
+chosen_same A B same Chosen.Ipv6 x = (λ i. ((same x).0 i.0, i.1), λ i. ((same x).1 i.0, i.1))
+chosen_same A B same Chosen.Both x = same x
+
+asked_same : (A B : Address → Type 0) → ((x : Address) → A x ↔ B x) → (r : FormRequest) (text : List ℕ)
+    → IsAskedText r A text → IsAskedText r B text
+asked_same A B same r text h =
+    form_same (IsOfFamilies r.families A) (IsOfFamilies r.families B) (chosen_same A B same r.families) r.form
+    r.min_length text h
+
+module _ (r : FormRequest) (InSet Sub : Address → Type 0)
+    (same : (x : Address) → Sub x ↔ IsOfFamilies r.families InSet x) where
+  pub text_of_chosen : (text : List ℕ) → IsFormText r.form r.min_length Sub text → IsAskedText r InSet text
+  text_of_chosen text h = form_same Sub (IsOfFamilies r.families InSet) same r.form r.min_length text h
+
+  one_of_chosen : (f : Family) → HasOne Sub f → HasOne (IsOfFamilies r.families InSet) f
+  one_of_chosen f (x, (i, e)) = (x, ((same x).0 i, e))
+
+  pub failure_of_chosen : (failure : FormFailure) → IsFormFailure r.form r.min_length Sub failure
+      → IsAskedFailure r InSet failure
+  failure_of_chosen (Failures.MinLength least greatest) (e, (f, one, greatest_is, less)) =
+      (e, (f, one_of_chosen f one, greatest_is, less))
+  failure_of_chosen Failures.NoIpv4Set (names, of_form, none, one) = (names, of_form, none, one_of_chosen IPv4 one)
+  failure_of_chosen Failures.NoIpv6Set (names, of_form, none, one) = (names, of_form, none, one_of_chosen IPv6 one)
+  failure_of_chosen Failures.Memory h = tt
+  failure_of_chosen Failures.Unwritable h = tt
 
 -- ---- the result of an operation
 
 pub text_of_sets : (c : Combination) (form : FormRequest) (set : IpSet) → IsCombined c set → (text : List ℕ)
     → IsAskedText form (IsMember set) text → IsFormAnswer c form text
-text_of_sets c form set of text right =
-    (of.0, form_same (IsMember set) (IsInCombined c) of.1 form.form form.min_length text right)
+text_of_sets c form set of text right = (of.0, asked_same (IsMember set) (IsInCombined c) of.1 form text right)
 
 -- ---- the set that a list of rules permits
 
@@ -94,5 +141,5 @@ module _ (default : Action) (form : FormRequest) (grammar : Grammar) (bytes : Li
   text_of_rules text right = record {
     contents = contents;
     read = read;
-    right = form_same (IsMember set) (IsPermittedBy contents.rules default) of form.form form.min_length text right;
+    right = asked_same (IsMember set) (IsPermittedBy contents.rules default) of form text right;
   }

@@ -2,6 +2,7 @@
 pub mod BlockItems
 pub mod CommandLaws
 pub mod FormLaws
+pub mod ItemLaws
 pub mod PartLaws
 pub mod PieceLaws
 pub mod RangeItems

@@ -1,6 +1,6 @@
 -- Texts that are put one after another: what the writer has received, and what the piece still has.
 use Rattle.std.proofs.Common.{◌≡◌, ℕ, Bool, true, false, List, [], ◌∷◌, ◌++◌, refl, sym, ap, ◌∙◌, Option}
-use Rattle.std.proofs.Common.{append_assoc, append-nil, Result, Ok, Err, OnOk, OnErr, map, codes, take, get_or}
+use Rattle.std.proofs.Common.{append_assoc, append-nil, Result, Ok, Err, OnOk, OnErr, codes, take, get_or}
 use Rattle.std.proofs.Common.{length, ◌<◌, ◌+◌, subst}
 use Rattle.std.specs.Borrow.{Bor}
 use Rattle.std.specs.Io.{StartsWith}
@@ -120,7 +120,7 @@ pub front_more : (l : Layout) (none : Bool) (item : List ℕ) (items : List (Lis
 front_more l none item items = sym (append_assoc (lead_of l none) item (front_in l false items))
 
 -- some item was written, and then others
-after_some : (items : List (List ℕ)) → none_after false items ≡ false
+pub after_some : (items : List (List ℕ)) → none_after false items ≡ false
 after_some [] = refl
 after_some (item ∷ items) = refl
 
@@ -138,16 +138,6 @@ rest_append l none (item ∷ items) others =
 pub rest_none : (l : Layout) (none : Bool) → rest_in l none [] ≡ end_of l none ++ []
 rest_none l true = sym (append-nil l.none)
 rest_none l false = sym (append-nil l.after)
-
-module _ {X : Type 0} (l : Layout) (item_of : X → List ℕ) (none : Bool) (left later : List X) (x : X)
-    (split : left ≡ x ∷ later) where
-  pub front_step : front_in l none (map item_of left)
-      ≡ (lead_of l none ++ item_of x) ++ front_in l false (map item_of later)
-  front_step =
-      ap (λ z. front_in l none (map item_of z)) split ∙ front_more l none (item_of x) (map item_of later)
-
-  pub none_step : none_after false (map item_of later) ≡ none_after none (map item_of left)
-  none_step = after_some (map item_of later) ∙ sym (ap (λ z. none_after none (map item_of z)) split)
 
 -- the two addresses of a row are the first and the last of the network
 pub pair_same : (n : Network) (a b : Address) → IsLeastOf n a → IsGreatestOf n b

@@ -1,5 +1,5 @@
 -- The texts of two parts, one after the other.
-use Rattle.std.proofs.Common.{◌≡◌, ℕ, List, [], ◌++◌, refl, sym, Option, append-nil}
+use Rattle.std.proofs.Common.{ℕ, List, [], ◌++◌, refl, sym, Option, append-nil}
 use Rattle.std.specs.Io.{StartsWith}
 use Rattle.std.specs.Io.KnownBytes.{Appends, Keeps}
 use Rattle.std.proofs.KnownBytes.{Appends-kept}
@@ -7,7 +7,7 @@ use Rattle.ipnet_text.specs.Pieces.{IsInPieces}
 use Rattle.ipnet_text.proofs.WritingLaws.{front_written, all_written, whole_front}
 use Rattle.ipnet_text.specs.Outputs.{IsWritten, IsFrontWritten}
 use Rattle.netset_forms.specs.declared.parts.Parts.{Parts}
-use Rattle.netset_forms.specs.FormSteps.{PutsSome, CutsSome, IsCut, IsTextIfSome, FitsIfSome, ArePartTexts}
+use Rattle.netset_forms.specs.FormSteps.{PutsSome, CutsSome, IsTextIfSome, FitsIfSome, ArePartTexts}
 use Rattle.netset_forms.proofs.BlockItems.{text_if_some}
 use Rattle.netset_forms.proofs.PieceLaws.{put_then, cut_first, cut_then}
 

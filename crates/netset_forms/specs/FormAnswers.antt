@@ -1,6 +1,5 @@
 -- The results of operations, and of lists of rules, in any form.
 use Rattle.std.specs.Prelude.{ℕ, List, []}
-use Rattle.ipnet_base.specs.Address.{Address}
 use Rattle.ipnet.specs.declared.parser.Grammar.{Grammar}
 use Rattle.ipnet_rules.specs.declared.rules.Action.{Action}
 use Rattle.netset_lib.specs.declared.operation.Combination.{Combination}
@@ -8,11 +7,7 @@ use Rattle.netset_lib.specs.Combinations.{HasFamily, IsInCombined}
 use Rattle.netset_lib.specs.RuleAnswers.{IsPermittedBy}
 use Rattle.netset_lib.specs.RuleLines.{RuleContents, IsRuleList}
 use Rattle.netset_forms.specs.declared.form.FormRequest.{FormRequest}
-use Rattle.netset_forms.specs.Forms.{IsFormText}
-
--- The text of the set as it is asked for.
-abbrev pub IsAskedText : FormRequest → (Address → Type 0) → List ℕ → Type 0
-IsAskedText form = IsFormText form.form form.min_length
+use Rattle.netset_forms.specs.Forms.{IsAskedText}
 
 -- The text is the operation's result as it is asked for.
 -- Example: the difference of 10.0.0.0/30 and 10.0.0.3, as ranges, is `10.0.0.0-10.0.0.2`.

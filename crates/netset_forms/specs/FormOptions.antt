@@ -5,15 +5,19 @@ use Rattle.std.specs.List.{list_any}
 use Rattle.std.specs.Borrow.{Bor}
 use Rattle.ipnet.specs.Numerals.{IsDecimal}
 use Rattle.ipnet.specs.declared.parser.Grammar.TheVariants.{Strict}
-use Rattle.netset_forms.specs.SetWords.{AreApart, IsIpsetName, IsNftName}
+use Rattle.netset_forms.specs.SetWords.{AreApart, IsIpsetName, IsNftName, IsFrrName, IsBirdName}
+use Rattle.netset_forms.specs.SetWords.{IsChainName, IsTargetName}
 use Rattle.netset_forms.specs.declared.form.AnswerForm.{AnswerForm}
 use Rattle.netset_forms.specs.declared.form.AnswerForm.TheVariants as Forms
+use Rattle.netset_forms.specs.declared.form.ChainRules.{ChainRules}
 use Rattle.netset_forms.specs.declared.form.FormRequest.{FormRequest}
 use Rattle.netset_forms.specs.declared.options.FormFault.{FormFault}
 use Rattle.netset_forms.specs.declared.options.FormFault.TheVariants as Faults
 use Rattle.netset_forms.specs.declared.options.FormName.{FormName}
 use Rattle.netset_forms.specs.declared.options.FormName.TheVariants.{Plain, Ranges, Json, Csv, Nft, Ipset}
+use Rattle.netset_forms.specs.declared.options.FormName.TheVariants.{Frr, Bird, Iptables}
 use Rattle.netset_forms.specs.declared.options.FormOptions.{FormOptions}
+use Rattle.netset_lib.specs.Commands.{families_of}
 use Rattle.netset_lib.specs.PlanAnswers.{IsLengthText}
 
 -- The name of the form, as `--format` has it.
@@ -24,6 +28,9 @@ form_text Json = codes "json"
 form_text Csv = codes "csv"
 form_text Nft = codes "nft"
 form_text Ipset = codes "ipset"
+form_text Frr = codes "frr"
+form_text Bird = codes "bird"
+form_text Iptables = codes "iptables"
 
 -- A text can be before each line of the form.
 abbrev pub HasLines : FormName → Type 0
@@ -33,6 +40,9 @@ HasLines Json = ⊥
 HasLines Csv = ⊥
 HasLines Nft = ⊥
 HasLines Ipset = ⊥
+HasLines Frr = ⊥
+HasLines Bird = ⊥
+HasLines Iptables = ⊥
 
 -- The form has sets with names.
 abbrev pub HasSets : FormName → Type 0
@@ -42,6 +52,9 @@ HasSets Json = ⊥
 HasSets Csv = ⊥
 HasSets Nft = Unit {0}
 HasSets Ipset = Unit {0}
+HasSets Frr = Unit {0}
+HasSets Bird = Unit {0}
+HasSets Iptables = ⊥
 
 -- The options name this form: by `--format`, or ranges by `--ranges`; without both it is plain.
 pub record IsFormNamed (options : FormOptions) (form : FormName) : Type 0 where
@@ -71,45 +84,78 @@ IsMinLength form options length = ((options.min_length ≡ None) × (length ≡ 
 abbrev pub is_line_break : ℕ → Bool
 is_line_break byte = byte == 10 || byte == 13
 
--- A text before each line is for lines, and is one line.
-abbrev pub IsGoodPrefix : FormName → FormOptions → Type 0
-IsGoodPrefix form options =
-    IfSome options.prefix (λ text. HasLines form × (list_any is_line_break text.now ≡ false))
+-- A text before or after each line is for lines, and is one line.
+abbrev pub IsGoodText : FormName → Option (Bor (List ℕ)) → Type 0
+IsGoodText form given =
+    IfSome given (λ text. HasLines form × (list_any is_line_break text.now ≡ false))
 
 -- A set has a name if and only if the form has sets.
 abbrev pub AreGoodSets : FormName → FormOptions → Type 0
 AreGoodSets form options = HasNames options ↔ HasSets form
 
+-- The text names a set of the form.
+abbrev pub IsNameFor : FormName → List ℕ → Type 0
+IsNameFor Plain text = Unit {0}
+IsNameFor Ranges text = Unit {0}
+IsNameFor Json text = Unit {0}
+IsNameFor Csv text = Unit {0}
+IsNameFor Nft text = IsNftName text
+IsNameFor Ipset text = IsIpsetName text
+IsNameFor Frr text = IsFrrName text
+IsNameFor Bird text = IsBirdName text
+IsNameFor Iptables text = Unit {0}
+
 -- A name is one of a set of the form.
 abbrev pub IsGoodName : FormName → Option (Bor (List ℕ)) → Type 0
-IsGoodName form name = IfSome name (λ text. (form ≡ Nft → IsNftName text.now) × (form ≡ Ipset → IsIpsetName text.now))
+IsGoodName form name = IfSome name (λ text. IsNameFor form text.now)
 
 -- The commands for each of two sets leave the other as it is.
 abbrev pub AreGoodBoth : FormName → FormOptions → Type 0
 AreGoodBoth form options = IfSome options.sets.ipv4 (λ ipv4. IfSome options.sets.ipv6 (λ ipv6.
-    (form ≡ Nft → ipv4.now ≢ ipv6.now) × (form ≡ Ipset → AreApart ipv4.now ipv6.now)))
+    (form ≡ Nft → ipv4.now ≢ ipv6.now) × (form ≡ Ipset → AreApart ipv4.now ipv6.now)
+    × (form ≡ Bird → ipv4.now ≢ ipv6.now)))
+
+-- The rules that the options ask for: each of the chain's own, with one family; or the form is another.
+abbrev pub AreRulesOf : FormName → FormOptions → ChainRules → Type 0
+AreRulesOf form options rules =
+    ((form ≢ Iptables) × (options.chain ≡ None) × (options.target ≡ None))
+    ⊎ ((form ≡ Iptables) × (options.chain ≡ Some rules.chain) × (options.target ≡ Some rules.target)
+    × IsChainName rules.chain.now × IsTargetName rules.target.now × (rules.chain.now ≢ rules.target.now)
+    × (options.ipv4_only ≢ options.ipv6_only))
+
+-- The text that is given, or no text.
+abbrev pub text_or_none : Option (Bor (List ℕ)) → List ℕ
+text_or_none given = unwrap_or (option_map (λ text. text.now) given) []
 
 -- The form of this name, with the values of the options.
-abbrev pub IsFormOf : FormName → FormOptions → ℕ → AnswerForm → Type 0
-IsFormOf form options most (Forms.Networks text) =
-    (form ≡ Plain) × (text.now ≡ unwrap_or (option_map (λ given. given.now) options.prefix) [])
-IsFormOf form options most (Forms.Ranges text) =
-    (form ≡ Ranges) × (text.now ≡ unwrap_or (option_map (λ given. given.now) options.prefix) [])
-IsFormOf form options most Forms.Json = form ≡ Json
-IsFormOf form options most Forms.Csv = form ≡ Csv
-IsFormOf form options most (Forms.Nft sets) = (form ≡ Nft) × (sets ≡ options.sets)
-IsFormOf form options most (Forms.Ipset sets number) = (form ≡ Ipset) × (sets ≡ options.sets) × (number ≡ most)
+abbrev pub IsFormOf : FormName → FormOptions → ℕ → ChainRules → AnswerForm → Type 0
+IsFormOf form options most rules (Forms.Networks lines) = (form ≡ Plain)
+    × (lines.prefix.now ≡ text_or_none options.prefix) × (lines.suffix.now ≡ text_or_none options.suffix)
+IsFormOf form options most rules (Forms.Ranges lines) = (form ≡ Ranges)
+    × (lines.prefix.now ≡ text_or_none options.prefix) × (lines.suffix.now ≡ text_or_none options.suffix)
+IsFormOf form options most rules Forms.Json = form ≡ Json
+IsFormOf form options most rules Forms.Csv = form ≡ Csv
+IsFormOf form options most rules (Forms.Nft sets) = (form ≡ Nft) × (sets ≡ options.sets)
+IsFormOf form options most rules (Forms.Ipset sets number) =
+    (form ≡ Ipset) × (sets ≡ options.sets) × (number ≡ most)
+IsFormOf form options most rules (Forms.Frr sets) = (form ≡ Frr) × (sets ≡ options.sets)
+IsFormOf form options most rules (Forms.Bird sets) = (form ≡ Bird) × (sets ≡ options.sets)
+IsFormOf form options most rules (Forms.Iptables written) = (form ≡ Iptables) × (written ≡ rules)
 
 -- The options go together, and ask for this.
--- Example: `--format json` and `--min-length 24` ask for JSON, of networks from the prefix length 24 on.
+-- Example: `--format json`, `--min-length 24` and `-4` ask for JSON, of IPv4 networks from the prefix length 24 on.
 pub record IsRequestOf (options : FormOptions) (request : FormRequest) : Type 0 where
   pub name : FormName
   pub named : IsFormNamed options name
   pub most : ℕ
   pub elements : IsMostElements name options most
-  pub form : IsFormOf name options most request.form
+  pub rules : ChainRules
+  pub chain : AreRulesOf name options rules
+  pub form : IsFormOf name options most rules request.form
   pub least : IsMinLength name options request.min_length
-  pub prefix : IsGoodPrefix name options
+  pub families : request.families ≡ families_of options.ipv4_only options.ipv6_only
+  pub prefix : IsGoodText name options.prefix
+  pub suffix : IsGoodText name options.suffix
   pub sets : AreGoodSets name options
   pub ipv4 : IsGoodName name options.sets.ipv4
   pub ipv6 : IsGoodName name options.sets.ipv6
@@ -120,6 +166,9 @@ abbrev pub IsFormFault : FormName → FormOptions → FormFault → Type 0
 IsFormFault form options Faults.Prefix = IsSome options.prefix × ¬ (HasLines form)
 IsFormFault form options Faults.LineBreak =
     IsSomeAnd options.prefix (λ text. list_any is_line_break text.now ≡ true)
+IsFormFault form options Faults.Suffix = IsSome options.suffix × ¬ (HasLines form)
+IsFormFault form options Faults.SuffixBreak =
+    IsSomeAnd options.suffix (λ text. list_any is_line_break text.now ≡ true)
 IsFormFault form options Faults.Ranges = IsSome options.min_length × (form ≡ Ranges)
 IsFormFault form options (Faults.Length word) =
     (options.min_length ≡ Some word) × ((n : ℕ) → ¬ (IsLengthText word.now n))
@@ -129,10 +178,22 @@ IsFormFault form options (Faults.NftName name) = (form ≡ Nft) × ¬ (IsNftName
     × ((options.sets.ipv4 ≡ Some name) ⊎ (options.sets.ipv6 ≡ Some name))
 IsFormFault form options (Faults.IpsetName name) = (form ≡ Ipset) × ¬ (IsIpsetName name.now)
     × ((options.sets.ipv4 ≡ Some name) ⊎ (options.sets.ipv6 ≡ Some name))
+IsFormFault form options (Faults.FrrName name) = (form ≡ Frr) × ¬ (IsFrrName name.now)
+    × ((options.sets.ipv4 ≡ Some name) ⊎ (options.sets.ipv6 ≡ Some name))
+IsFormFault form options (Faults.BirdName name) = (form ≡ Bird) × ¬ (IsBirdName name.now)
+    × ((options.sets.ipv4 ≡ Some name) ⊎ (options.sets.ipv6 ≡ Some name))
 IsFormFault form options Faults.OneSet =
     IsSomeAnd options.sets.ipv4 (λ ipv4. IsSomeAnd options.sets.ipv6 (λ ipv6. ¬ (ipv4.now ≢ ipv6.now)))
 IsFormFault form options Faults.NewSet = (form ≡ Ipset)
     × IsSomeAnd options.sets.ipv4 (λ ipv4. IsSomeAnd options.sets.ipv6 (λ ipv6. ¬ (AreApart ipv4.now ipv6.now)))
+IsFormFault form options Faults.OtherChain =
+    (form ≢ Iptables) × (IsSome options.chain ⊎ IsSome options.target)
+IsFormFault form options Faults.NoChain = (form ≡ Iptables) × ((options.chain ≡ None) ⊎ (options.target ≡ None))
+IsFormFault form options (Faults.ChainName word) = (options.chain ≡ Some word) × ¬ (IsChainName word.now)
+IsFormFault form options (Faults.TargetName word) = (options.target ≡ Some word) × ¬ (IsTargetName word.now)
+IsFormFault form options Faults.OwnTarget =
+    IsSomeAnd options.chain (λ chain. IsSomeAnd options.target (λ target. ¬ (chain.now ≢ target.now)))
+IsFormFault form options Faults.OneFamily = (form ≡ Iptables) × ¬ (options.ipv4_only ≢ options.ipv6_only)
 IsFormFault form options Faults.OtherMaxelem = IsSome options.maxelem × (form ≢ Ipset)
 IsFormFault form options (Faults.Maxelem word) =
     (options.maxelem ≡ Some word) × ((n : ℕ) → ¬ (IsMaxelem word.now n))
@@ -142,9 +203,19 @@ abbrev pub fault_value : FormFault → Option (List ℕ)
 fault_value (Faults.Length word) = Some word.now
 fault_value (Faults.NftName word) = Some word.now
 fault_value (Faults.IpsetName word) = Some word.now
+fault_value (Faults.FrrName word) = Some word.now
+fault_value (Faults.BirdName word) = Some word.now
+fault_value (Faults.ChainName word) = Some word.now
+fault_value (Faults.TargetName word) = Some word.now
 fault_value (Faults.Maxelem word) = Some word.now
 fault_value Faults.Prefix = None
 fault_value Faults.LineBreak = None
+fault_value Faults.Suffix = None
+fault_value Faults.SuffixBreak = None
+fault_value Faults.OtherChain = None
+fault_value Faults.NoChain = None
+fault_value Faults.OwnTarget = None
+fault_value Faults.OneFamily = None
 fault_value Faults.Ranges = None
 fault_value Faults.Sets = None
 fault_value Faults.NoSet = None

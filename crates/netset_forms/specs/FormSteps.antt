@@ -1,6 +1,7 @@
 -- The private steps of writing an answer in a form.
 -- Only private contracts use these.
-use Rattle.std.specs.Prelude.{◌≡◌, ℕ, Bool, true, false, List, [], ◌∷◌, ◌++◌, map, Option, Some, None, string_bytes}
+use Rattle.std.specs.Prelude.{◌≡◌, ℕ, Bool, true, false, List, [], ◌∷◌, ◌++◌, codes, decimal, Option, Some, None}
+use Rattle.std.specs.Prelude.{string_bytes}
 use Rattle.std.specs.Io.{StartsWith}
 use Rattle.std.specs.Io.KnownBytes.{Appends}
 use Rattle.std.specs.Borrow.{Bor}
@@ -12,6 +13,8 @@ use Rattle.ipnet.specs.CanonicalTexts.{canonical_text}
 use Rattle.ipnet_sets.specs.Members.{IsMember}
 use Rattle.ipnet_sets.specs.SetRanges.{IsInRange}
 use Rattle.ipnet_text.specs.Pieces.{IsInPieces}
+use Rattle.netset_forms.specs.declared.frame.Commands.{Commands}
+use Rattle.netset_forms.specs.declared.frame.Commands.TheVariants as Sets
 use Rattle.netset_forms.specs.declared.frame.Frame.{Frame}
 use Rattle.netset_forms.specs.declared.parts.Item.{Item}
 use Rattle.netset_forms.specs.declared.parts.Item.TheVariants as Items
@@ -22,8 +25,9 @@ use Rattle.netset_forms.specs.declared.form.AnswerForm.TheVariants as Forms
 use Rattle.netset_forms.specs.declared.form.FormFailure.{FormFailure}
 use Rattle.netset_forms.specs.declared.form.FormFailure.TheVariants as Failures
 use Rattle.netset_forms.specs.declared.form.SetNames.{SetNames}
-use Rattle.netset_forms.specs.Forms.{network_row, AreBlocksIn, AreRangesIn, FitsFamilies, HasOne}
-use Rattle.netset_forms.specs.Layouts.{Layout, later_items, text_in}
+use Rattle.netset_forms.specs.Forms.{plain_items, row_items, entries_from, next_number}
+use Rattle.netset_forms.specs.Forms.{network_row, AreBlocksIn, AreRangesIn, FitsFamilies, HasOne, ipset_kind, frr_of}
+use Rattle.netset_forms.specs.Layouts.{Layout, later_items, text_in, nft_layout, ipset_layout, bird_layout}
 
 -- The layout that a value has.
 abbrev pub layout_of : Frame → Layout
@@ -33,6 +37,33 @@ layout_of f = record {
   after = string_bytes f.after;
   none = string_bytes f.none;
 }
+
+-- The layout of the commands for a set with a name.
+abbrev pub named_layout : Commands → List ℕ → Layout
+named_layout Sets.Nft = nft_layout
+named_layout (Sets.IpsetIpv4 most) = ipset_layout (ipset_kind most IPv4)
+named_layout (Sets.IpsetIpv6 most) = ipset_layout (ipset_kind most IPv6)
+named_layout Sets.FrrIpv4 = frr_of IPv4
+named_layout Sets.FrrIpv6 = frr_of IPv6
+named_layout Sets.Bird = bird_layout
+
+-- The items of the commands for a set.
+abbrev pub named_items : Commands → List Network → List (List ℕ)
+named_items Sets.Nft = plain_items
+named_items (Sets.IpsetIpv4 most) = plain_items
+named_items (Sets.IpsetIpv6 most) = plain_items
+named_items Sets.FrrIpv4 = entries_from 5
+named_items Sets.FrrIpv6 = entries_from 5
+named_items Sets.Bird = plain_items
+
+-- The kind of the items of the commands.
+abbrev pub named_item : Commands → Item
+named_item Sets.Nft = Items.Network
+named_item (Sets.IpsetIpv4 most) = Items.Network
+named_item (Sets.IpsetIpv6 most) = Items.Network
+named_item Sets.FrrIpv4 = Items.Entry
+named_item Sets.FrrIpv6 = Items.Entry
+named_item Sets.Bird = Items.Network
 
 -- The texts, one after the other.
 abbrev pub text_of_all : List (Bor (List ℕ)) → List ℕ
@@ -84,11 +115,24 @@ PutsSome IsText held held_after piece piece_after =
 abbrev pub CutsSome : (List ℕ → Type 0) → Option (List ℕ) → Option (List ℕ) → List ℕ → Type 0
 CutsSome IsText held held_after piece = (text : List ℕ) × IsText text × IsCut held held_after piece text
 
--- The text of a network.
-abbrev pub item_text : Item → Network → List ℕ
-item_text Items.Network = canonical_text
-item_text Items.Row = network_row
-item_text Items.Range = canonical_text
+-- The text of a network, at a place with this sequence number.
+abbrev pub item_text : Item → ℕ → Network → List ℕ
+item_text Items.Network number n = canonical_text n
+item_text Items.Row number n = network_row n
+item_text Items.Range number n = canonical_text n
+item_text Items.Entry number n = decimal number ++ codes " permit " ++ canonical_text n
+
+-- The texts of networks, from a place with this sequence number on.
+abbrev pub items_of : Item → ℕ → List Network → List (List ℕ)
+items_of Items.Network number = plain_items
+items_of Items.Row number = row_items
+items_of Items.Range number = plain_items
+items_of Items.Entry number = entries_from number
+
+-- The sequence number of the place after the networks, if this is the number of the first.
+abbrev pub number_after : ℕ → List Network → ℕ
+number_after number [] = number
+number_after number (n ∷ networks) = number_after (next_number number) networks
 
 -- The maximal blocks of each range with at least this prefix length, one range after the other.
 abbrev pub AreBlocksOf : ℕ → List AddressRange → List Network → Type 0
@@ -98,9 +142,10 @@ AreBlocksOf min_length (r ∷ ranges) networks = (front : List Network) × (rest
 
 -- The text of a part.
 abbrev pub IsItemsText : Item → Layout → ℕ → (Address → Type 0) → List ℕ → Type 0
-IsItemsText Items.Network layout min_length = AreBlocksIn layout canonical_text min_length
-IsItemsText Items.Row layout min_length = AreBlocksIn layout network_row min_length
+IsItemsText Items.Network layout min_length = AreBlocksIn layout plain_items min_length
+IsItemsText Items.Row layout min_length = AreBlocksIn layout row_items min_length
 IsItemsText Items.Range layout min_length = AreRangesIn layout
+IsItemsText Items.Entry layout min_length = AreBlocksIn layout (entries_from 5) min_length
 
 -- The text of the part.
 abbrev pub IsPartText : Part → List ℕ → Type 0
@@ -126,10 +171,11 @@ ArePartTexts parts text = (first : List ℕ) × (second : List ℕ) × IsTextIfS
     × IsTextIfSome parts.second second × (text ≡ first ++ second)
 
 -- The text of the family of a set, if its set has this name.
-abbrev pub IsNamedText : (List ℕ → Layout) → Option (Bor (List ℕ)) → ℕ → (Address → Type 0) → List ℕ → Type 0
-IsNamedText layout_of None min_length InSet text = text ≡ []
-IsNamedText layout_of (Some name) min_length InSet text =
-    AreBlocksIn (layout_of name.now) canonical_text min_length InSet text
+abbrev pub IsNamedText : (List ℕ → Layout) → (List Network → List (List ℕ)) → Option (Bor (List ℕ)) → ℕ
+    → (Address → Type 0) → List ℕ → Type 0
+IsNamedText layout_of items_of None min_length InSet text = text ≡ []
+IsNamedText layout_of items_of (Some name) min_length InSet text =
+    AreBlocksIn (layout_of name.now) items_of min_length InSet text
 
 -- The part, if there is one, has this text, and can have its least prefix length if the set can.
 pub record MakesPart (IsText : List ℕ → Type 0) (min_length : ℕ) (InSet : Address → Type 0) (part : Option Part)
@@ -151,11 +197,22 @@ IsUnnamed names InSet Failures.NoIpv6Set = (names.ipv6 ≡ None) × HasOne InSet
 IsUnnamed names InSet Failures.Memory = ⊥
 IsUnnamed names InSet Failures.Unwritable = ⊥
 
+-- Why the parts of the families with a name are missing: a family has no name, or memory ran out.
+abbrev pub IsNamedFailure : SetNames → (Address → Type 0) → FormFailure → Type 0
+IsNamedFailure names InSet (Failures.MinLength least greatest) = ⊥
+IsNamedFailure names InSet Failures.NoIpv4Set = IsUnnamed names InSet Failures.NoIpv4Set
+IsNamedFailure names InSet Failures.NoIpv6Set = IsUnnamed names InSet Failures.NoIpv6Set
+IsNamedFailure names InSet Failures.Memory = Unit {0}
+IsNamedFailure names InSet Failures.Unwritable = ⊥
+
 -- The least prefix length of the networks in the form; ranges have none.
 abbrev pub least_in : AnswerForm → ℕ → ℕ
-least_in (Forms.Networks prefix) min_length = min_length
-least_in (Forms.Ranges prefix) min_length = 0
+least_in (Forms.Networks lines) min_length = min_length
+least_in (Forms.Ranges lines) min_length = 0
 least_in Forms.Json min_length = min_length
 least_in Forms.Csv min_length = min_length
 least_in (Forms.Nft names) min_length = min_length
 least_in (Forms.Ipset names most) min_length = min_length
+least_in (Forms.Frr names) min_length = min_length
+least_in (Forms.Bird names) min_length = min_length
+least_in (Forms.Iptables rules) min_length = min_length

@@ -1,5 +1,6 @@
 -- The text of a set of addresses in each form.
-use Rattle.std.specs.Prelude.{◌≡◌, ◌<◌, ◌≤◌, ℕ, List, [], ◌++◌, codes, decimal, map, Option, Some, None, max}
+use Rattle.std.specs.Prelude.{◌≡◌, ◌<◌, ◌≤◌, ◌+◌, ℕ, List, [], ◌∷◌, ◌++◌, codes, decimal, map, Option, Some, None}
+use Rattle.std.specs.Prelude.{max, min}
 use Rattle.std.specs.Borrow.{Bor}
 use Rattle.ipnet_base.specs.Address.{Family, IPv4, IPv6, width, Address}
 use Rattle.ipnet_base.specs.Network.{Network, first_of, last_of}
@@ -11,8 +12,12 @@ use Rattle.netset_forms.specs.declared.form.AnswerForm.{AnswerForm}
 use Rattle.netset_forms.specs.declared.form.AnswerForm.TheVariants as Forms
 use Rattle.netset_forms.specs.declared.form.FormFailure.{FormFailure}
 use Rattle.netset_forms.specs.declared.form.FormFailure.TheVariants as Failures
+use Rattle.netset_forms.specs.declared.form.FormRequest.{FormRequest}
 use Rattle.netset_forms.specs.declared.form.SetNames.{SetNames}
 use Rattle.netset_forms.specs.Layouts.{Layout, text_in, line_layout, json_layout, csv_layout, nft_layout, ipset_layout}
+use Rattle.netset_forms.specs.Layouts.{frr_layout, bird_layout, chain_layout}
+use Rattle.netset_lib.specs.declared.operation.Families.{Families}
+use Rattle.netset_lib.specs.declared.operation.Families.TheVariants as Chosen
 use Rattle.ipnet_lists.specs.SetLines.{range_text}
 
 -- The row of a network: its canonical text, its first and its last address, with commas between.
@@ -28,12 +33,31 @@ FitsFamilies InSet min_length = (x : Address) → InSet x → min_length ≤ wid
 -- The items are the maximal blocks of the set that have at least this prefix length: a maximal block that is shorter is
 -- in its place its subnets of this length. Each address of the set lies in one of them.
 -- Example: for 10.0.0.0 to 10.0.0.5 and 31, the networks 10.0.0.0/31, 10.0.0.2/31 and 10.0.0.4/31.
-pub record AreBlocksIn (layout : Layout) (item_of : Network → List ℕ) (min_length : ℕ) (InSet : Address → Type 0)
-    (text : List ℕ) : Type 0 where
+pub record AreBlocksIn (layout : Layout) (items_of : List Network → List (List ℕ)) (min_length : ℕ)
+    (InSet : Address → Type 0) (text : List ℕ) : Type 0 where
   pub fits : FitsFamilies InSet min_length
   pub blocks : List Network
   pub maximal : AreMaximalBlocks InSet min_length blocks
-  pub spelled : text ≡ text_in layout (map item_of blocks)
+  pub spelled : text ≡ text_in layout (items_of blocks)
+
+-- The networks as items.
+abbrev pub plain_items : List Network → List (List ℕ)
+plain_items = map canonical_text
+
+-- The networks as items, each with its first and its last address.
+abbrev pub row_items : List Network → List (List ℕ)
+row_items = map network_row
+
+-- The sequence number after this one. FRR's numbers end at 2^32 - 1, and those that are written here at 2^64 - 1.
+abbrev pub next_number : ℕ → ℕ
+next_number number = min (number + 5) 18446744073709551615
+
+-- The entries of a prefix list that permit the networks, with their sequence numbers from this one on.
+-- Example: `5 permit 10.0.0.0/31` and `10 permit 10.0.0.2/32` from 5 on.
+abbrev pub entries_from : ℕ → List Network → List (List ℕ)
+entries_from number [] = []
+entries_from number (n ∷ networks) =
+    (decimal number ++ codes " permit " ++ canonical_text n) ∷ entries_from (next_number number) networks
 
 -- The items are the fewest ranges of the set.
 pub record AreRangesIn (layout : Layout) (InSet : Address → Type 0) (text : List ℕ) : Type 0 where
@@ -45,20 +69,30 @@ pub record AreRangesIn (layout : Layout) (InSet : Address → Type 0) (text : Li
 abbrev pub IsOfFamily : (Address → Type 0) → Family → Address → Type 0
 IsOfFamily InSet family x = InSet x × (x.family ≡ family)
 
+-- The addresses of the set of these families. Without a choice they are all.
+-- Example: of 10.0.0.0/8 and fd00::/8 and `Ipv6` the addresses of fd00::/8.
+abbrev pub IsOfFamilies : Families → (Address → Type 0) → Address → Type 0
+IsOfFamilies Chosen.Named InSet = InSet
+IsOfFamilies Chosen.Ipv4 InSet = IsOfFamily InSet IPv4
+IsOfFamilies Chosen.Ipv6 InSet = IsOfFamily InSet IPv6
+IsOfFamilies Chosen.Both InSet = InSet
+
 -- The part of one family: the networks in the layout that the name gives; without a name, the set has no such address.
-abbrev pub IsFamilyText : (List ℕ → Layout) → Option (Bor (List ℕ)) → Family → ℕ → (Address → Type 0) → List ℕ → Type 0
-IsFamilyText layout_of None family min_length InSet text = ((x : Address) → ¬ (IsOfFamily InSet family x)) × (text ≡ [])
-IsFamilyText layout_of (Some name) family min_length InSet text =
-    AreBlocksIn (layout_of name.now) canonical_text min_length (IsOfFamily InSet family) text
+abbrev pub IsFamilyText : (List ℕ → Layout) → (List Network → List (List ℕ)) → Option (Bor (List ℕ)) → Family → ℕ
+    → (Address → Type 0) → List ℕ → Type 0
+IsFamilyText layout_of items_of None family min_length InSet text =
+    ((x : Address) → ¬ (IsOfFamily InSet family x)) × (text ≡ [])
+IsFamilyText layout_of items_of (Some name) family min_length InSet text =
+    AreBlocksIn (layout_of name.now) items_of min_length (IsOfFamily InSet family) text
 
 -- The part of IPv4, and then the part of IPv6.
-pub record AreFamilyTexts (layout4 layout6 : List ℕ → Layout) (names : SetNames) (min_length : ℕ)
-    (InSet : Address → Type 0) (text : List ℕ) : Type 0 where
+pub record AreFamilyTexts (layout4 layout6 : List ℕ → Layout) (items_of : List Network → List (List ℕ))
+    (names : SetNames) (min_length : ℕ) (InSet : Address → Type 0) (text : List ℕ) : Type 0 where
   pub fits : FitsFamilies InSet min_length
   pub ipv4 : List ℕ
   pub ipv6 : List ℕ
-  pub ipv4_part : IsFamilyText layout4 names.ipv4 IPv4 min_length InSet ipv4
-  pub ipv6_part : IsFamilyText layout6 names.ipv6 IPv6 min_length InSet ipv6
+  pub ipv4_part : IsFamilyText layout4 items_of names.ipv4 IPv4 min_length InSet ipv4
+  pub ipv6_part : IsFamilyText layout6 items_of names.ipv6 IPv6 min_length InSet ipv6
   pub spelled : text ≡ ipv4 ++ ipv6
 
 -- The kind of a set of `ipset` that holds at most this number of networks. Without `maxelem` it holds at most 65536.
@@ -66,18 +100,32 @@ abbrev pub ipset_kind : ℕ → Family → List ℕ
 ipset_kind most IPv4 = codes "hash:net family inet maxelem " ++ decimal most
 ipset_kind most IPv6 = codes "hash:net family inet6 maxelem " ++ decimal most
 
+-- A prefix list of FRR for this family. Every route is `0.0.0.0/0 le 32` or `::/0 le 128`.
+abbrev pub frr_of : Family → List ℕ → Layout
+frr_of IPv4 = frr_layout (codes "ip") (codes "0.0.0.0/0 le 32")
+frr_of IPv6 = frr_layout (codes "ipv6") (codes "::/0 le 128")
+
 -- The text of the set in the form, by networks of at least this prefix length. `ipset` refuses a network of prefix
 -- length 0, so there the least length is 1.
--- Example: for 10.0.0.0 to 10.0.0.2 and `Networks` with the prefix `permit `, the lines `permit 10.0.0.0/31` and
--- `permit 10.0.0.2/32`.
+-- Example: for 10.0.0.0 to 10.0.0.2 and `Networks` with the prefix `permit ` and the suffix `;`, the lines
+-- `permit 10.0.0.0/31;` and `permit 10.0.0.2/32;`.
 abbrev pub IsFormText : AnswerForm → ℕ → (Address → Type 0) → List ℕ → Type 0
-IsFormText (Forms.Networks prefix) min_length = AreBlocksIn (line_layout prefix.now) canonical_text min_length
-IsFormText (Forms.Ranges prefix) min_length = AreRangesIn (line_layout prefix.now)
-IsFormText Forms.Json min_length = AreBlocksIn json_layout canonical_text min_length
-IsFormText Forms.Csv min_length = AreBlocksIn csv_layout network_row min_length
-IsFormText (Forms.Nft names) min_length = AreFamilyTexts nft_layout nft_layout names min_length
-IsFormText (Forms.Ipset names most) min_length =
-    AreFamilyTexts (ipset_layout (ipset_kind most IPv4)) (ipset_layout (ipset_kind most IPv6)) names (max min_length 1)
+IsFormText (Forms.Networks lines) min_length =
+    AreBlocksIn (line_layout lines.prefix.now lines.suffix.now) plain_items min_length
+IsFormText (Forms.Ranges lines) min_length = AreRangesIn (line_layout lines.prefix.now lines.suffix.now)
+IsFormText Forms.Json min_length = AreBlocksIn json_layout plain_items min_length
+IsFormText Forms.Csv min_length = AreBlocksIn csv_layout row_items min_length
+IsFormText (Forms.Nft names) min_length = AreFamilyTexts nft_layout nft_layout plain_items names min_length
+IsFormText (Forms.Ipset names most) min_length = AreFamilyTexts (ipset_layout (ipset_kind most IPv4))
+    (ipset_layout (ipset_kind most IPv6)) plain_items names (max min_length 1)
+IsFormText (Forms.Frr names) min_length = AreFamilyTexts (frr_of IPv4) (frr_of IPv6) (entries_from 5) names min_length
+IsFormText (Forms.Bird names) min_length = AreFamilyTexts bird_layout bird_layout plain_items names min_length
+IsFormText (Forms.Iptables rules) min_length =
+    AreBlocksIn (chain_layout rules.chain.now rules.target.now) plain_items min_length
+
+-- The text of the set's addresses of the families, as it is asked for.
+abbrev pub IsAskedText : FormRequest → (Address → Type 0) → List ℕ → Type 0
+IsAskedText r InSet = IsFormText r.form r.min_length (IsOfFamilies r.families InSet)
 
 -- The set has an address of this family.
 abbrev pub HasOne : (Address → Type 0) → Family → Type 0
@@ -85,12 +133,15 @@ HasOne InSet family = (x : Address) × IsOfFamily InSet family x
 
 -- The names of the sets, if the form has sets.
 abbrev pub names_in : AnswerForm → Option SetNames
-names_in (Forms.Networks prefix) = None
-names_in (Forms.Ranges prefix) = None
+names_in (Forms.Networks lines) = None
+names_in (Forms.Ranges lines) = None
 names_in Forms.Json = None
 names_in Forms.Csv = None
 names_in (Forms.Nft names) = Some names
 names_in (Forms.Ipset names most) = Some names
+names_in (Forms.Frr names) = Some names
+names_in (Forms.Bird names) = Some names
+names_in (Forms.Iptables rules) = None
 
 -- Networks of a family of the set cannot have this prefix length: it is above the family's greatest.
 abbrev pub IsTooLong : (Address → Type 0) → ℕ → ℕ → Type 0
@@ -110,3 +161,7 @@ IsFormFailure form min_length InSet Failures.NoIpv4Set = HasUnnamed form (λ nam
 IsFormFailure form min_length InSet Failures.NoIpv6Set = HasUnnamed form (λ names. names.ipv6) InSet IPv6
 IsFormFailure form min_length InSet Failures.Memory = Unit {0}
 IsFormFailure form min_length InSet Failures.Unwritable = Unit {0}
+
+-- Why the set's addresses of the families were not written, as it is asked for.
+abbrev pub IsAskedFailure : FormRequest → (Address → Type 0) → FormFailure → Type 0
+IsAskedFailure r InSet = IsFormFailure r.form r.min_length (IsOfFamilies r.families InSet)

@@ -1,5 +1,5 @@
 -- Texts of items, such as the networks of an answer: what is written before, between and after the items.
-use Rattle.std.specs.Prelude.{◌≡◌, ℕ, List, [], ◌∷◌, ◌++◌, codes, Bool, true, false}
+use Rattle.std.specs.Prelude.{ℕ, List, [], ◌∷◌, ◌++◌, codes}
 
 -- The texts around items: before, between and after them. `none` is the whole text if there is no item.
 pub record Layout : Type 0 where
@@ -19,10 +19,15 @@ abbrev pub text_in : Layout → List (List ℕ) → List ℕ
 text_in l [] = l.none
 text_in l (item ∷ items) = l.before ++ (item ++ later_items l items)
 
--- Items one a line, each after the prefix. "\n" is the byte 10.
--- Example: `deny 10.0.0.0/8` and `deny fd00::/8` for two items and the prefix `deny `.
-abbrev pub line_layout : List ℕ → Layout
-line_layout prefix = record { before = prefix; between = 10 ∷ prefix; after = 10 ∷ []; none = [] }
+-- Items one a line, each between the prefix and the suffix. "\n" is the byte 10.
+-- Example: `deny 10.0.0.0/8;` and `deny fd00::/8;` for two items, the prefix `deny ` and the suffix `;`.
+abbrev pub line_layout : List ℕ → List ℕ → Layout
+line_layout prefix suffix = record {
+  before = prefix;
+  between = suffix ++ 10 ∷ prefix;
+  after = suffix ++ 10 ∷ [];
+  none = [];
+}
 
 -- A JSON array of strings (RFC 8259), one a line, as `jq .` prints it. The byte 34 is a quotation mark.
 abbrev pub json_layout : Layout
@@ -87,4 +92,58 @@ ipset_layout kind name = record {
   between = 10 ∷ ipset_add name;
   after = 10 ∷ ipset_end name;
   none = ipset_start kind name ++ ipset_end name;
+}
+
+-- The commands of FRR that name an IP prefix list of this protocol. Example: `ip prefix-list allowed` for `ip`.
+abbrev pub frr_list : List ℕ → List ℕ → List ℕ
+frr_list protocol name = protocol ++ codes " prefix-list " ++ name
+
+-- The command of FRR that removes a prefix list. Example: `no ip prefix-list allowed`.
+abbrev pub frr_start : List ℕ → List ℕ → List ℕ
+frr_start protocol name = codes "no " ++ frr_list protocol name ++ 10 ∷ []
+
+-- Commands of FRR: the prefix list of this protocol with this name has the items as its entries, and no others. A list
+-- without an entry does not exist, and permits every route. So `all`, which is every route, is denied if no item comes.
+-- Example: for `ip`, `allowed` and the item `5 permit 10.0.0.0/8` the lines `no ip prefix-list allowed` and
+-- `ip prefix-list allowed seq 5 permit 10.0.0.0/8`.
+abbrev pub frr_layout : List ℕ → List ℕ → List ℕ → Layout
+frr_layout protocol all name = record {
+  before = frr_start protocol name ++ frr_list protocol name ++ codes " seq ";
+  between = 10 ∷ frr_list protocol name ++ codes " seq ";
+  after = 10 ∷ [];
+  none = frr_start protocol name ++ frr_list protocol name ++ codes " seq 5 deny " ++ all ++ 10 ∷ [];
+}
+
+-- A set of prefixes of BIRD 2 with this name. Example: for `ALLOWED` and 10.0.0.0/8 the lines `define ALLOWED = [`,
+-- `    10.0.0.0/8` and `];`.
+abbrev pub bird_layout : List ℕ → Layout
+bird_layout name = record {
+  before = codes "define " ++ name ++ codes " = [" ++ 10 ∷ codes "    ";
+  between = codes "," ++ 10 ∷ codes "    ";
+  after = 10 ∷ codes "];" ++ 10 ∷ [];
+  none = codes "define " ++ name ++ codes " = [];" ++ 10 ∷ [];
+}
+
+-- The lines of `iptables-restore` before the first rule: the chain exists in the table `filter`, and has no rule.
+abbrev pub chain_start : List ℕ → List ℕ
+chain_start chain =
+    codes "*filter" ++ 10 ∷ codes ":" ++ chain ++ codes " - [0:0]" ++ 10 ∷ codes "-F " ++ chain ++ 10 ∷ []
+
+-- A rule of the chain for a source address, up to the item.
+abbrev pub chain_rule : List ℕ → List ℕ
+chain_rule chain = codes "-A " ++ chain ++ codes " -s "
+
+-- The rest of a rule after the item: packets from there go to the target.
+abbrev pub chain_jump : List ℕ → List ℕ
+chain_jump target = codes " -j " ++ target ++ 10 ∷ []
+
+-- Lines of `iptables-restore`: the chain has one rule for each item, and no others.
+-- Example: for the chain `blocked`, the target `DROP` and 10.0.0.0/8 the lines `*filter`, `:blocked - [0:0]`,
+-- `-F blocked`, `-A blocked -s 10.0.0.0/8 -j DROP` and `COMMIT`.
+abbrev pub chain_layout : List ℕ → List ℕ → Layout
+chain_layout chain target = record {
+  before = chain_start chain ++ chain_rule chain;
+  between = chain_jump target ++ chain_rule chain;
+  after = chain_jump target ++ codes "COMMIT" ++ 10 ∷ [];
+  none = chain_start chain ++ codes "COMMIT" ++ 10 ∷ [];
 }

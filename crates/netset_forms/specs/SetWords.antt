@@ -46,6 +46,33 @@ IsNftName text = IsCutAt 32 AreFamilyAndWords text
 abbrev pub IsIpsetName : List ℕ → Type 0
 IsIpsetName text = (length text ≤ 27) × IsNameWord text
 
+-- The text names a prefix list of FRR: one word of at most 128 bytes, as FRR's model `frr-filter` has it.
+abbrev pub IsFrrName : List ℕ → Type 0
+IsFrrName text = (length text ≤ 128) × IsNameWord text
+
+-- A letter, a digit or "_".
+abbrev pub is_symbol_byte : ℕ → Bool
+is_symbol_byte b = is_ascii_alphanumeric b || (b == 95)
+
+-- The text is a symbol of BIRD: a letter or "_", and then letters, digits and "_". BIRD takes at most 64 bytes, its
+-- SYM_MAX_LEN. Example: `ALLOWED4`.
+abbrev pub IsBirdName : List ℕ → Type 0
+IsBirdName text = (length text ≤ 64) × IsNameWord text × (list_all is_symbol_byte text ≡ true)
+
+-- The text is a chain or a target that iptables itself has in the table `filter`.
+abbrev pub IsBuiltIn : List ℕ → Type 0
+IsBuiltIn text = (text ≡ codes "ACCEPT") ⊎ (text ≡ codes "DROP") ⊎ (text ≡ codes "QUEUE") ⊎ (text ≡ codes "RETURN")
+    ⊎ (text ≡ codes "INPUT") ⊎ (text ≡ codes "FORWARD") ⊎ (text ≡ codes "OUTPUT")
+
+-- The text names a target of iptables: one word of at most 28 bytes. The kernel has 29 for XT_EXTENSION_MAXNAMELEN,
+-- with the zero byte at the end. Example: `DROP`, `blocked`.
+abbrev pub IsTargetName : List ℕ → Type 0
+IsTargetName text = (length text ≤ 28) × IsNameWord text
+
+-- The text names a chain that a user creates: it is a target's name, and not built in. Example: `blocked`.
+abbrev pub IsChainName : List ℕ → Type 0
+IsChainName text = IsTargetName text × ¬ (IsBuiltIn text)
+
 -- The commands of `ipset` for each of the sets leave the other as it is: the names are different, and neither is the
 -- other with ".new", the name of its new set. Example: `a` and `b`; `a` and `a.new` are not apart.
 abbrev pub AreApart : List ℕ → List ℕ → Type 0

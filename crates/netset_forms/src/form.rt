@@ -4,6 +4,7 @@ ghost use Rattle.std.specs.Fmt.{DisplaysOnOk, DisplaysStyledOnOk};
 ghost use Rattle.netset_forms.specs.FormWords.{form_words};
 
 use arrayvec::ArrayString;
+use netset_lib::Families;
 use netset_lib::reports::{OUT_OF_MEMORY, UNWRITABLE, Words, long_words};
 use std::alloc::AllocError;
 use std::error::Error;
@@ -19,27 +20,51 @@ pub struct SetNames<'a> {
     pub ipv6: Option<&'a str>,
 }
 
+/// The texts around each line.
+#[derive(Clone, Copy, Debug, PartialEq, Eq)]
+pub struct LineTexts<'a> {
+    /// The text before the network or the range.
+    pub prefix: &'a str,
+    /// The text after it, before the line break.
+    pub suffix: &'a str,
+}
+
+/// The rules of a firewall's chain: one for each network.
+#[derive(Clone, Copy, Debug, PartialEq, Eq)]
+pub struct ChainRules<'a> {
+    /// The name of the chain.
+    pub chain: &'a str,
+    /// The target of the rules for packets from the networks, such as `DROP` or another chain.
+    pub target: &'a str,
+}
+
 /// How a set of addresses is written.
 ///
 /// ```text
 /// 10.0.0.0 to 10.0.0.2:
-/// Networks("permit ")    permit 10.0.0.0/31
-///                        permit 10.0.0.2/32
-/// Ranges("")             10.0.0.0-10.0.0.2
-/// Json                   [
-///                          "10.0.0.0/31",
-///                          "10.0.0.2/32"
-///                        ]
-/// Csv                    network,first,last
-///                        10.0.0.0/31,10.0.0.0,10.0.0.1
-///                        10.0.0.2/32,10.0.0.2,10.0.0.2
+/// Networks("permit ", ";")   permit 10.0.0.0/31;
+///                            permit 10.0.0.2/32;
+/// Ranges("", "")             10.0.0.0-10.0.0.2
+/// Json                       [
+///                              "10.0.0.0/31",
+///                              "10.0.0.2/32"
+///                            ]
+/// Csv                        network,first,last
+///                            10.0.0.0/31,10.0.0.0,10.0.0.1
+///                            10.0.0.2/32,10.0.0.2,10.0.0.2
+/// Iptables("deny", "DROP")   *filter
+///                            :deny - [0:0]
+///                            -F deny
+///                            -A deny -s 10.0.0.0/31 -j DROP
+///                            -A deny -s 10.0.0.2/32 -j DROP
+///                            COMMIT
 /// ```
 #[derive(Clone, Copy, Debug, PartialEq, Eq)]
 pub enum AnswerForm<'a> {
-    /// Its networks, one a line, each after this text.
-    Networks(&'a str),
-    /// Its fewest ranges, one a line, each after this text.
-    Ranges(&'a str),
+    /// Its networks, one a line, each between these texts.
+    Networks(LineTexts<'a>),
+    /// Its fewest ranges, one a line, each between these texts.
+    Ranges(LineTexts<'a>),
     /// Its networks as a JSON array of strings.
     Json,
     /// Its networks as a table of comma-separated values, with the first and the last address of each.
@@ -49,6 +74,13 @@ pub enum AnswerForm<'a> {
     /// Commands of `ipset restore` that give sets these networks in place of all others. The number is the `maxelem` of
     /// the sets: the most networks that a set can have.
     Ipset(SetNames<'a>, u32),
+    /// Commands of FRR that give prefix lists these networks in place of all others.
+    Frr(SetNames<'a>),
+    /// Definitions of sets of prefixes for BIRD 2.
+    Bird(SetNames<'a>),
+    /// Lines of `iptables-restore` or `ip6tables-restore` that give a chain a rule for each network, and no others. The
+    /// two programs read networks of one family, so the request chooses one.
+    Iptables(ChainRules<'a>),
 }
 
 /// A request for the form of an answer.
@@ -58,6 +90,8 @@ pub struct FormRequest<'a> {
     pub form: AnswerForm<'a>,
     /// No network is shorter than this prefix length. It does not matter for ranges.
     pub min_length: u8,
+    /// Only the addresses of these families are written: all of them for `Named` and `Both`.
+    pub families: Families,
 }
 
 /// Why an answer was not written, or not as a whole.

@@ -1,10 +1,29 @@
 //! The texts around the items of an answer.
-ghost use Rattle.std.specs.Prelude.{◌≡◌, IfOk, string_bytes};
+ghost use Rattle.std.specs.Prelude.{◌≡◌, ◌++◌, IfOk, decimal, string_bytes};
 ghost use Rattle.netset_forms.specs.FormSteps.{layout_of, text_of_all};
 ghost use Rattle.netset_forms.specs.Layouts as layouts;
 ghost use Rattle.netset_forms.specs.Layouts.{line_layout, json_layout, csv_layout, nft_layout, ipset_layout};
+ghost use Rattle.netset_forms.specs.Layouts.{frr_layout, bird_layout, chain_layout};
+ghost use Rattle.netset_forms.specs.FormSteps.{named_layout};
 
 use std::alloc::{AllocError, Global};
+
+/// The commands for a named set of one family.
+#[derive(Clone, Copy)]
+pub(crate) enum Commands {
+    /// Commands of nft.
+    Nft,
+    /// Commands of ipset for a set of IPv4 networks with this `maxelem`.
+    IpsetIpv4(u32),
+    /// The same for IPv6.
+    IpsetIpv6(u32),
+    /// Commands of FRR for an IPv4 prefix list.
+    FrrIpv4,
+    /// The same for IPv6.
+    FrrIpv6,
+    /// A definition of BIRD.
+    Bird,
+}
 
 /// The texts around items: before, between and after them. `none` is the whole text if there is no item.
 #[derive(Drop)]
@@ -41,14 +60,14 @@ impl Frame {
     }
 }
 
-/// Items one a line, each after the prefix.
-pub(crate) fn lines(alloc: Global, prefix: &str) -> Result<Frame, AllocError>
-    ensures { IfOk result (λ frame. layout_of frame ≡ line_layout prefix.now) }
+/// Items one a line, each between the prefix and the suffix.
+pub(crate) fn lines(alloc: Global, prefix: &str, suffix: &str) -> Result<Frame, AllocError>
+    ensures { IfOk result (λ frame. layout_of frame ≡ line_layout prefix.now suffix.now) }
 {
     Ok(Frame {
         before: String::from_str(alloc, prefix)?,
-        between: joined(alloc, &["\n", prefix])?,
-        after: String::from_str(alloc, "\n")?,
+        between: joined(alloc, &[suffix, "\n", prefix])?,
+        after: joined(alloc, &[suffix, "\n"])?,
         none: String::new(alloc),
     })
 }
@@ -90,7 +109,7 @@ fn joined(alloc: Global, texts: &[&str]) -> Result<String, AllocError>
 }
 
 /// Commands of nft: the set with this name is flushed, and gets the items as its elements.
-pub(crate) fn nft(alloc: Global, name: &str) -> Result<Frame, AllocError>
+fn nft(alloc: Global, name: &str) -> Result<Frame, AllocError>
     ensures { IfOk result (λ frame. layout_of frame ≡ nft_layout name.now) }
 {
     Ok(Frame {
@@ -129,7 +148,7 @@ fn ipset_end(alloc: Global, name: &str) -> Result<String, AllocError>
 
 /// Commands of ipset: a new set of this kind gets the items as its elements, and takes the place of the set with this
 /// name.
-pub(crate) fn ipset(alloc: Global, kind: &str, name: &str) -> Result<Frame, AllocError>
+fn ipset(alloc: Global, kind: &str, name: &str) -> Result<Frame, AllocError>
     ensures { IfOk result (λ frame. layout_of frame ≡ ipset_layout kind.now name.now) }
 {
     let start = ipset_start(alloc, kind, name)?;
@@ -139,5 +158,89 @@ pub(crate) fn ipset(alloc: Global, kind: &str, name: &str) -> Result<Frame, Allo
         between: joined(alloc, &["\nadd ", name, ".new "])?,
         after: joined(alloc, &["\n", end.as_str()])?,
         none: joined(alloc, &[start.as_str(), end.as_str()])?,
+    })
+}
+
+/// The kind of a set of ipset: the text, and then the number.
+fn kind_of(alloc: Global, front: &str, most: u32) -> Result<String, AllocError>
+    ensures { IfOk result (λ text. string_bytes text ≡ front.now ++ decimal most) }
+{
+    let mut text = String::new(alloc);
+    write!(text, "{front}{most}")?;
+    Ok(text)
+}
+
+/// The words of FRR that name a prefix list.
+fn frr_list(alloc: Global, protocol: &str, name: &str) -> Result<String, AllocError>
+    ensures { IfOk result (λ text. string_bytes text ≡ layouts.frr_list protocol.now name.now) }
+{
+    joined(alloc, &[protocol, " prefix-list ", name])
+}
+
+/// Commands of FRR: the prefix list of this protocol with this name is removed, and gets the items as entries. If there
+/// are none, it denies `all`, which is every route.
+fn frr(alloc: Global, protocol: &str, all: &str, name: &str) -> Result<Frame, AllocError>
+    ensures { IfOk result (λ frame. layout_of frame ≡ frr_layout protocol.now all.now name.now) }
+{
+    let list = frr_list(alloc, protocol, name)?;
+    let list = list.as_str();
+    Ok(Frame {
+        before: joined(alloc, &["no ", list, "\n", list, " seq "])?,
+        between: joined(alloc, &["\n", list, " seq "])?,
+        after: String::from_str(alloc, "\n")?,
+        none: joined(alloc, &["no ", list, "\n", list, " seq 5 deny ", all, "\n"])?,
+    })
+}
+
+/// A set of prefixes of BIRD with this name.
+fn bird(alloc: Global, name: &str) -> Result<Frame, AllocError>
+    ensures { IfOk result (λ frame. layout_of frame ≡ bird_layout name.now) }
+{
+    Ok(Frame {
+        before: joined(alloc, &["define ", name, " = [\n    "])?,
+        between: String::from_str(alloc, ",\n    ")?,
+        after: String::from_str(alloc, "\n];\n")?,
+        none: joined(alloc, &["define ", name, " = [];\n"])?,
+    })
+}
+
+/// The commands for the set with this name.
+pub(crate) fn named(alloc: Global, commands: Commands, name: &str) -> Result<Frame, AllocError>
+    ensures { IfOk result (λ frame. layout_of frame ≡ named_layout commands name.now) }
+{
+    match commands {
+        Commands::Nft => nft(alloc, name),
+        Commands::IpsetIpv4(most) => {
+            let kind = kind_of(alloc, "hash:net family inet maxelem ", most)?;
+            ipset(alloc, kind.as_str(), name)
+        }
+        Commands::IpsetIpv6(most) => {
+            let kind = kind_of(alloc, "hash:net family inet6 maxelem ", most)?;
+            ipset(alloc, kind.as_str(), name)
+        }
+        Commands::FrrIpv4 => frr(alloc, "ip", "0.0.0.0/0 le 32", name),
+        Commands::FrrIpv6 => frr(alloc, "ipv6", "::/0 le 128", name),
+        Commands::Bird => bird(alloc, name),
+    }
+}
+
+/// Lines of `iptables-restore` before the first rule: the chain exists and is empty.
+fn chain_start(alloc: Global, chain: &str) -> Result<String, AllocError>
+    ensures { IfOk result (λ text. string_bytes text ≡ layouts.chain_start chain.now) }
+{
+    joined(alloc, &["*filter\n:", chain, " - [0:0]\n-F ", chain, "\n"])
+}
+
+/// Lines of `iptables-restore`: the chain gets a rule for each item, with this target.
+pub(crate) fn chain(alloc: Global, chain: &str, target: &str) -> Result<Frame, AllocError>
+    ensures { IfOk result (λ frame. layout_of frame ≡ chain_layout chain.now target.now) }
+{
+    let start = chain_start(alloc, chain)?;
+    let start = start.as_str();
+    Ok(Frame {
+        before: joined(alloc, &[start, "-A ", chain, " -s "])?,
+        between: joined(alloc, &[" -j ", target, "\n-A ", chain, " -s "])?,
+        after: joined(alloc, &[" -j ", target, "\nCOMMIT\n"])?,
+        none: joined(alloc, &[start, "COMMIT\n"])?,
     })
 }

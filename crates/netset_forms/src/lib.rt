@@ -1,4 +1,4 @@
-//! The forms of the answers of netset: lines with a text before each, JSON, CSV, and commands of nft and ipset.
+//! The forms of the answers of netset: lines with texts around each, JSON, CSV, and commands of firewalls and routers.
 #![tactic(auto)]
 
 mod blocks;
@@ -11,8 +11,11 @@ mod pieces;
 pub mod program;
 pub mod write;
 
-pub use form::{AnswerForm, FormFailure, FormRequest, SetNames};
-pub use names::{are_ipset_sets, are_nft_sets, is_ipset_name, is_nft_name};
+pub use form::{AnswerForm, ChainRules, FormFailure, FormRequest, LineTexts, SetNames};
+pub use names::{
+    are_ipset_sets, are_nft_sets, is_bird_name, is_chain_name, is_frr_name, is_ipset_name,
+    is_nft_name, is_target_name,
+};
 pub use options::{FormFault, FormName, FormOptions};
 pub use program::{FormCommand, PermittedCommand};
 pub use write::write_form;

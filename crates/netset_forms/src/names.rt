@@ -5,6 +5,8 @@ ghost use Rattle.ipnet_lists.specs.Causes.{IsCutAt};
 ghost use Rattle.netset_forms.specs.Layouts.{new_name};
 ghost use Rattle.netset_forms.specs.SetWords.{is_name_start, is_name_byte, IsNameWord, IsNftFamily, IsNftWord};
 ghost use Rattle.netset_forms.specs.SetWords.{AreNftWords, AreFamilyAndWords, IsNftName, IsIpsetName, AreApart};
+ghost use Rattle.netset_forms.specs.SetWords.{IsFrrName, is_symbol_byte, IsBirdName, IsBuiltIn, IsTargetName};
+ghost use Rattle.netset_forms.specs.SetWords.{IsChainName};
 
 /// The greatest length of a name of a table or a set of nft: the kernel's NFT_NAME_MAXLEN without the zero byte.
 const MOST_NFT: usize = 255;
@@ -12,6 +14,16 @@ const MOST_NFT: usize = 255;
 /// The greatest length of a name of a set of ipset: the kernel's IPSET_MAXNAMELEN, without the zero byte and the four
 /// bytes of ".new".
 const MOST_IPSET: usize = 27;
+
+/// The greatest length of a name of a prefix list of FRR.
+const MOST_FRR: usize = 128;
+
+/// The greatest length of a symbol of BIRD.
+const MOST_BIRD: usize = 64;
+
+/// The greatest length of a name of a chain or a target of iptables: the kernel's XT_EXTENSION_MAXNAMELEN without the
+/// zero byte.
+const MOST_CHAIN: usize = 28;
 
 /// Whether the byte may be the first of a name.
 fn is_start(byte: u8) -> bool
@@ -120,7 +132,92 @@ pub fn is_ipset_name(name: &str) -> bool
     name.len() <= MOST_IPSET && is_name_word(name.as_bytes())
 }
 
-/// Returns whether the two names are of two sets of nft: whether they are different.
+/// Returns whether the text names a prefix list of FRR: one word of at most 128 bytes. A word is a letter or "_", and
+/// then letters, digits, "_", "-" and ".".
+///
+/// ```text
+/// "allowed", "from-peer.4":  true
+/// "", "9", "a b":            false
+/// ```
+pub fn is_frr_name(name: &str) -> bool
+    ensures { IsTrue result ↔ IsFrrName name.now }
+{
+    name.len() <= MOST_FRR && is_name_word(name.as_bytes())
+}
+
+/// Whether the byte may be in a symbol of BIRD.
+fn is_in_symbol(byte: u8) -> bool
+    ensures { result ≡ is_symbol_byte byte }
+{
+    byte.is_ascii_alphanumeric() || byte == b'_'
+}
+
+/// Whether all bytes may be in a symbol of BIRD.
+fn are_in_symbol(bytes: &[u8]) -> bool
+    ensures { result ≡ list_all is_symbol_byte bytes.now }
+{
+    bytes.iter().all(|byte| is_in_symbol(*byte))
+}
+
+/// Returns whether the text is a symbol of BIRD: at most 64 bytes, a letter or "_", and then letters, digits and "_".
+/// BIRD itself refuses two kinds of these texts: keywords, such as `table`, and 32, 34 or more hexadecimal digits in
+/// pairs, which it reads as bytes.
+///
+/// ```text
+/// "ALLOWED4", "_a":  true
+/// "", "9", "a-b":    false
+/// ```
+pub fn is_bird_name(name: &str) -> bool
+    ensures { IsTrue result ↔ IsBirdName name.now }
+{
+    let bytes = name.as_bytes();
+    name.len() <= MOST_BIRD && (is_name_word(bytes) && are_in_symbol(bytes))
+}
+
+/// Whether the text is a chain or a target that iptables has itself.
+fn is_built_in(name: &str) -> bool
+    ensures { IsTrue result ↔ IsBuiltIn name.now }
+{
+    match name {
+        "ACCEPT" => true,
+        "DROP" => true,
+        "QUEUE" => true,
+        "RETURN" => true,
+        "INPUT" => true,
+        "FORWARD" => true,
+        "OUTPUT" => true,
+        _ => false,
+    }
+}
+
+/// Returns whether the text names a target of iptables: one word of at most 28 bytes. A word is a letter or "_", and
+/// then letters, digits, "_", "-" and ".".
+///
+/// ```text
+/// "DROP", "blocked":          true
+/// "", "REJECT --reject-with": false
+/// ```
+pub fn is_target_name(name: &str) -> bool
+    ensures { IsTrue result ↔ IsTargetName name.now }
+{
+    name.len() <= MOST_CHAIN && is_name_word(name.as_bytes())
+}
+
+/// Returns whether the text names a chain that a user creates: a name as a target has, but not `ACCEPT`, `DROP`,
+/// `QUEUE`, `RETURN`, `INPUT`, `FORWARD` or `OUTPUT`. iptables creates no chain with the first four of these names. The
+/// last three have rules of other kinds, which would be lost.
+///
+/// ```text
+/// "blocked":        true
+/// "INPUT", "DROP":  false
+/// ```
+pub fn is_chain_name(name: &str) -> bool
+    ensures { IsTrue result ↔ IsChainName name.now }
+{
+    is_target_name(name) && !is_built_in(name)
+}
+
+/// Returns whether the two names are of two sets of nft, or of BIRD: whether they are different.
 ///
 /// ```text
 /// "inet f a" and "inet f b":  true

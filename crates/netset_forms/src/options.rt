@@ -2,14 +2,18 @@
 ghost use Rattle.std.specs.Prelude.{◌≡◌, ◌↔◌, ◌⊎◌, ◌==◌, ℕ, Some, IsTrue, IfOk, IfErr, OnOk, option_map};
 ghost use Rattle.std.specs.List.{list_any};
 ghost use Rattle.netset_forms.specs.FormOptions.{form_text, HasLines, HasSets, HasNames, IsMaxelem, IsRequestOf};
-ghost use Rattle.netset_forms.specs.FormOptions.{IsFormNamed, IsFormOf, IsMostElements, IsMinLength, IsGoodPrefix};
-ghost use Rattle.netset_forms.specs.FormOptions.{AreGoodSets, IsGoodName, AreGoodBoth, IsFormFault};
+ghost use Rattle.netset_forms.specs.FormOptions.{IsFormNamed, IsFormOf, IsMostElements, IsMinLength, IsGoodText};
+ghost use Rattle.netset_forms.specs.FormOptions.{AreGoodSets, IsGoodName, AreGoodBoth, AreRulesOf, IsFormFault};
 ghost use Rattle.netset_forms.specs.FormOptions.{fault_value, is_line_break};
 ghost use Rattle.netset_forms.specs.declared.options.FormName.{FormName};
+ghost use Rattle.netset_forms.specs.declared.options.FormName.TheVariants.{Iptables};
 
-use crate::form::{AnswerForm, FormRequest, SetNames};
-use crate::names::{are_ipset_sets, are_nft_sets, is_ipset_name, is_nft_name};
-use netset_lib::{read_length, read_number};
+use crate::form::{AnswerForm, ChainRules, FormRequest, LineTexts, SetNames};
+use crate::names::{
+    are_ipset_sets, are_nft_sets, is_bird_name, is_chain_name, is_frr_name, is_ipset_name,
+    is_nft_name, is_target_name,
+};
+use netset_lib::{families, read_length, read_number};
 
 /// The `maxelem` of a set of ipset without the option: the greatest that the kernel has.
 pub const MOST_ELEMENTS: u32 = 4_294_967_295;
@@ -29,6 +33,12 @@ pub enum FormName {
     Nft,
     /// Commands of `ipset`.
     Ipset,
+    /// Prefix lists of FRR.
+    Frr,
+    /// Sets of prefixes of BIRD.
+    Bird,
+    /// A chain for `iptables-restore`.
+    Iptables,
 }
 
 /// The options for the form of an answer, as they were given.
@@ -40,12 +50,22 @@ pub struct FormOptions<'a> {
     pub ranges: bool,
     /// `--prefix`
     pub prefix: Option<&'a str>,
+    /// `--suffix`
+    pub suffix: Option<&'a str>,
     /// `--min-length`
     pub min_length: Option<&'a str>,
     /// `--ipv4-set` and `--ipv6-set`
     pub sets: SetNames<'a>,
     /// `--maxelem`
     pub maxelem: Option<&'a str>,
+    /// `--chain`
+    pub chain: Option<&'a str>,
+    /// `--target`
+    pub target: Option<&'a str>,
+    /// `-4`
+    pub ipv4_only: bool,
+    /// `-6`
+    pub ipv6_only: bool,
 }
 
 /// Why the options of a form do not go together.
@@ -57,6 +77,12 @@ pub enum FormFault<'a> {
     /// The text before each line has a line feed or a carriage return.
     #[error("--prefix has a line break")]
     LineBreak,
+    /// A text after each line, and the form has no such lines.
+    #[error("--suffix is for the formats plain and ranges")]
+    Suffix,
+    /// The text after each line has a line feed or a carriage return.
+    #[error("--suffix has a line break")]
+    SuffixBreak,
     /// A minimum prefix length, and the form has no networks.
     #[error("--min-length is not for ranges, which have no prefix length")]
     Ranges,
@@ -64,7 +90,7 @@ pub enum FormFault<'a> {
     #[error("not a prefix length")]
     Length(&'a str),
     /// The name of a set, and the form has no sets.
-    #[error("--ipv4-set and --ipv6-set are for the formats nft and ipset")]
+    #[error("--ipv4-set and --ipv6-set are for the formats nft, ipset, frr and bird")]
     Sets,
     /// No set has a name.
     #[error("name a set by --ipv4-set or --ipv6-set")]
@@ -75,12 +101,36 @@ pub enum FormFault<'a> {
     /// The text does not name a set of ipset.
     #[error("not a name of a set of ipset, such as allowed, or longer than 27 bytes")]
     IpsetName(&'a str),
+    /// The text does not name a prefix list of FRR.
+    #[error("not a name of a prefix list of FRR, such as allowed, or longer than 128 bytes")]
+    FrrName(&'a str),
+    /// The text is not a symbol of BIRD.
+    #[error("not a symbol of BIRD, such as ALLOWED4, or longer than 64 bytes")]
+    BirdName(&'a str),
     /// Both names are of one set.
     #[error("--ipv4-set and --ipv6-set name one set")]
     OneSet,
     /// One of the sets of ipset has the name of the other's new set.
     #[error("one of --ipv4-set and --ipv6-set is the other with .new, the name of its new set")]
     NewSet,
+    /// A chain or a target, and the form is another.
+    #[error("--chain and --target are for the format iptables")]
+    OtherChain,
+    /// No chain or no target.
+    #[error("the format iptables needs --chain and --target")]
+    NoChain,
+    /// The text does not name a chain that a user creates.
+    #[error("not a name of a chain of your own, such as blocked, or longer than 28 bytes")]
+    ChainName(&'a str),
+    /// The text does not name a target.
+    #[error("not a target of iptables, such as DROP, or longer than 28 bytes")]
+    TargetName(&'a str),
+    /// The rules of the chain lead to the chain.
+    #[error("--target is the chain itself")]
+    OwnTarget,
+    /// Not one of the two families.
+    #[error("the format iptables needs either -4 or -6")]
+    OneFamily,
     /// A `maxelem`, and the form is another.
     #[error("--maxelem is for the format ipset")]
     OtherMaxelem,
@@ -102,6 +152,10 @@ impl<'a> FormFault<'a> {
             FormFault::Length(value) => Some(value),
             FormFault::NftName(value) => Some(value),
             FormFault::IpsetName(value) => Some(value),
+            FormFault::FrrName(value) => Some(value),
+            FormFault::BirdName(value) => Some(value),
+            FormFault::ChainName(value) => Some(value),
+            FormFault::TargetName(value) => Some(value),
             FormFault::Maxelem(value) => Some(value),
             _ => None,
         }
@@ -124,6 +178,9 @@ impl FormName {
             "csv" => Some(FormName::Csv),
             "nft" => Some(FormName::Nft),
             "ipset" => Some(FormName::Ipset),
+            "frr" => Some(FormName::Frr),
+            "bird" => Some(FormName::Bird),
+            "iptables" => Some(FormName::Iptables),
             _ => None,
         }
     }
@@ -146,6 +203,8 @@ impl FormName {
         match self {
             FormName::Nft => true,
             FormName::Ipset => true,
+            FormName::Frr => true,
+            FormName::Bird => true,
             _ => false,
         }
     }
@@ -199,12 +258,24 @@ impl<'a> FormOptions<'a> {
 
     /// Refuses a text before each line if the form has no lines, or if the text has a line break.
     fn check_prefix(self, form: FormName) -> Result<(), FormFault<'a>>
-        ensures good { OnOk result (IsGoodPrefix form self.entry) }
+        ensures good { OnOk result (IsGoodText form self.entry.prefix) }
         ensures fault { IfErr result (IsFormFault form self.entry) }
     {
         match self.prefix {
             Some(_) if !form.has_lines() => Err(FormFault::Prefix),
             Some(text) if has_line_break(text) => Err(FormFault::LineBreak),
+            _ => Ok(()),
+        }
+    }
+
+    /// Refuses a text after each line as `check_prefix` does one before it.
+    fn check_suffix(self, form: FormName) -> Result<(), FormFault<'a>>
+        ensures good { OnOk result (IsGoodText form self.entry.suffix) }
+        ensures fault { IfErr result (IsFormFault form self.entry) }
+    {
+        match self.suffix {
+            Some(_) if !form.has_lines() => Err(FormFault::Suffix),
+            Some(text) if has_line_break(text) => Err(FormFault::SuffixBreak),
             _ => Ok(()),
         }
     }
@@ -257,6 +328,8 @@ impl<'a> FormOptions<'a> {
         match form {
             FormName::Nft if !is_nft_name(text) => Err(FormFault::NftName(text)),
             FormName::Ipset if !is_ipset_name(text) => Err(FormFault::IpsetName(text)),
+            FormName::Frr if !is_frr_name(text) => Err(FormFault::FrrName(text)),
+            FormName::Bird if !is_bird_name(text) => Err(FormFault::BirdName(text)),
             _ => Ok(()),
         }
     }
@@ -274,33 +347,80 @@ impl<'a> FormOptions<'a> {
         };
         match form {
             FormName::Nft if !are_nft_sets(ipv4, ipv6) => Err(FormFault::OneSet),
+            FormName::Bird if !are_nft_sets(ipv4, ipv6) => Err(FormFault::OneSet),
             FormName::Ipset if ipv4 == ipv6 => Err(FormFault::OneSet),
             FormName::Ipset if !are_ipset_sets(ipv4, ipv6) => Err(FormFault::NewSet),
             _ => Ok(()),
         }
     }
 
+    /// The rules of the chain that the options of iptables name.
+    fn chain_rules(self) -> Result<ChainRules<'a>, FormFault<'a>>
+        ensures good { IfOk result (AreRulesOf Iptables self.entry) }
+        ensures fault { IfErr result (IsFormFault Iptables self.entry) }
+    {
+        let Some(chain) = self.chain else {
+            return Err(FormFault::NoChain);
+        };
+        let Some(target) = self.target else {
+            return Err(FormFault::NoChain);
+        };
+        if !is_chain_name(chain) {
+            return Err(FormFault::ChainName(chain));
+        }
+        if !is_target_name(target) {
+            return Err(FormFault::TargetName(target));
+        }
+        if chain == target {
+            return Err(FormFault::OwnTarget);
+        }
+        if self.ipv4_only == self.ipv6_only {
+            return Err(FormFault::OneFamily);
+        }
+        Ok(ChainRules { chain, target })
+    }
+
+    /// The rules of a chain, without texts if the form is not iptables. Refuses a chain and a target for other forms.
+    fn rules(self, form: FormName) -> Result<ChainRules<'a>, FormFault<'a>>
+        ensures good { IfOk result (AreRulesOf form self.entry) }
+        ensures fault { IfErr result (IsFormFault form self.entry) }
+    {
+        match form {
+            FormName::Iptables => self.chain_rules(),
+            _ if self.chain.is_some() || self.target.is_some() => Err(FormFault::OtherChain),
+            _ => Ok(ChainRules {
+                chain: "",
+                target: "",
+            }),
+        }
+    }
+
     /// The form of this name.
-    fn form(self, name: FormName, most: u32) -> AnswerForm<'a>
-        ensures { IsFormOf name self.entry most result }
+    fn form(self, name: FormName, most: u32, rules: ChainRules<'a>) -> AnswerForm<'a>
+        ensures { IsFormOf name self.entry most rules.entry result }
     {
         let prefix = self.prefix.unwrap_or("");
+        let suffix = self.suffix.unwrap_or("");
         match name {
-            FormName::Plain => AnswerForm::Networks(prefix),
-            FormName::Ranges => AnswerForm::Ranges(prefix),
+            FormName::Plain => AnswerForm::Networks(LineTexts { prefix, suffix }),
+            FormName::Ranges => AnswerForm::Ranges(LineTexts { prefix, suffix }),
             FormName::Json => AnswerForm::Json,
             FormName::Csv => AnswerForm::Csv,
             FormName::Nft => AnswerForm::Nft(self.sets),
             FormName::Ipset => AnswerForm::Ipset(self.sets, most),
+            FormName::Frr => AnswerForm::Frr(self.sets),
+            FormName::Bird => AnswerForm::Bird(self.sets),
+            FormName::Iptables => AnswerForm::Iptables(rules),
         }
     }
 
     /// Returns what the options ask for, or the first reason why they do not go together. Allocates nothing.
     ///
     /// ```text
-    /// no option:                        Networks(""), of any prefix length
+    /// no option:                        Networks("", ""), of any prefix length, of both families
     /// --format json --min-length 24:    Json, of prefix lengths from 24
     /// --format json --prefix x:         Err(Prefix)
+    /// --format iptables --chain x:      Err(NoChain)
     /// ```
     pub fn request(self) -> Result<FormRequest<'a>, FormFault<'a>>
         ensures request { IfOk result (IsRequestOf self.entry) }
@@ -310,14 +430,17 @@ impl<'a> FormOptions<'a> {
         let name = self.name();
         let most = self.most_elements(name)?;
         self.check_prefix(name)?;
+        self.check_suffix(name)?;
         self.check_sets(name)?;
         let min_length = self.min_length(name)?;
         self.check_name(name, self.sets.ipv4)?;
         self.check_name(name, self.sets.ipv6)?;
         self.check_both(name)?;
+        let rules = self.rules(name)?;
         Ok(FormRequest {
-            form: self.form(name, most),
+            form: self.form(name, most, rules),
             min_length,
+            families: families(self.ipv4_only, self.ipv6_only),
         })
     }
 }

@@ -1,20 +1,21 @@
 //! The parts of an answer: one, or one for each family.
-ghost use Rattle.std.specs.Prelude.{◌≡◌, ◌↔◌, ◌++◌, IfOk, IfErr, OnOk, ℕ, None, max, decimal, string_bytes};
+ghost use Rattle.std.specs.Prelude.{◌≡◌, ◌↔◌, IfOk, IfErr, OnOk, ℕ, None, max};
 ghost use Rattle.ipnet_base.specs.Address.{IPv4, IPv6, Address};
 ghost use Rattle.ipnet_sets.specs.Members.{IsMember};
 ghost use Rattle.netset_forms.specs.Forms.{ipset_kind, FitsFamilies, IsOfFamily, IsFormText, IsFormFailure, IsTooLong};
-ghost use Rattle.netset_forms.specs.Forms.{AreFamilyTexts, HasOne};
+ghost use Rattle.netset_forms.specs.Forms.{AreFamilyTexts, HasOne, IsAskedText, IsAskedFailure, IsOfFamilies};
 ghost use Rattle.netset_forms.specs.declared.form.FormFailure.TheVariants as Failures;
-ghost use Rattle.netset_forms.specs.declared.parts.Item.TheVariants as Items;
-ghost use Rattle.netset_forms.specs.FormSteps.{layout_of, IsItemsText, IsNamedText, MakesPart, MakeParts};
-ghost use Rattle.netset_forms.specs.FormSteps.{IsUnnamed, least_in};
-ghost use Rattle.netset_forms.specs.Layouts.{nft_layout, ipset_layout};
+ghost use Rattle.netset_forms.specs.FormSteps.{layout_of, named_layout, IsItemsText, IsNamedText, MakesPart, MakeParts};
+ghost use Rattle.netset_forms.specs.FormSteps.{IsUnnamed, IsNamedFailure, least_in, named_item, named_items};
+ghost use Rattle.netset_forms.specs.Forms.{plain_items};
+ghost use Rattle.netset_forms.specs.Layouts.{ipset_layout};
 
 use crate::form::{AnswerForm, FormFailure, FormRequest, SetNames};
 use crate::frame;
-use crate::frame::Frame;
+use crate::frame::{Commands, Frame};
 use ipnet::{IpNet, Ipv6Net};
 use ipnet_sets::IpSet;
+use netset_lib::Families;
 use std::alloc::{AllocError, Global};
 
 /// The items of a part.
@@ -26,6 +27,8 @@ pub(crate) enum Item {
     Row,
     /// The ranges.
     Range,
+    /// The networks, each as an entry of a prefix list with its sequence number.
+    Entry,
 }
 
 /// A part of an answer: the items of a set in a frame.
@@ -36,6 +39,31 @@ pub(crate) struct Part {
     pub(crate) min_length: u8,
     pub(crate) set: IpSet,
 }
+
+/// The commands for the sets of the two families.
+#[derive(Clone, Copy)]
+struct FamilyCommands {
+    ipv4: Commands,
+    ipv6: Commands,
+}
+
+/// Commands of nft.
+const NFT: FamilyCommands = FamilyCommands {
+    ipv4: Commands::Nft,
+    ipv6: Commands::Nft,
+};
+
+/// Commands of FRR.
+const FRR: FamilyCommands = FamilyCommands {
+    ipv4: Commands::FrrIpv4,
+    ipv6: Commands::FrrIpv6,
+};
+
+/// Definitions of BIRD.
+const BIRD: FamilyCommands = FamilyCommands {
+    ipv4: Commands::Bird,
+    ipv6: Commands::Bird,
+};
 
 /// The parts of an answer, one after the other.
 #[derive(Drop)]
@@ -74,50 +102,46 @@ fn ipv6_of(alloc: Global, set: &IpSet) -> Result<IpSet, AllocError>
     set.within(alloc, &IpNet::V6(Ipv6Net::default()))
 }
 
+/// The items of the commands for a set.
+fn item_of(commands: Commands) -> Item
+    ensures { result ≡ named_item commands }
+{
+    match commands {
+        Commands::FrrIpv4 => Item::Entry,
+        Commands::FrrIpv6 => Item::Entry,
+        _ => Item::Network,
+    }
+}
+
 /// The part of the networks of a set, in the frame.
-fn network_part(frame: Frame, min_length: u8, set: IpSet) -> Option<Part>
-    ensures { MakesPart (IsItemsText Items.Network (layout_of frame) min_length (IsMember set)) min_length
+fn network_part(frame: Frame, item: Item, min_length: u8, set: IpSet) -> Option<Part>
+    ensures { MakesPart (IsItemsText item (layout_of frame) min_length (IsMember set)) min_length
         (IsMember set) result }
 {
     Some(Part {
         frame,
-        item: Item::Network,
+        item,
         min_length,
         set,
     })
 }
 
-/// The part of a set of nft, if it has a name.
-fn nft_part(
+/// The part of a set with these commands, if it has a name.
+fn named_part(
     alloc: Global,
+    commands: Commands,
     name: Option<&str>,
     min_length: u8,
     set: IpSet,
 ) -> Result<Option<Part>, AllocError>
-    ensures { IfOk result (MakesPart (IsNamedText nft_layout name.entry min_length (IsMember set)) min_length
-        (IsMember set)) }
+    ensures { IfOk result (MakesPart (IsNamedText (named_layout commands) (named_items commands) name.entry min_length
+        (IsMember set)) min_length (IsMember set)) }
 {
-    match name {
-        Some(name) => Ok(network_part(frame::nft(alloc, name)?, min_length, set)),
-        None => Ok(None),
-    }
-}
-
-/// The part of a set of ipset of this kind, if it has a name.
-fn ipset_part(
-    alloc: Global,
-    kind: &str,
-    name: Option<&str>,
-    min_length: u8,
-    set: IpSet,
-) -> Result<Option<Part>, AllocError>
-    ensures { IfOk result (MakesPart (IsNamedText (ipset_layout kind.now) name.entry min_length (IsMember set))
-        min_length (IsMember set)) }
-{
-    match name {
-        Some(name) => Ok(network_part(frame::ipset(alloc, kind, name)?, min_length, set)),
-        None => Ok(None),
-    }
+    let Some(name) = name else {
+        return Ok(None);
+    };
+    let frame = frame::named(alloc, commands, name)?;
+    Ok(network_part(frame, item_of(commands), min_length, set))
 }
 
 /// Refuses a least prefix length that is too long for a family of the set.
@@ -150,32 +174,26 @@ fn check_names(set: &IpSet, names: SetNames<'_>) -> Result<(), FormFailure>
     Ok(())
 }
 
-/// The parts of an answer for nft.
-fn nft_parts(
+/// The parts of an answer that has commands for each family with a name.
+fn named_parts(
     alloc: Global,
     set: &IpSet,
     names: SetNames<'_>,
     min_length: u8,
-) -> Result<Parts, AllocError>
+    commands: FamilyCommands,
+) -> Result<Parts, FormFailure>
     requires fits { FitsFamilies (IsMember set.now) min_length }
-    requires ipv4 { names.ipv4 ≡ None → ¬ (HasOne (IsMember set.now) IPv4) }
-    requires ipv6 { names.ipv6 ≡ None → ¬ (HasOne (IsMember set.now) IPv6) }
-    ensures { IfOk result (MakeParts (AreFamilyTexts nft_layout nft_layout names.entry min_length (IsMember set.now))) }
+    requires same { named_items commands.ipv6 ≡ named_items commands.ipv4 }
+    ensures parts { IfOk result (MakeParts (AreFamilyTexts (named_layout commands.ipv4) (named_layout commands.ipv6)
+        (named_items commands.ipv4) names.entry min_length (IsMember set.now))) }
+    ensures failure { IfErr result (IsNamedFailure names.entry (IsMember set.now)) }
 {
+    check_names(set, names)?;
     let ipv4 = ipv4_of(alloc, set)?;
     let ipv6 = ipv6_of(alloc, set)?;
-    let first = nft_part(alloc, names.ipv4, min_length, ipv4)?;
-    let second = nft_part(alloc, names.ipv6, min_length, ipv6)?;
+    let first = named_part(alloc, commands.ipv4, names.ipv4, min_length, ipv4)?;
+    let second = named_part(alloc, commands.ipv6, names.ipv6, min_length, ipv6)?;
     Ok(Parts { first, second })
-}
-
-/// The kind of a set of ipset: the text, and then the number.
-fn kind_of(alloc: Global, front: &str, most: u32) -> Result<String, AllocError>
-    ensures { IfOk result (λ text. string_bytes text ≡ front.now ++ decimal most) }
-{
-    let mut text = String::new(alloc);
-    write!(text, "{front}{most}")?;
-    Ok(text)
 }
 
 /// The parts of an answer for ipset, which refuses a network of prefix length 0. `most` is the `maxelem` of the sets.
@@ -185,21 +203,21 @@ fn ipset_parts(
     names: SetNames<'_>,
     min_length: u8,
     most: u32,
-) -> Result<Parts, AllocError>
-    requires fits { FitsFamilies (IsMember set.now) min_length }
-    requires ipv4 { names.ipv4 ≡ None → ¬ (HasOne (IsMember set.now) IPv4) }
-    requires ipv6 { names.ipv6 ≡ None → ¬ (HasOne (IsMember set.now) IPv6) }
-    ensures { IfOk result (MakeParts (AreFamilyTexts (ipset_layout (ipset_kind most IPv4))
-        (ipset_layout (ipset_kind most IPv6)) names.entry (max min_length 1) (IsMember set.now))) }
+) -> Result<Parts, FormFailure>
+    requires { FitsFamilies (IsMember set.now) min_length }
+    ensures parts { IfOk result (MakeParts (AreFamilyTexts (ipset_layout (ipset_kind most IPv4))
+        (ipset_layout (ipset_kind most IPv6)) plain_items names.entry (max min_length 1) (IsMember set.now))) }
+    ensures failure { IfErr result (IsNamedFailure names.entry (IsMember set.now)) }
 {
-    let least = min_length.max(1);
-    let ipv4 = ipv4_of(alloc, set)?;
-    let ipv6 = ipv6_of(alloc, set)?;
-    let ipv4_kind = kind_of(alloc, "hash:net family inet maxelem ", most)?;
-    let ipv6_kind = kind_of(alloc, "hash:net family inet6 maxelem ", most)?;
-    let first = ipset_part(alloc, ipv4_kind.as_str(), names.ipv4, least, ipv4)?;
-    let second = ipset_part(alloc, ipv6_kind.as_str(), names.ipv6, least, ipv6)?;
-    Ok(Parts { first, second })
+    let ipv4 = Commands::IpsetIpv4(most);
+    let ipv6 = Commands::IpsetIpv6(most);
+    named_parts(
+        alloc,
+        set,
+        names,
+        min_length.max(1),
+        FamilyCommands { ipv4, ipv6 },
+    )
 }
 
 /// The least prefix length of the networks of an answer; ranges have none.
@@ -212,35 +230,56 @@ fn least_of(request: FormRequest<'_>) -> u8
     }
 }
 
-/// The parts of the answer.
-pub(crate) fn parts_of(
-    alloc: Global,
-    set: IpSet,
-    request: FormRequest<'_>,
-) -> Result<Parts, FormFailure>
+/// The parts of the answer, of all addresses of the set.
+fn parts_of(alloc: Global, set: IpSet, request: FormRequest<'_>) -> Result<Parts, FormFailure>
     ensures parts { let r = request.entry in IfOk result (MakeParts (IsFormText r.form r.min_length (IsMember set))) }
     ensures failure { let r = request.entry in IfErr result (IsFormFailure r.form r.min_length (IsMember set)) }
 {
     let least = least_of(request);
     check_length(&set, least)?;
     match request.form {
-        AnswerForm::Networks(prefix) => {
-            let frame = frame::lines(alloc, prefix)?;
+        AnswerForm::Networks(lines) => {
+            let frame = frame::lines(alloc, lines.prefix, lines.suffix)?;
             Ok(one_part(frame, Item::Network, least, set))
         }
-        AnswerForm::Ranges(prefix) => {
-            let frame = frame::lines(alloc, prefix)?;
+        AnswerForm::Ranges(lines) => {
+            let frame = frame::lines(alloc, lines.prefix, lines.suffix)?;
             Ok(one_part(frame, Item::Range, least, set))
         }
         AnswerForm::Json => Ok(one_part(frame::json(alloc)?, Item::Network, least, set)),
         AnswerForm::Csv => Ok(one_part(frame::csv(alloc)?, Item::Row, least, set)),
-        AnswerForm::Nft(names) => {
-            check_names(&set, names)?;
-            Ok(nft_parts(alloc, &set, names, least)?)
+        AnswerForm::Iptables(rules) => {
+            let frame = frame::chain(alloc, rules.chain, rules.target)?;
+            Ok(one_part(frame, Item::Network, least, set))
         }
-        AnswerForm::Ipset(names, most) => {
-            check_names(&set, names)?;
-            Ok(ipset_parts(alloc, &set, names, least, most)?)
-        }
+        AnswerForm::Nft(names) => named_parts(alloc, &set, names, least, NFT),
+        AnswerForm::Ipset(names, most) => ipset_parts(alloc, &set, names, least, most),
+        AnswerForm::Frr(names) => named_parts(alloc, &set, names, least, FRR),
+        AnswerForm::Bird(names) => named_parts(alloc, &set, names, least, BIRD),
     }
+}
+
+/// The addresses of the set of these families.
+fn chosen_addresses(alloc: Global, set: IpSet, families: Families) -> Result<IpSet, AllocError>
+    ensures { IfOk result (λ s. (x : Address) → IsMember s x ↔ IsOfFamilies families (IsMember set) x) }
+{
+    match families {
+        Families::Ipv4 => ipv4_of(alloc, &set),
+        Families::Ipv6 => ipv6_of(alloc, &set),
+        Families::Named => Ok(set),
+        Families::Both => Ok(set),
+    }
+}
+
+/// The parts of the answer that is asked for: of the addresses of its families.
+pub(crate) fn asked_parts(
+    alloc: Global,
+    set: IpSet,
+    request: FormRequest<'_>,
+) -> Result<Parts, FormFailure>
+    ensures parts { IfOk result (MakeParts (IsAskedText request.entry (IsMember set))) }
+    ensures failure { IfErr result (IsAskedFailure request.entry (IsMember set)) }
+{
+    let chosen = chosen_addresses(alloc, set, request.families)?;
+    parts_of(alloc, chosen, request)
 }

@@ -1,5 +1,5 @@
 //! Texts, addresses and rows, written piece by piece, so that an answer of any length takes little memory.
-ghost use Rattle.std.specs.Prelude.{◌++◌, codes, OnOk, OnErr};
+ghost use Rattle.std.specs.Prelude.{◌++◌, codes, decimal, OnOk, OnErr};
 ghost use Rattle.ipnet_base.specs.Address.{ip_address};
 ghost use Rattle.ipnet.specs.CanonicalTexts.{address_text, canonical_text};
 ghost use Rattle.ipnet.specs.NetworkOf.{ip_network};
@@ -12,6 +12,7 @@ use ipnet::{IpAddr, IpNet};
 use ipnet_lists::ip_addr_text;
 use ipnet_text::pieces::{PIECE, make_room};
 use ipnet_text::write_whole;
+use itoa::Buffer;
 use std::io;
 use std::io::Write;
 
@@ -79,6 +80,20 @@ pub(crate) fn put_network<W: Write>(
         (canonical_text (ip_network network))) }
 {
     put(out, piece, network.to_text().as_str())
+}
+
+/// Appends the number to the piece, in decimal.
+pub(crate) fn put_number<W: Write>(
+    out: &mut W,
+    piece: &mut ArrayString<PIECE>,
+    number: u64,
+) -> io::Result<()>
+    ensures ok { OnOk result (IsInPieces (W.contents out.old) (W.contents out.new) piece.new.bytes
+        (piece.old.bytes ++ decimal number)) }
+    ensures cut { OnErr result (IsCut (W.contents out.old) (W.contents out.new) piece.old.bytes (decimal number)) }
+{
+    let mut buffer = Buffer::new();
+    put(out, piece, buffer.format(number))
 }
 
 /// Appends the row of a network to the piece: the network, its first and its last address, with commas between.

@@ -10,7 +10,7 @@ ghost use Rattle.netset_lib.specs.Combinations.{IsCombined, IsCombineFailure};
 ghost use Rattle.netset_lib.specs.Runs.{IsFault};
 ghost use Rattle.ipnet_sets.specs.Members.{IsMember};
 ghost use Rattle.ipnet_sets.specs.declared.set.IpSet.{IpSet};
-ghost use Rattle.netset_forms.specs.Forms.{IsFormFailure};
+ghost use Rattle.netset_forms.specs.Forms.{IsAskedFailure};
 ghost use Rattle.netset_forms.specs.FormAnswers.{IsFormAnswer, IsPermittedForm};
 
 use crate::form::{FormFailure, FormRequest};
@@ -71,8 +71,7 @@ impl<'a> Command for FormCommand<'a> {
     ghost is_outcome = { λ _ succeeded. IsTrue succeeded };
 
     ghost is_failure = { λ c. IsFault (IsCombineFailure c.combination) (λ failure. (set : IpSet)
-        × IsCombined c.combination set
-        × IsFormFailure c.form.form c.form.min_length (IsMember set) failure) };
+        × IsCombined c.combination set × IsAskedFailure c.form (IsMember set) failure) };
 
     fn write<W: Write>(self, out: &mut W) -> Result<bool, Fault<Failure, FormFailure>> {
         let FormCommand {
@@ -118,7 +117,7 @@ impl<'a> Command for PermittedCommand<'a> {
 
     ghost is_failure = { λ c. IsFault (IsRuleFailure c.list) (λ failure. (set : IpSet)
         × IsPermittedSet c.default (contents_of c.list).rules set
-        × IsFormFailure c.form.form c.form.min_length (IsMember set) failure) };
+        × IsAskedFailure c.form (IsMember set) failure) };
 
     fn write<W: Write>(
         self,

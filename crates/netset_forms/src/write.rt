@@ -3,12 +3,12 @@ ghost use Rattle.std.specs.Prelude.{◌⊎◌, OnOk, OnErr, IfErr};
 ghost use Rattle.std.specs.Io.KnownBytes.{Keeps};
 ghost use Rattle.ipnet_sets.specs.Members.{IsMember};
 ghost use Rattle.ipnet_text.specs.Outputs.{IsWritten, IsFrontWritten};
-ghost use Rattle.netset_forms.specs.Forms.{IsFormText, IsFormFailure};
+ghost use Rattle.netset_forms.specs.Forms.{IsAskedText, IsAskedFailure};
 ghost use Rattle.netset_forms.specs.FormSteps.{PutsSome, CutsSome, IsTextIfSome, FitsIfSome, ArePartTexts};
 
 use crate::blocks::put_part;
 use crate::form::{FormFailure, FormRequest};
-use crate::parts::{Part, Parts, parts_of};
+use crate::parts::{Part, Parts, asked_parts};
 use arrayvec::ArrayString;
 use ipnet_sets::IpSet;
 use ipnet_text::pieces::PIECE;
@@ -49,19 +49,20 @@ fn write_parts<W: Write>(out: &mut W, parts: &Parts) -> io::Result<()>
     out.flush()
 }
 
-/// Writes the set in the form that is asked for, and flushes the writer. It is written piece by piece, so memory does
-/// not grow with the text.
+/// Writes the addresses of the set that have one of the families that are asked for, in the form that is asked for, and
+/// flushes the writer. They are written piece by piece, so memory does not grow with the text.
 ///
-/// The error is `MinLength` if the set has addresses of a family whose prefix lengths are all below the least one that
-/// is asked for, and `NoIpv4Set` or `NoIpv6Set` if no set is named for addresses that it has; then nothing is written.
+/// The error is `MinLength` if one of these addresses has a family whose prefix lengths are all below the least one
+/// that is asked for. It is `NoIpv4Set` or `NoIpv6Set` if no set is named for one of them. Then nothing is written.
 /// `Memory` says that memory ran out before anything was written. `Unwritable` says that a write failed, or the flush;
 /// then a front of the text has been written.
 ///
 /// ```text
-/// 10.0.0.0 to 10.0.0.2, Networks("permit "), 31: "permit 10.0.0.0/31\npermit 10.0.0.2/32\n"
-/// 10.0.0.0 to 10.0.0.2, Ranges("- "):            "- 10.0.0.0-10.0.0.2\n"
-/// 10.0.0.0 to 10.0.0.2, Json, 32:                "[\n  \"10.0.0.0/32\",\n  \"10.0.0.1/32\",\n  \"10.0.0.2/32\"\n]\n"
-/// 10.0.0.0 to 10.0.0.2, Json, 33:                MinLength(33, 32)
+/// of 10.0.0.0 to 10.0.0.2 and ::1, for Ipv4
+/// Networks("permit ", ";"), 31:  "permit 10.0.0.0/31;\npermit 10.0.0.2/32;\n"
+/// Ranges("- ", ""):              "- 10.0.0.0-10.0.0.2\n"
+/// Json, 32:                      "[\n  \"10.0.0.0/32\",\n  \"10.0.0.1/32\",\n  \"10.0.0.2/32\"\n]\n"
+/// Json, 33:                      MinLength(33, 32)
 /// ```
 pub fn write_form<W: Write>(
     alloc: Global,
@@ -69,13 +70,13 @@ pub fn write_form<W: Write>(
     request: FormRequest<'_>,
     out: &mut W,
 ) -> Result<(), FormFailure>
-    ensures whole { let r = request.entry in OnOk result
-        (IsWritten (IsFormText r.form r.min_length (IsMember set)) (W.contents out.old) (W.contents out.new)) }
-    ensures failure { let r = request.entry in IfErr result (IsFormFailure r.form r.min_length (IsMember set)) }
-    ensures cut_short { let r = request.entry in OnErr result (Keeps (W.contents out.old) (W.contents out.new)
-        ⊎ IsFrontWritten (IsFormText r.form r.min_length (IsMember set)) (W.contents out.old) (W.contents out.new)) }
+    ensures whole { OnOk result
+        (IsWritten (IsAskedText request.entry (IsMember set)) (W.contents out.old) (W.contents out.new)) }
+    ensures failure { IfErr result (IsAskedFailure request.entry (IsMember set)) }
+    ensures cut_short { OnErr result (Keeps (W.contents out.old) (W.contents out.new)
+        ⊎ IsFrontWritten (IsAskedText request.entry (IsMember set)) (W.contents out.old) (W.contents out.new)) }
 {
-    let parts = parts_of(alloc, set, request)?;
+    let parts = asked_parts(alloc, set, request)?;
     write_parts(out, &parts)?;
     Ok(())
 }

@@ -1,16 +1,16 @@
 -- The items decide what the text of the part is.
 use Rattle.std.proofs.Common.{sym, subst, OnOk, OnErr}
 use Rattle.ipnet_sets.specs.Members.{IsMember}
-use Rattle.netset_forms.specs.Forms.{AreBlocksIn}
-use Rattle.netset_forms.specs.FormSteps.{layout_of, item_text, IsItemsText, PutsSome, CutsSome}
+use Rattle.netset_forms.specs.FormSteps.{layout_of, IsItemsText, PutsSome, CutsSome}
 use Rattle.netset_forms.proofs.BlockItems.{items_of_blocks}
 use Rattle.netset_forms.proofs.blocks.put_part.Goals as goal
 
-pub returns-in-Network : goal.returns-in-Network
-returns-in-Network g c =
+pub returns-in_default : goal.returns-in_default
+returns-in_default g c =
     let held = g.W.Write.contents in
     let p = c.args.part.now in
-    let same = items_of_blocks p.item (layout_of p.frame) p.min_length (IsMember p.set) c.in-Network.is in record {
+    let same =
+    items_of_blocks p.item (layout_of p.frame) p.min_length (IsMember p.set) c.in_default.not-Range in record {
       ok = subst (λ P. OnOk c.put_blocks.result (PutsSome P (held c.args.out.now) (held c.put_blocks.new.out)
           c.args.piece.now.bytes c.put_blocks.new.piece.bytes)) same c.put_blocks.ensures.ok;
       cut = subst (λ P. OnErr c.put_blocks.result (CutsSome P (held c.args.out.now) (held c.put_blocks.new.out)

@@ -1,5 +1,5 @@
 -- The text is a `maxelem` if it is a number, and this is not 0.
-use Rattle.std.proofs.Common.{◌≡◌, ◌≤◌, ◌∙◌, sym, subst, arith, Some, None}
+use Rattle.std.proofs.Common.{◌≡◌, ◌≤◌, ◌∙◌, sym, subst, arith, Some}
 use Rattle.netset_forms.proofs.options.read_maxelem.Goals as goal
 
 pub returns-in-Some : goal.returns-in-Some

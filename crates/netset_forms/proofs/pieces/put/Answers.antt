@@ -1,5 +1,5 @@
 -- The piece is written, and then the text: it has no room in a piece.
-use Rattle.std.proofs.Common.{◌≡◌, subst, ℕ, List, [], OnOk, arith}
+use Rattle.std.proofs.Common.{◌≡◌, subst, ℕ, List, [], arith}
 use Rattle.std.specs.Io.{StartsWith}
 use Rattle.std.specs.Io.KnownBytes.{Appends}
 use Rattle.std.proofs.lemmas.List.{nil_from_length}

@@ -1,4 +1,4 @@
-use Rattle.std.proofs.Common.{◌≡◌, ◌⊎◌, refl, inl, inr}
+use Rattle.std.proofs.Common.{refl, inl, inr}
 use Rattle.netset_lib.proofs.RunLaws.{whole_weaker, front_weaker}
 use Rattle.netset_forms.proofs.FormLaws.{text_of_sets}
 use Rattle.netset_forms.proofs.program.FormCommandCommand.write.Goals as goal
