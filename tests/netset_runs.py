@@ -11,7 +11,7 @@ RUNS_AT_ONCE = 4
 NAMES = "abcd"
 
 # The commands that report no list without an entry. The others get the flag that leaves out that report.
-NO_LISTS = ("split", "hosts", "info", "find")
+NO_LISTS = ("split", "hosts", "info")
 
 # A line that changes no answer. Lines that are not near the end of a list are read by another reader.
 AFTER = b"\n# a comment that is longer than the longest range of two IPv4 addresses\n"
