@@ -207,8 +207,8 @@ impl<L: ListReader> Lists<L> {
         Ok((lists, list))
     }
 
-    /// Reads the entries of the command line, a line each, as one list, as `read` reads a file. If a file before it has no
-    /// entry, and that is to be refused, they are not read, and the error is the exit status.
+    /// Reads the entries of the command line, a line each, as one list, as `read` reads a file. If a file before it has
+    /// no entry, and that is to be refused, they are not read, and the error is the exit status.
     fn read_entries(self, rt: &HostRuntime, entries: &str) -> Result<(Lists<L>, L::List), u8>
         ensures { IfErr result (λ status. status ≡ 2) }
     {
