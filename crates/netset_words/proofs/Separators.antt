@@ -1,8 +1,8 @@
 -- Each address has three "." or two ":".
 use Rattle.std.proofs.Common.{◌≡◌, ◌≤◌, ℕ, ◌||◌, ◌==◌, ◌-◌, ◌+◌, Bool, true, false, cond, List, [], ◌∷◌, ◌++◌, length}
-use Rattle.std.proofs.Common.{append_assoc, ap, sym, ◌∙◌, subst, arith, drop, inl, inr, take, if◌then◌else◌}
+use Rattle.std.proofs.Common.{refl, append_assoc, ap, sym, ◌∙◌, subst, arith, drop, inl, inr, take, if◌then◌else◌}
 use Rattle.std.specs.Char.{is_ascii_whitespace}
-use Rattle.std.specs.List.{after_first, before_first, count_by, position_or_len, suffix_len}
+use Rattle.std.specs.List.{after_first, before_first, count_by, list_any, position_or_len, suffix_len}
 use Rattle.std.proofs.lemmas.List.{take-append-drop}
 use Rattle.std.proofs.lemmas.List.Sums.{sum_by-append}
 use Rattle.ipnet_base.specs.Address.{Address}
@@ -38,6 +38,27 @@ dots_at front back =
 colons_at : (front back : List ℕ) → colons (front ++ 58 ∷ back) ≡ colons front + (1 + colons back)
 colons_at front back =
     sum_by-append colon front (58 ∷ back) ∙ ap (λ n. colons front + n) (sum_by-append colon (58 ∷ []) back)
+
+-- no sign at all
+neither : (p : Bool) (q : Bool) → (p || q) ≡ false → (p ≡ false) × (q ≡ false)
+neither true q e = absurd cc
+neither false q e = (refl, e)
+
+none_counted : (text : List ℕ) → list_any (λ b. (b == 46) || (b == 58)) text ≡ false
+    → (dots text ≡ 0) × (colons text ≡ 0)
+none_counted [] e = (refl, refl)
+none_counted (b ∷ text) e =
+    let both = neither ((b == 46) || (b == 58)) (list_any (λ c. (c == 46) || (c == 58)) text) e in
+    let each = neither (b == 46) (b == 58) both.0 in
+    let rest = none_counted text both.1 in
+    let no_dot : dots (b ∷ []) ≡ 0 = ap (λ t. 0 + cond t 1 0) each.0 in
+    let no_colon : colons (b ∷ []) ≡ 0 = ap (λ t. 0 + cond t 1 0) each.1 in
+    let dot_count : dots (b ∷ text) ≡ dots (b ∷ []) + dots text = sum_by-append dot (b ∷ []) text in
+    let colon_count : colons (b ∷ text) ≡ colons (b ∷ []) + colons text = sum_by-append colon (b ∷ []) text in
+    (omega (arith, dot_count, no_dot, rest.0), omega (arith, colon_count, no_colon, rest.1))
+
+pub few_none : (text : List ℕ) → list_any (λ b. (b == 46) || (b == 58)) text ≡ false → HasFewSigns text
+few_none text e = let none = none_counted text e in (omega (arith, none.0), omega (arith, none.1))
 
 few_front : (front back : List ℕ) → HasFewSigns (front ++ back) → HasFewSigns front
 few_front front back h = (

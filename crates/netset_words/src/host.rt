@@ -1,6 +1,6 @@
 //! The address in a text that a port or a path may follow.
-ghost use Rattle.std.specs.Prelude.{◌≡◌, ◌↔◌, ◌==◌, List, ℕ, false, length, IfSome, IfNone, IsTrue, MatchOption};
-ghost use Rattle.std.specs.List.{count_by, position_or_len};
+ghost use Rattle.std.specs.Prelude.{◌≡◌, ◌↔◌, ◌==◌, ◌||◌, List, ℕ, false, length, IfSome, IfNone, IsTrue, MatchOption};
+ghost use Rattle.std.specs.List.{count_by, list_any, position_or_len};
 ghost use Rattle.ipnet_base.specs.Address.{ip_address};
 ghost use Rattle.ipnet_lists.specs.Causes.{IsCutAt};
 ghost use Rattle.ipnet_lists.specs.Entries.{IsAddressText};
@@ -36,11 +36,22 @@ fn sign_count(text: &[u8], sign: u8) -> usize
     text.iter().filter(|byte| **byte == sign).count()
 }
 
-/// Whether the text has three "." or two ":", as each address has. Most words have not.
+/// Whether one of the bytes is "." or ":". Most words have none.
+#[inline]
+fn has_separator(text: &[u8]) -> bool
+    ensures { result ≡ list_any (λ b. (b == 46) || (b == 58)) text.now }
+{
+    text.iter().any(|byte| *byte == b'.' || *byte == b':')
+}
+
+/// Whether the text has three "." or two ":", as each address has.
 #[inline]
 pub(crate) fn has_signs(text: &[u8]) -> bool
     ensures { result ≡ false → HasFewSigns text.now }
 {
+    if !has_separator(text) {
+        return false;
+    }
     sign_count(text, b'.') > 2 || sign_count(text, b':') > 1
 }
 
