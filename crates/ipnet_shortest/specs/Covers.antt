@@ -29,7 +29,8 @@ IsAdded InSet networks x = IsCoveredBy networks x × ¬ (InSet x)
 
 -- A cover within the limit, such that no cover within the limit adds fewer addresses, and none that adds as few has
 -- fewer networks.
--- Example: with the limit 2 it is 10.0.0.0/30, 10.0.0.8/32, which adds two addresses; 10.0.0.0/32, 10.0.0.0/28 adds 13.
+-- Example: with the limit 2 it is 10.0.0.0/30, 10.0.0.8/32, which adds two addresses. Any /28 or larger network of a
+-- cover adds at least 13.
 pub record IsBestCover (limit : ℕ) (InSet IsForbidden : Address → Type 0) (networks : List Network) : Type 0 where
   pub cover : IsCoverWithin limit InSet IsForbidden networks
   -- the number of addresses that it adds
