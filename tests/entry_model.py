@@ -45,6 +45,8 @@ def length_of(text, address, legacy):
 def range_of(text, legacy):
     """The family, the first and the last number of the entry, or None."""
     first, sign, last = text.partition("-")
+    if sign and "\r" in text:
+        return None
     if sign:
         first, last = address_of(first.rstrip(BLANKS), legacy), address_of(last.lstrip(BLANKS), legacy)
         return (*first, last[1]) if first and last and first[0] == last[0] and first[1] <= last[1] else None
@@ -80,7 +82,10 @@ def hides_entry(comment):
 
 
 def contents_of(line):
-    """The text before the comment, or the whole line if the comment follows text and hides an entry."""
+    """The text before the comment, or the whole line if the comment follows text and hides an entry, or if a carriage
+    return is between other bytes than blanks."""
+    if "\r" in line.strip(BLANKS):
+        return line.strip(BLANKS)
     sign = re.search(r"#|(?:^|(?<=[ \t\f\r]));", line)
     start = sign.start() if sign else len(line)
     text = line[:start].strip(BLANKS)

@@ -1,13 +1,16 @@
 -- The comment of a line, and the words in it.
 use Rattle.std.proofs.Common.{◌≡◌, ◌≢◌, ◌↔◌, ℕ, ◌+◌, ◌-◌, ◌<◌, ◌≤◌, ◌==◌, Bool, IsTrue, true, false, List, []}
 use Rattle.std.proofs.Common.{length, get_or, take, drop}
-use Rattle.std.proofs.Common.{arith, sym, ap, ◌∙◌, subst, inl, inr, take_all, length-drop}
-use Rattle.std.specs.List.{before_first, position_or_len, prefix_len}
+use Rattle.std.proofs.Common.{arith, refl, sym, ap, ◌∙◌, subst, inl, inr, take_all, length-drop}
+use Rattle.std.specs.List.{before_first, list_any, position_or_len, prefix_len}
 use Rattle.std.proofs.lemmas.Bool.{cases_order, false_from_ne_true}
 use Rattle.std.proofs.lemmas.List.Sums.{position_or_len_is, prefix_len_is}
 use Rattle.memchr.specs.Find.{NoneBefore, Nowhere, Passes, is_byte}
 use Rattle.ipnet_base.proofs.ResultLaws.{false_gives}
-use Rattle.ipnet_lists.specs.Comments.{Opens, BeginsWithEntry, BeginsWithRule, HidesEntry, comment_text}
+use Rattle.ipnet_text.proofs.LineCuts.{empty_text}
+use Rattle.ipnet_lists.specs.Comments.{IsCommentAt, Opens, BeginsWithEntry, BeginsWithRule, HidesEntry, comment_text}
+use Rattle.ipnet_lists.specs.Entries.{HasReturn}
+use Rattle.ipnet_lists.specs.Lists.{IsContents, IsUndivided, without_blanks}
 use Rattle.ipnet_lists.specs.Words.{after_leading, ends_word, from_word}
 
 -- no comment begins at one index more
@@ -97,3 +100,35 @@ begins_so comment text entry rule some semicolon is first none second = (
     | inr e ↦ second.1 (subst BeginsWithRule (sym is) e)
   ],
 )
+
+-- nothing is behind all of a line
+behind_all : (line : List ℕ) → drop (length line) line ≡ []
+behind_all line = empty_text (drop (length line) line) (omega (arith, length-drop (length line) line))
+
+-- a line without a comment contains all that it is
+pub whole_contents : (line whole : List ℕ) → IsCommentAt line (length line) → whole ≡ without_blanks line
+    → IsContents line whole
+whole_contents line whole comment is = of (list_any (λ b. b == 13) (without_blanks line)) refl
+  where
+    of : (t : Bool) → list_any (λ b. b == 13) (without_blanks line) ≡ t → IsContents line whole
+    of true e = record { start = length line; comment = comment; is = inr (is, inl e) }
+    of false e = record {
+      start = length line;
+      comment = comment;
+      is = inl (
+        is ∙ ap without_blanks (sym (take_all (length line) line (omega arith))),
+        λ undivided. elim undivided [
+          | inl broken ↦ absurd (let clash : true ≡ false = sym broken ∙ e in cc)
+          | inr hides ↦ hides.1.some (behind_all line)
+        ],
+      );
+    }
+
+-- a line is divided at its comment if it has no carriage return between other bytes, and its comment hides no entry
+pub divided : (line whole : List ℕ) (start : ℕ) (has : Bool) → whole ≡ without_blanks line
+    → has ≡ list_any (λ b. b == 13) whole → has ≡ false
+    → ¬ ((without_blanks (take start line) ≢ []) × HidesEntry (drop start line)) → ¬ (IsUndivided line start)
+divided line whole start has is same none shown (inl broken) =
+    let clash : true ≡ false = sym (subst HasReturn (sym is) broken) ∙ sym same ∙ none in
+    absurd cc
+divided line whole start has is same none shown (inr hides) = shown hides

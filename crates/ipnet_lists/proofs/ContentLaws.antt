@@ -6,9 +6,9 @@ use Rattle.ipnet.specs.Lines.{lines_of}
 use Rattle.ipnet_sets.proofs.SetRangeLaws.{any_cases, any_there}
 use Rattle.ipnet_lists.specs.declared.refused.Refusals.{Refusals}
 use Rattle.ipnet_lists.specs.ContentLines.{ContentLine, IsSomeLine, AreItems, IsItemList, AreTaken}
-use Rattle.ipnet_lists.specs.ContentLines.{IsTakenList, AddsTaken}
+use Rattle.ipnet_lists.specs.ContentLines.{IsTakenList, AddsTaken, TakesUnbroken, refused_line}
 use Rattle.ipnet_lists.specs.Lists.{IsContents, AreContents, RefusalFor}
-use Rattle.ipnet_lists.specs.RefusedLines.{AreRefused}
+use Rattle.ipnet_lists.specs.RefusedLines.{AreRefused, HasMore}
 use Rattle.ipnet_lists.proofs.OneReading.{one_contents}
 use Rattle.ipnet_lists.proofs.RefusalLaws.{HasMore-nil, more_refused}
 
@@ -27,7 +27,8 @@ skip_empty line text lines is none = (
 
 module _ {M C : Type 0} (Takes : ContentLine → M → M → Type 0) (IsCause : List ℕ → C → Type 0) where
   some_taken : (number : ℕ) (text : List ℕ) (old new : M) → 0 < length text
-      → Takes (record { number = number; text = text }) old new → AreTaken Takes IsCause number (text ∷ []) old new []
+      → TakesUnbroken Takes (record { number = number; text = text }) old new
+      → AreTaken Takes IsCause number (text ∷ []) old new []
   some_taken number [] old new some takes = absurd (omega (arith, some))
   some_taken number (b ∷ text) old new some takes = inl (new, takes, (refl, refl))
 
@@ -40,9 +41,27 @@ module _ {M C : Type 0} (Takes : ContentLine → M → M → Type 0) (IsCause : 
   )
 
   pub adds_taken : (line : ContentLine) (old new : M) (refused : Refusals C) → 0 < length line.text
-      → Takes line old new → AddsTaken Takes IsCause line old new refused refused
+      → TakesUnbroken Takes line old new → AddsTaken Takes IsCause line old new refused refused
   adds_taken line old new refused some takes =
       ([], some_taken line.number line.text old new some takes, HasMore-nil refused refused.few)
+
+  some_refused : (number : ℕ) (text : List ℕ) (made : M) (cause : C) → 0 < length text → IsCause text cause
+      → AreTaken Takes IsCause number (text ∷ []) made made
+      (refused_line (record { number = number; text = text }) cause ∷ [])
+  some_refused number [] made cause some is = absurd (omega (arith, some))
+  some_refused number (b ∷ text) made cause some is =
+      inr ([], record { cause = cause; reported = is; next = refl }, (refl, refl))
+
+  pub adds_refused : (line : ContentLine) (old new : M) (cause : C) (refused refused_after : Refusals C)
+      → 0 < length line.text → IsCause line.text cause → new ≡ old
+      → HasMore refused refused_after (refused_line line cause ∷ [])
+      → AddsTaken Takes IsCause line old new refused refused_after
+  adds_refused line old new cause refused refused_after some is same more = (
+    refused_line line cause ∷ [],
+    subst (λ z. AreTaken Takes IsCause line.number (line.text ∷ []) old z (refused_line line cause ∷ [])) (sym same)
+        (some_refused line.number line.text old cause some is),
+    more,
+  )
 
   -- the line and those after it
   taken_cons : (number : ℕ) (text : List ℕ) (texts : List (List ℕ)) (old mid new : M)
@@ -56,7 +75,7 @@ module _ {M C : Type 0} (Takes : ContentLine → M → M → Type 0) (IsCause : 
   taken_cons number (b ∷ text) texts old mid new refused more (inl (made, takes, (same, none))) h =
       inl (
         mid,
-        subst (Takes (record { number = number; text = b ∷ text }) old) (sym same) takes,
+        subst (TakesUnbroken Takes (record { number = number; text = b ∷ text }) old) (sym same) takes,
         subst (λ z. AreTaken Takes IsCause (number + 1) texts mid new (z ++ more)) (sym none) h,
       )
   taken_cons number (b ∷ text) texts old mid new refused more (inr (rest, next, (same, none))) h =
@@ -129,11 +148,11 @@ module _ {T C : Type 0} (Is : ContentLine → T → Type 0) (IsCause : List ℕ 
   items_taken Takes Has each number ([] ∷ texts) old new refused before taken h =
       items_taken Takes Has each (number + 1) texts old new refused before taken h
   items_taken Takes Has each number ((b ∷ text) ∷ texts) old new refused before (inl (mid, takes, taken)) h =
-      let (item, is, adds) = each (record { number = number; text = b ∷ text }) old mid takes in
+      let (item, is, adds) = each (record { number = number; text = b ∷ text }) old mid takes.1 in
       let (items, are, has) = items_taken Takes Has each (number + 1) texts mid new refused (before ++ item ∷ []) taken
       (adds before h) in (
         item ∷ items,
-        inl (items, record { item = item; is = is; next = refl }, are),
+        inl (items, record { unbroken = takes.0; item = item; is = is; next = refl }, are),
         subst (Has new) (append_assoc before (item ∷ []) items) has,
       )
   items_taken Takes Has each number ((b ∷ text) ∷ texts) old new refused before (inr (more, next, taken)) h =
@@ -176,6 +195,7 @@ module _ {T C : Type 0} (Is : ContentLine → T → Type 0) (IsCause : List ℕ 
       inl (
         more,
         record {
+          unbroken = next.unbroken;
           item = next.item;
           is = f (record { number = number; text = b ∷ text }) next.item next.is;
           next = next.next;

@@ -18,10 +18,12 @@ use Rattle.ipnet_lists.specs.declared.entry.Entry.TheVariants as Entries
 use Rattle.ipnet_lists.specs.EntryOf.{IsWrittenAs}
 use Rattle.ipnet_lists.specs.EntrySteps.{HasEnds}
 use Rattle.ipnet_lists.specs.Entries.{IsAddressText, IsMaskedBy, IsNetworkOrMasked, IsPlainEntry, IsRangeFrom}
-use Rattle.ipnet_lists.specs.Entries.{IsEntryText, ReadsAs, WriteMasked, WriteRange, after_blanks, before_blanks}
+use Rattle.ipnet_lists.specs.Entries.{HasReturn, IsEntryText, ReadsAs, WriteMasked, WriteRange, after_blanks}
+use Rattle.ipnet_lists.specs.Entries.{before_blanks}
 use Rattle.ipnet_lists.proofs.AddressBytes.{IsAddressByte, ipv4_bytes, ipv6_bytes, decimal_bytes, one_front, one_back}
-use Rattle.ipnet_lists.proofs.AddressBytes.{middle}
+use Rattle.ipnet_lists.proofs.AddressBytes.{IsPlainByte, middle}
 use Rattle.ipnet_lists.proofs.BlankTexts.{undashed_front}
+use Rattle.ipnet_lists.proofs.ByteLaws.{plain_no_return}
 
 -- ---- what was read
 
@@ -144,6 +146,9 @@ pub address_bytes : (grammar : Grammar) (text : List ℕ) (x : Address) → IsAd
 address_bytes grammar text x (inl h) = ipv4_bytes grammar text h.octets h.writes
 address_bytes grammar text x (inr h) = ipv6_bytes grammar text h.groups h.writes
 
+pub plain_bytes : (text : List ℕ) → All IsAddressByte text → All IsPlainByte text
+plain_bytes text h = All-weaker IsAddressByte IsPlainByte (λ b is. is.plain) text h
+
 -- an address, "/" and digits
 pub record IsCutAtSlash (text : List ℕ) : Type 0 where
   pub front : List ℕ
@@ -191,20 +196,40 @@ plain_no_dash grammar text range (inl h) =
     (All-cons (λ b. b ≢ 45) 47 cut.back (λ e. omega (arith, e)) (no_dashes cut.back cut.in_back)))
 plain_no_dash grammar text range (inr h) = no_dashes text (address_bytes grammar text h.address h.writes)
 
+-- an entry has no carriage return
+entry_unbroken : (grammar : Grammar) (text : List ℕ) (range : AddressRange) → IsEntryText grammar text range
+    → ¬ (HasReturn text)
+entry_unbroken grammar text range (inl (inl h)) =
+    let cut = network_cut grammar text h.network h.writes in
+    let slash : IsPlainByte 47 = record {
+      no_blank = refl;
+      no_hash = λ e. omega (arith, e);
+      no_semicolon = λ e. omega (arith, e);
+    } in
+    plain_no_return text
+    (subst (All IsPlainByte) (sym cut.spelled)
+    (All-append IsPlainByte cut.front (47 ∷ cut.back) (plain_bytes cut.front cut.in_front)
+    (All-cons IsPlainByte 47 cut.back slash (plain_bytes cut.back cut.in_back))))
+entry_unbroken grammar text range (inl (inr h)) =
+    plain_no_return text (plain_bytes text (address_bytes grammar text h.address h.writes))
+entry_unbroken grammar text range (inr h) = h.unbroken
+
 module _ {V : Type 0} (range_of_value : V → AddressRange) (grammar : Grammar) (text : List ℕ) where
   -- a text that is cut at its first "-" is read as its two parts are
-  pub reads_cut : (first last : List ℕ) → text ≡ first ++ 45 ∷ last → All (λ b. b ≢ 45) first → (o : Option V)
+  pub reads_cut : (first last : List ℕ) → text ≡ first ++ 45 ∷ last → All (λ b. b ≢ 45) first
+      → ¬ (HasReturn text) → (o : Option V)
       → ReadsAs range_of_value (WriteRange grammar (before_blanks first)) (after_blanks last) o
       → ReadsAs range_of_value (IsEntryText grammar) text o
-  reads_cut first last e lacks (Some v) h =
+  reads_cut first last e lacks unbroken (Some v) h =
       reads_some range_of_value (IsEntryText grammar) text v
       (inr record {
         first_text = first;
         last_text = last;
         spelled = e ∙ sym (append_assoc first (45 ∷ []) last);
         ends = h.some;
+        unbroken = unbroken;
       })
-  reads_cut first last e lacks None h =
+  reads_cut first last e lacks unbroken None h =
       reads_none range_of_value (IsEntryText grammar) text (λ range is. elim is [
         | inl plain ↦
             middle (λ b. b ≢ 45) first 45 last
@@ -216,6 +241,12 @@ module _ {V : Type 0} (range_of_value : V → AddressRange) (grammar : Grammar) 
             (address_bytes grammar (before_blanks k.first_text) k.ends.first k.ends.writes_first)) in
             h.none.0 refl range (rw (fronts, backs) k.ends)
       ])
+
+  -- one with a carriage return is nothing
+  pub reads_broken : HasReturn text → (o : Option V) → o ≡ None → ReadsAs range_of_value (IsEntryText grammar) text o
+  reads_broken broken o none =
+      subst (ReadsAs range_of_value (IsEntryText grammar) text) (sym none) (
+      reads_none range_of_value (IsEntryText grammar) text (λ range is. entry_unbroken grammar text range is broken))
 
   -- one without "-" is a network, an address or nothing
   pub reads_uncut : All (λ b. b ≢ 45) text → (o : Option V)

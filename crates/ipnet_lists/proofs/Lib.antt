@@ -2,6 +2,7 @@
 pub mod AddressBytes
 pub mod AddressLengths
 pub mod BlankTexts
+pub mod ByteLaws
 pub mod EntryTexts
 pub mod RefusalLaws
 pub mod RangeCovers

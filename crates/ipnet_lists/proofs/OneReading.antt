@@ -1,6 +1,6 @@
 -- A list can be read in only one way.
 use Rattle.std.proofs.Common.{◌≡◌, ◌≢◌, ℕ, ◌+◌, ◌<◌, List, [], ◌∷◌, ◌++◌, All, refl, sym, ap, ◌∙◌, subst}
-use Rattle.std.proofs.Common.{arith, inl, inr, append_assoc, take, drop, Option, ◌⊎◌, ap₂}
+use Rattle.std.proofs.Common.{arith, inl, inr, append_assoc, take, Option, ◌⊎◌, ap₂}
 use Rattle.std.proofs.lemmas.Bool.{cases_order}
 use Rattle.std.specs.Char.{digit_value}
 use Rattle.std.specs.Str.Parse.{AllDigits}
@@ -23,9 +23,9 @@ use Rattle.ipnet_lists.specs.Causes.{causes, IsFirstOf, IsReportedCause}
 use Rattle.ipnet_lists.specs.Entries.{IsAddressText, IsMaskedBy, IsMaskedText, IsNetworkOrMasked}
 use Rattle.ipnet_lists.specs.Entries.{IsPlainEntry, IsEntryText, IsRangeEntry, IsRangeFrom, before_blanks}
 use Rattle.ipnet_lists.specs.Entries.{after_blanks, block_range}
-use Rattle.ipnet_lists.specs.Comments.{IsCommentAt, HidesEntry}
+use Rattle.ipnet_lists.specs.Comments.{IsCommentAt}
 use Rattle.ipnet_lists.specs.Lists.{IsContents, AreContents, ListEntry, Refusal, refusal_at, AreRead, IsListRead}
-use Rattle.ipnet_lists.specs.Lists.{without_blanks, after_mark}
+use Rattle.ipnet_lists.specs.Lists.{IsUndivided, without_blanks, after_mark}
 use Rattle.ipnet_lists.proofs.AddressBytes.{IsAddressByte, ipv4_bytes, ipv6_bytes, middle, one_front}
 use Rattle.ipnet_lists.proofs.BlankTexts.{undashed_front}
 use Rattle.ipnet_lists.proofs.EntryTexts.{one_address, address_bytes, network_cut, cut_no_address, plain_no_dash}
@@ -176,28 +176,15 @@ one_contents line text other h k = of h.is k.is
     at : h.start ≡ k.start
     at = one_comment line h.start k.start h.comment k.comment
 
-    front : without_blanks (take h.start line) ≡ without_blanks (take k.start line)
-    front = ap (λ i. without_blanks (take i line)) at
-
-    hides : HidesEntry (drop h.start line) → HidesEntry (drop k.start line)
-    hides = subst (λ i. HidesEntry (drop i line)) at
-
-    hides_back : HidesEntry (drop k.start line) → HidesEntry (drop h.start line)
-    hides_back = subst (λ i. HidesEntry (drop i line)) (sym at)
-
-    of : ((text ≡ without_blanks (take h.start line)) × ((text ≡ []) ⊎ ¬ (HidesEntry (drop h.start line))))
-        ⊎ ((text ≡ without_blanks line) × (without_blanks (take h.start line) ≢ [])
-        × HidesEntry (drop h.start line))
-        → ((other ≡ without_blanks (take k.start line)) × ((other ≡ []) ⊎ ¬ (HidesEntry (drop k.start line))))
-        ⊎ ((other ≡ without_blanks line) × (without_blanks (take k.start line) ≢ [])
-        × HidesEntry (drop k.start line))
+    of : ((text ≡ without_blanks (take h.start line)) × ¬ (IsUndivided line h.start))
+        ⊎ ((text ≡ without_blanks line) × IsUndivided line h.start)
+        → ((other ≡ without_blanks (take k.start line)) × ¬ (IsUndivided line k.start))
+        ⊎ ((other ≡ without_blanks line) × IsUndivided line k.start)
         → text ≡ other
-    of (inl (e, why)) (inl (d, because)) = e ∙ front ∙ sym d
-    of (inr (e, some, hidden)) (inr (d, other, hides)) = e ∙ sym d
-    of (inl (e, inl none)) (inr (d, some, hidden)) = absurd (some (sym front ∙ sym e ∙ none))
-    of (inl (e, inr not)) (inr (d, some, hidden)) = absurd (not (hides_back hidden))
-    of (inr (e, some, hidden)) (inl (d, inl none)) = absurd (some (front ∙ sym d ∙ none))
-    of (inr (e, some, hidden)) (inl (d, inr not)) = absurd (not (hides hidden))
+    of (inl (e, not)) (inl (d, nor)) = e ∙ ap (λ i. without_blanks (take i line)) at ∙ sym d
+    of (inr (e, so)) (inr (d, too)) = e ∙ sym d
+    of (inl (e, not)) (inr (d, so)) = absurd (not (subst (IsUndivided line) (sym at) so))
+    of (inr (e, so)) (inl (d, not)) = absurd (not (subst (IsUndivided line) at so))
 
 pub all_contents : (lines texts others : List (List ℕ)) → AreContents lines texts
     → AreContents lines others → texts ≡ others

@@ -2,7 +2,7 @@
 use Rattle.std.proofs.Common.{◌≡◌, ◌≢◌, ℕ, ◌+◌, ◌-◌, ◌<◌, Bool, true, false, List, [], ◌∷◌, ◌++◌, All, length, get_or}
 use Rattle.std.proofs.Common.{take}
 use Rattle.std.proofs.Common.{drop, refl, sym, ap, ◌∙◌, subst, arith, inl, inr, append_assoc, take_all, add-one}
-use Rattle.std.proofs.Common.{length-drop, length-take-le, get_or-take}
+use Rattle.std.proofs.Common.{length-take-le, get_or-take}
 use Rattle.std.specs.Char.{is_ascii_whitespace}
 use Rattle.std.specs.List.{prefix_len, suffix_len}
 use Rattle.std.proofs.lemmas.List.Elements.{All-append, All-cons, All-weaker, All-get_or}
@@ -11,18 +11,16 @@ use Rattle.ipnet.specs.declared.parser.Grammar.{Grammar}
 use Rattle.ipnet.specs.Lines.{lines_of}
 use Rattle.ipnet.proofs.LineLaws.{lines_at}
 use Rattle.ipnet_text.proofs.FrontTexts.{rest_from, rest_is}
-use Rattle.ipnet_text.proofs.LineCuts.{empty_text}
 use Rattle.ipnet_lists.specs.Entries.{IsEntryText, IsEntryWord}
 use Rattle.ipnet_lists.specs.Comments.{Opens}
 use Rattle.ipnet_lists.specs.Lists.{without_blanks, IsContents}
 use Rattle.ipnet_lists.proofs.AddressBytes.{IsAddressByte, IsPlainByte}
 use Rattle.ipnet_lists.proofs.BlankTexts.{first_fails, last_fails, bare_front, bare_back}
-use Rattle.ipnet_lists.proofs.EntryTexts.{address_bytes, network_cut}
+use Rattle.ipnet_lists.proofs.ByteLaws.{plain_no_return}
+use Rattle.ipnet_lists.proofs.CommentLaws.{whole_contents}
+use Rattle.ipnet_lists.proofs.EntryTexts.{address_bytes, network_cut, plain_bytes}
 
 -- ---- the bytes of an entry
-
-plain_bytes : (text : List ℕ) → All IsAddressByte text → All IsPlainByte text
-plain_bytes text h = All-weaker IsAddressByte IsPlainByte (λ b is. is.plain) text h
 
 -- two parts with a byte between them
 plain_cut : (front : List ℕ) (b : ℕ) (back : List ℕ) → IsPlainByte b → All IsAddressByte front
@@ -60,6 +58,7 @@ word_is_entry grammar text range (inr h) =
       last_text = h.last_text;
       spelled = h.spelled;
       ends = rw (front, back) h.ends;
+      unbroken = plain_no_return text (plain_entry grammar text range (inr h));
     }
 
 -- ---- nothing is around them
@@ -93,18 +92,11 @@ opens_none text h k less (inr (semicolon, after)) = (All-get_or IsSober text k 0
 pub sober_contents : (text : List ℕ) → All IsSober text → without_blanks text ≡ text
     → IsContents text text
 sober_contents text h bare =
-    let whole : take (length text) text ≡ text = take_all (length text) text (omega arith) in
-    let behind : drop (length text) text ≡ [] =
-    empty_text (drop (length text) text) (omega (arith, length-drop (length text) text)) in
-    record {
-      start = length text;
-      comment = record {
-        within = omega arith;
-        opens = λ less. absurd (omega (arith, less));
-        first = opens_none text h;
-      };
-      is = inl (sym (ap without_blanks whole ∙ bare), inr (λ hides. hides.some behind));
-    }
+    whole_contents text text (record {
+      within = omega arith;
+      opens = λ less. absurd (omega (arith, less));
+      first = opens_none text h;
+    }) (sym bare)
 
 -- so does one without blanks
 pub plain_contents : (text : List ℕ) → All IsPlainByte text → IsContents text text

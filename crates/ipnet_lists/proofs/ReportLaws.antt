@@ -6,7 +6,7 @@ use Rattle.std.specs.Io.{StartsWith}
 use Rattle.std.specs.Io.KnownBytes.{Appends}
 use Rattle.std.proofs.KnownBytes.{Appends-trans, Appends-nil, starts_with_rest}
 use Rattle.std.proofs.lemmas.Grind.{flat_map-append}
-use Rattle.std.proofs.lemmas.List.{map-append, drop-map, take_at, length-map}
+use Rattle.std.proofs.lemmas.List.{drop-map, take_at, length-map}
 use Rattle.ipnet_text.specs.Outputs.{IsWritten, IsFrontWritten}
 use Rattle.ipnet_text.proofs.WritingLaws.{front_written, whole_front}
 use Rattle.ipnet_lists.specs.declared.refused.Refused.{Refused}

@@ -7,6 +7,7 @@ use Rattle.ipnet_lists.specs.declared.cause.Cause.TheVariants as Causes
 abbrev pub cause_text : Cause → List ℕ
 cause_text Causes.NulByte = codes "a NUL byte: is the file UTF-16?"
 cause_text Causes.NotUtf8 = codes "not UTF-8"
+cause_text Causes.CarriageReturn = codes "a carriage return: is the file damaged, or from an old Mac?"
 cause_text Causes.LegacyAlone = codes "a leading zero, or a \"::\" that replaces no group: use --legacy to accept it"
 cause_text Causes.LengthAbove32 = codes "the prefix length is above 32"
 cause_text Causes.LengthAbove128 = codes "the prefix length is above 128"

@@ -16,7 +16,8 @@ use Rattle.ipnet.specs.declared.parser.Grammar.{Grammar}
 use Rattle.ipnet.specs.declared.parser.Grammar.TheVariants.{Legacy}
 use Rattle.ipnet_lists.specs.declared.cause.Cause.{Cause}
 use Rattle.ipnet_lists.specs.declared.cause.Cause.TheVariants as Causes
-use Rattle.ipnet_lists.specs.Entries.{IsAddressText, IsEntryText, IsNoEntry, WriteRange, after_blanks, before_blanks}
+use Rattle.ipnet_lists.specs.Entries.{HasReturn, IsAddressText, IsEntryText, IsNoEntry, WriteRange, after_blanks}
+use Rattle.ipnet_lists.specs.Entries.{before_blanks}
 use Rattle.ipnet_lists.specs.Words.{after_leading, leading, second_word}
 
 -- The text has this byte.
@@ -210,6 +211,7 @@ IsHostName text = IsName text ⊎ IsDottedName (host_part text)
 abbrev pub Explains : List ℕ → Cause → Type 0
 Explains text Causes.NulByte = Has 0 text
 Explains text Causes.NotUtf8 = ¬ (IsUtf8 text)
+Explains text Causes.CarriageReturn = HasReturn text
 Explains text Causes.LegacyAlone = IsSomeEntry text
 Explains text Causes.LengthAbove32 = IsCutAt 47 (IsTooLong IPv4) text
 Explains text Causes.LengthAbove128 = IsCutAt 47 (IsTooLong IPv6) text
@@ -238,11 +240,12 @@ Explains text Causes.HostName = IsHostName text
 -- The causes, in their order.
 abbrev pub causes : List Cause
 causes =
-    Causes.NulByte ∷ Causes.NotUtf8 ∷ Causes.LegacyAlone ∷ Causes.LengthAbove32 ∷ Causes.LengthAbove128
-    ∷ Causes.EndsBeforeStart ∷ Causes.TwoFamilies ∷ Causes.RangeOfNetworks ∷ Causes.OtherDash ∷ Causes.NoLastAddress
-    ∷ Causes.WildcardMask ∷ Causes.MaskAfterBlank ∷ Causes.TwoEntries ∷ Causes.CommaFollows ∷ Causes.SemicolonFollows
-    ∷ Causes.TextFollows ∷ Causes.InBrackets ∷ Causes.InQuotes ∷ Causes.Excluded ∷ Causes.DashFirst ∷ Causes.HasZone
-    ∷ Causes.HasPort ∷ Causes.NotFourNumbers ∷ Causes.HasStar ∷ Causes.AllAddresses ∷ Causes.HostName ∷ []
+    Causes.NulByte ∷ Causes.NotUtf8 ∷ Causes.CarriageReturn ∷ Causes.LegacyAlone ∷ Causes.LengthAbove32
+    ∷ Causes.LengthAbove128 ∷ Causes.EndsBeforeStart ∷ Causes.TwoFamilies ∷ Causes.RangeOfNetworks ∷ Causes.OtherDash
+    ∷ Causes.NoLastAddress ∷ Causes.WildcardMask ∷ Causes.MaskAfterBlank ∷ Causes.TwoEntries ∷ Causes.CommaFollows
+    ∷ Causes.SemicolonFollows ∷ Causes.TextFollows ∷ Causes.InBrackets ∷ Causes.InQuotes ∷ Causes.Excluded
+    ∷ Causes.DashFirst ∷ Causes.HasZone ∷ Causes.HasPort ∷ Causes.NotFourNumbers ∷ Causes.HasStar
+    ∷ Causes.AllAddresses ∷ Causes.HostName ∷ []
 
 -- The first of the causes whose sentence is true of the text, or `None` if no sentence is.
 abbrev pub IsFirstOf : List Cause → List ℕ → Option Cause → Type 0

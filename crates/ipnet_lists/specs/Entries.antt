@@ -1,10 +1,10 @@
 -- The texts of entries: a network, an address, or a first and a last address of one family joined by "-". An entry
 -- represents a range of addresses.
-use Rattle.std.specs.Prelude.{◌≡◌, ◌≢◌, ◌⊎◌, ◌≤◌, ◌↔◌, ℕ, ◌-◌, List, ◌++◌, length, take, drop, codes, Option}
-use Rattle.std.specs.Prelude.{IfSome, IsNone}
+use Rattle.std.specs.Prelude.{◌≡◌, ◌≢◌, ◌⊎◌, ◌≤◌, ◌↔◌, ℕ, ◌-◌, ◌==◌, true, List, ◌++◌, length, take, drop, codes}
+use Rattle.std.specs.Prelude.{Option, IfSome, IsNone}
 use Rattle.std.specs.Char.{is_ascii_whitespace}
 use Rattle.std.specs.Int.{w32, w128, from_be_bytes}
-use Rattle.std.specs.List.{prefix_len, suffix_len}
+use Rattle.std.specs.List.{list_any, prefix_len, suffix_len}
 use Rattle.std.specs.Net.Addr.{octets_of}
 use Rattle.ipnet_base.specs.Address.{IPv4, IPv6, Address}
 use Rattle.ipnet_base.specs.Network.{Network, first_of, last_of}
@@ -22,6 +22,10 @@ after_blanks text = drop (prefix_len is_ascii_whitespace text) text
 -- The text without the blanks at its end. Example: `10.0.0.1 ` is `10.0.0.1`.
 abbrev pub before_blanks : List ℕ → List ℕ
 before_blanks text = take (length text - suffix_len is_ascii_whitespace text) text
+
+-- The text has a carriage return (13).
+abbrev pub HasReturn : List ℕ → Type 0
+HasReturn text = list_any (λ b. b == 13) text ≡ true
 
 -- The text denotes this IPv4 address. Example: `10.0.0.1` in both grammars, `010.0.0.1` only in the legacy grammar.
 pub record IsIpv4Text (grammar : Grammar) (text : List ℕ) (x : Address) : Type 0 where
@@ -113,13 +117,14 @@ pub record JoinsAddresses (grammar : Grammar) (text : List ℕ) (first last : Ad
   pub writes_first : IsAddressText grammar (before_blanks first_text) first
   pub writes_last : IsAddressText grammar (after_blanks last_text) last
 
--- A first address, "-" and a last address. Blanks around the "-" do not matter.
+-- A first address, "-" and a last address. Blanks around the "-" do not matter, but none of them is a carriage return.
 -- Example: `10.0.0.1-10.0.0.9` and `10.0.0.1 - 10.0.0.9` are a range of nine addresses.
 pub record IsRangeEntry (grammar : Grammar) (text : List ℕ) (range : AddressRange) : Type 0 where
   pub first_text : List ℕ
   pub last_text : List ℕ
   pub spelled : text ≡ first_text ++ codes "-" ++ last_text
   pub ends : WriteRange grammar (before_blanks first_text) (after_blanks last_text) range
+  pub unbroken : ¬ (HasReturn text)
 
 -- The text is an entry with this range.
 abbrev pub IsEntryText : Grammar → List ℕ → AddressRange → Type 0

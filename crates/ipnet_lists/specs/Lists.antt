@@ -9,7 +9,7 @@ use Rattle.ipnet.specs.Lines.{lines_of}
 use Rattle.ipnet_sets.specs.SetRanges.{IsInRange}
 use Rattle.ipnet_lists.specs.declared.cause.NotEntry.{NotEntry}
 use Rattle.ipnet_lists.specs.Comments.{IsCommentAt, HidesEntry}
-use Rattle.ipnet_lists.specs.Entries.{IsEntryText, IsNoEntry, after_blanks, before_blanks}
+use Rattle.ipnet_lists.specs.Entries.{HasReturn, IsEntryText, IsNoEntry, after_blanks, before_blanks}
 
 -- The byte order mark in UTF-8 (RFC 3629, section 6).
 abbrev pub byte_order_mark : List ℕ
@@ -24,16 +24,27 @@ after_mark bytes = if starts_with nat_eq bytes byte_order_mark then drop 3 bytes
 abbrev pub without_blanks : List ℕ → List ℕ
 without_blanks text = before_blanks (after_blanks text)
 
--- The contents of a line: the text before its comment, without blanks around it. If there is such a text, and the
--- comment hides an entry, the contents are the whole line: it is refused, and no entry is left out in silence. The
--- grammar does not matter.
--- Example: `\t10.0.0.1 # ours\r` contains `10.0.0.1`; `; 10.0.0.1` contains nothing; `10.0.0.1 ; 10.0.0.2` and
--- `10.0.0.1;` contain all that they are.
+-- The line has a carriage return between other bytes than blanks, as if the line were several lines of an old Mac.
+-- Example: `10.0.0.1 # a\r10.0.0.2\r`, `# a\rb`; not `10.0.0.1 # a\r`.
+abbrev pub IsBroken : List ℕ → Type 0
+IsBroken line = HasReturn (without_blanks line)
+
+-- The line, whose comment begins at this index, is not divided at its comment: it is broken, or its comment hides an
+-- entry after other text. Example: `10.0.0.1 ; 10.0.0.2` at 9; not `; 10.0.0.1` at 0.
+abbrev pub IsUndivided : List ℕ → ℕ → Type 0
+IsUndivided line start =
+    IsBroken line ⊎ ((without_blanks (take start line) ≢ []) × HidesEntry (drop start line))
+
+-- The contents of a line: the text before its comment, without blanks around it. If the line is not divided at its
+-- comment, the contents are the whole line: it is refused, and no entry is left out in silence. The grammar does not
+-- matter.
+-- Example: `\t10.0.0.1 # ours\r` contains `10.0.0.1`; `; 10.0.0.1` contains nothing; `10.0.0.1 ; 10.0.0.2`,
+-- `10.0.0.1;` and `# a\rb` contain all that they are.
 pub record IsContents (line text : List ℕ) : Type 0 where
   pub start : ℕ
   pub comment : IsCommentAt line start
-  pub is : ((text ≡ without_blanks (take start line)) × ((text ≡ []) ⊎ ¬ (HidesEntry (drop start line))))
-      ⊎ ((text ≡ without_blanks line) × (without_blanks (take start line) ≢ []) × HidesEntry (drop start line))
+  pub is : ((text ≡ without_blanks (take start line)) × ¬ (IsUndivided line start))
+      ⊎ ((text ≡ without_blanks line) × IsUndivided line start)
 
 -- The contents of each line.
 abbrev pub AreContents : List (List ℕ) → List (List ℕ) → Type 0

@@ -31,6 +31,8 @@ pub enum Cause {
     NulByte,
     /// The bytes are not UTF-8.
     NotUtf8,
+    /// The text has a carriage return. In a line of a list, other text follows it.
+    CarriageReturn,
     /// An entry of the legacy grammar that is not an entry of the strict grammar.
     LegacyAlone,
     /// An IPv4 address, "/" and only decimal digits, of a number above 32.
@@ -87,6 +89,7 @@ pub enum Cause {
 const CAUSES: &[Cause] = &[
     Cause::NulByte,
     Cause::NotUtf8,
+    Cause::CarriageReturn,
     Cause::LegacyAlone,
     Cause::LengthAbove32,
     Cause::LengthAbove128,
@@ -128,6 +131,7 @@ fn explains(text: &str, cause: Cause) -> bool
     match cause {
         Cause::NulByte => has_byte(text.as_bytes(), 0),
         Cause::NotUtf8 => false,
+        Cause::CarriageReturn => has_byte(text.as_bytes(), b'\r'),
         Cause::LegacyAlone => is_entry(text),
         Cause::LengthAbove32 => is_cut_so(text, '/', Parts::LongIpv4),
         Cause::LengthAbove128 => is_cut_so(text, '/', Parts::LongIpv6),

@@ -6,6 +6,7 @@ ghost use Rattle.ipnet_lists.specs.Causes.{Has, IsAllWord, IsDottedName, IsHostN
 ghost use Rattle.ipnet_lists.specs.Causes.{host_part, is_dotted, is_name};
 
 use crate::cause_parts::is_ipv4;
+use memchr::memchr;
 
 /// Whether one of the bytes is this one.
 ///
@@ -15,7 +16,10 @@ use crate::cause_parts::is_ipv4;
 pub fn has_byte(text: &[u8], wanted: u8) -> bool
     ensures { result ≡ list_any (λ b. b == wanted) text.now }
 {
-    text.iter().any(|byte| *byte == wanted)
+    match memchr(wanted, text) {
+        Some(_) => true,
+        None => false,
+    }
 }
 
 /// Whether the text has a "*".

@@ -21,6 +21,7 @@ impl Cause {
         match self {
             Cause::NulByte => "a NUL byte: is the file UTF-16?",
             Cause::NotUtf8 => "not UTF-8",
+            Cause::CarriageReturn => "a carriage return: is the file damaged, or from an old Mac?",
             Cause::LegacyAlone => {
                 "a leading zero, or a \"::\" that replaces no group: use --legacy to accept it"
             }

@@ -6,6 +6,7 @@ ghost use Rattle.ipnet_lists.specs.Comments.{Opens, IsCommentAt, BeginsWithEntry
 ghost use Rattle.ipnet_lists.specs.Comments.{BeginsWithRule, HidesEntry};
 ghost use Rattle.ipnet_lists.specs.Lists.{IsContents};
 
+use crate::cause_bytes::has_byte;
 use crate::cause_words::is_entry_word;
 use crate::word::{after_leading, from_word, leading_word, two_words};
 use memchr::{memchr, memchr2};
@@ -108,23 +109,32 @@ fn hides_entry(comment: &[u8]) -> bool
 }
 
 /// Returns the contents of the line: the text before its comment, or the whole line if the comment hides an entry, a
-/// rule or a change. A line that is only a comment has no contents, whatever is in the comment.
+/// rule or a change, or if a carriage return is between other bytes than blanks. Otherwise a line that is only a
+/// comment has no contents, whatever is in the comment.
 ///
 /// ```text
 /// of b" 10.0.0.1 # ours\r": b"10.0.0.1"
 /// of b"; 10.0.0.1": nothing
 /// of b"10.0.0.1 ; 10.0.0.2", b"permit ::/0 ; deny ::1" and b"- ::/0 ; + ::1": all of it
+/// of b"10.0.0.1 # ours\r10.0.0.2" and b"# ours\r10.0.0.2": all of it
 /// ```
 pub fn contents_of(line: &[u8]) -> &[u8]
     ensures { IsContents line.now result.now }
 {
     let start = comment_start(line);
+    let whole = line.trim_ascii();
+    if start == line.len() {
+        return whole;
+    }
+    if has_byte(whole, b'\r') {
+        return whole;
+    }
     let text = line[..start].trim_ascii();
     if text.is_empty() {
         return text;
     }
     if hides_entry(&line[start..]) {
-        return line.trim_ascii();
+        return whole;
     }
     text
 }

@@ -10,6 +10,7 @@ ghost use Rattle.ipnet_lists.specs.Entries.{IsMaskedBy, ReadsAs, WriteMasked};
 ghost use Rattle.ipnet_lists.specs.EntryOf.{entry_range, IsWrittenAs};
 ghost use Rattle.ipnet_lists.specs.EntrySteps.{HasEnds};
 
+use crate::cause_bytes::has_byte;
 use arrayvec::ArrayString;
 use ipnet::{
     Grammar, IpAddr, IpNet, IpSubnets, Ipv4Addr, Ipv4Net, Ipv4Subnets, Ipv6Addr, Ipv6Subnets,
@@ -214,8 +215,9 @@ fn read_plain(text: &str, grammar: Grammar) -> Option<Entry>
 ///
 /// An entry is a network, an address or a range. Host bits of a network do not matter. An IPv4 network can have a
 /// netmask in place of the prefix length; a netmask of zeros only follows the address of zeros. A range is a first and
-/// a last address of one family joined by "-". Its last address does not come before its first, and blanks around the
-/// "-" do not matter. The variant of the value says which of these the text is; a range of one address is a range.
+/// a last address of one family joined by "-". Its last address does not come before its first. Blanks around the "-"
+/// do not matter, if none is a carriage return. The variant of the value says which of these the text is; a range of
+/// one address is a range.
 ///
 /// The legacy grammar accepts leading zeros in decimal numbers, and a "::" that replaces no group. Allocates nothing.
 ///
@@ -234,7 +236,12 @@ pub fn read_entry(text: &str, grammar: Grammar) -> Option<Entry>
     ensures kind { IfSome result (IsWrittenAs grammar text.now) }
 {
     match text.split_once('-') {
-        Some((first, last)) => read_range(first.trim_ascii_end(), last.trim_ascii_start(), grammar),
+        Some((first, last)) => {
+            if has_byte(text.as_bytes(), b'\r') {
+                return None;
+            }
+            read_range(first.trim_ascii_end(), last.trim_ascii_start(), grammar)
+        }
         None => read_plain(text, grammar),
     }
 }

@@ -2,7 +2,7 @@
 ghost use Rattle.std.specs.Prelude.{◌≡◌, ◌≤◌, IfErr};
 
 use crate::arguments::{FIRST_LIST, OTHERS, RANGES_FLAG, SHARED, flags_of, two_or_report};
-use crate::reading::{finish, set_reader};
+use crate::reading::{finish_lists, set_reader};
 use crate::table::{ARGUMENT, Argument, Form, Subcommand};
 use clap::ArgMatches;
 use ipnet_sets::IpSet;
@@ -58,10 +58,9 @@ fn read_both(
 {
     let lists = Lists::new(set_reader(rt, matches)?, writers.reports);
     let (lists, set) = lists.read(rt, names[0])?;
-    let reader = lists.end()?;
-    let changes = changes_of(rt, names[1], writers.reports)?;
-    finish(reader, names, writers)?;
-    Ok((set, changes))
+    let changes = changes_of(rt, names[1], writers.reports);
+    finish_lists(lists, names, writers)?;
+    Ok((set, changes?))
 }
 
 /// Reads the arguments, the list and the changes, prints the answer, and returns the exit status.

@@ -24,6 +24,9 @@ use std::io::{ErrorKind, Write};
 /// The id of the list that is named first.
 pub const FIRST: &str = "first";
 
+/// The id and the name of the flag for IPv4-mapped addresses.
+pub const MAPPED: &str = "mapped";
+
 /// The id and the name of the option for the output.
 pub const OUTPUT: &str = "output";
 

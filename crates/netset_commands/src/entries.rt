@@ -5,11 +5,11 @@ ghost use Rattle.netset_commands.specs.Arguments.{entries_of};
 
 use crate::arguments::{FIRST, ONE_LIST, OTHER_LIST, OTHERS, SHARED, flags_of, two_or_report};
 use crate::entry_options::{ENTRY_OR_FIRST, ENTRY_OR_OTHER, has_entries, last_name};
-use crate::reading::{last_bytes, read_only_set};
+use crate::reading::{last_bytes, read_only_set, two_bytes};
 use crate::table::{Argument, Subcommand};
 use clap::ArgMatches;
 use netset_entries::{OverlapsCommand, RedundantCommand, SupernetCommand};
-use netset_files::{Writers, bytes_of};
+use netset_files::Writers;
 use netset_lib::{run, run_text};
 
 /// The names of the commands.
@@ -97,12 +97,8 @@ fn print_overlaps_of_two(rt: &HostRuntime, matches: &ArgMatches, writers: &mut W
         Ok(names) => names.in_order(),
         Err(status) => return status,
     };
-    let bytes = match bytes_of(rt, names[0], "entries", writers.reports) {
-        Ok(bytes) => bytes,
-        Err(status) => return status,
-    };
-    let others = match last_bytes(rt, matches, names[1], writers.reports) {
-        Ok(bytes) => bytes,
+    let (bytes, others) = match two_bytes(rt, matches, &names, "entries", writers.reports) {
+        Ok(lists) => lists,
         Err(status) => return status,
     };
     let command = OverlapsCommand {

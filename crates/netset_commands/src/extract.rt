@@ -6,9 +6,10 @@ ghost use Rattle.netset_lib.specs.Commands.{grammar_of};
 ghost use Rattle.netset_lib.specs.declared.command.Flags.{Flags};
 
 use crate::arguments::{
-    ANY_LISTS, ArgumentFailure, FIRST, SHARED, flags_of, is_set, reads_input_twice,
+    ANY_LISTS, ArgumentFailure, FIRST, MAPPED, SHARED, flags_of, is_set, reads_input_twice,
     report_argument_failure,
 };
+use crate::reading::report_only;
 use crate::table::{ARGUMENT, Argument, Form, Subcommand};
 use clap::ArgMatches;
 use netset_files::{Lists, Reports, STANDARD_INPUT, Writers};
@@ -21,7 +22,7 @@ pub const EXTRACT: &str = "extract";
 /// The id of the flag `--first`. The id `first` belongs to the first list.
 const FIRST_ENTRY: &str = "first-entry";
 
-/// The name of its other flag.
+/// The name of the flag for ranges.
 const RANGES: &str = "ranges";
 
 /// The command `extract`.
@@ -43,6 +44,12 @@ pub const EXTRACT_COMMAND: Subcommand = Subcommand {
                 help: "Read two addresses around a - with blanks as a range; without it, as two addresses",
                 ..ARGUMENT
             },
+            Argument {
+                id: MAPPED,
+                form: Form::Flag(MAPPED),
+                help: "Print an IPv4-mapped address, as ::ffff:10.0.0.1, as the IPv4 address",
+                ..ARGUMENT
+            },
             ANY_LISTS,
         ],
     ],
@@ -53,21 +60,24 @@ fn request_of(matches: &ArgMatches) -> ExtractRequest
     ensures grammar { (flags : Flags) × AreFlags matches.now flags × (result.grammar ≡ grammar_of flags.legacy) }
     ensures first { IsFlag matches.now (codes "first-entry") result.first }
     ensures ranges { IsFlag matches.now (codes "ranges") result.ranges }
+    ensures mapped { IsFlag matches.now (codes "mapped") result.mapped }
 {
     ExtractRequest {
         grammar: flags_of(matches).grammar(),
         first: is_set(matches, FIRST_ENTRY),
         ranges: is_set(matches, RANGES),
+        mapped: is_set(matches, MAPPED),
     }
 }
 
-/// Reads the texts of these names. If that fails, it is reported, and the error is the exit status.
+/// Reads the texts of these names, and returns whether they may be as they are. If that fails, it is reported, and the
+/// error is the exit status.
 fn read_texts(
     rt: &HostRuntime,
     extraction: Extraction,
     names: &[&str],
     reports: Reports,
-) -> Result<Extraction, u8>
+) -> Result<(Extraction, bool), u8>
     ensures { IfErr result (λ status. status ≡ 2) }
 {
     let mut lists = Lists::new(extraction, reports);
@@ -75,7 +85,7 @@ fn read_texts(
         let (next, ()) = lists.read(rt, name)?;
         lists = next;
     }
-    lists.end()
+    Ok(lists.into_reader())
 }
 
 /// Reads the arguments and the texts, prints the entries, and returns the exit status.
@@ -91,7 +101,8 @@ pub fn extract_entries(rt: &HostRuntime, matches: &ArgMatches, writers: &mut Wri
         return report_argument_failure(rt, ArgumentFailure::Memory);
     };
     match read_texts(rt, extraction, names, writers.reports) {
-        Ok(extraction) => {
+        Ok((extraction, false)) => report_only(extraction, names, writers),
+        Ok((extraction, true)) => {
             let (out, faults) = (&mut writers.answer, &mut writers.faults);
             run_text(extraction, names, out, faults)
         }

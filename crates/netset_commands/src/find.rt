@@ -4,15 +4,15 @@ ghost use Rattle.ipnet_lists.specs.EntryOf.{IsWrittenAs};
 ghost use Rattle.netset_commands.specs.FindOptions.{chosen_relation};
 
 use crate::arguments::{
-    ArgumentFailure, FIRST, LEGACY_FLAG, OTHERS, OUTPUT_OPTION, flags_of, is_set,
-    reads_input_twice, report_argument_failure,
+    ArgumentFailure, FIRST, OTHERS, SHARED, check_names, flags_of, is_set, reads_input_twice,
+    report_argument_failure,
 };
 use crate::table::{ARGUMENT, Argument, Form, Subcommand};
 use clap::ArgMatches;
 use ipnet::Grammar;
-use ipnet_lists::{Entry, cause_of, read_entry};
+use ipnet_lists::{Cause, Entry, cause_of, read_entry};
 use netset_entries::{EntryRelation, EntrySearch, FindCommand};
-use netset_files::{STANDARD_INPUT, Writers, whole_of};
+use netset_files::{STANDARD_INPUT, Writers, bytes_of};
 use netset_lib::run;
 use std::io::Write;
 
@@ -28,7 +28,6 @@ const EXACT: &str = "exact";
 
 /// The flags for the relation, and the words.
 const FIND_ARGUMENTS: &[Argument] = &[
-    LEGACY_FLAG,
     Argument {
         id: CONTAINS,
         form: Form::Flag(CONTAINS),
@@ -49,7 +48,6 @@ const FIND_ARGUMENTS: &[Argument] = &[
         help: "Print only entries with the addresses of ENTRY",
         ..ARGUMENT
     },
-    OUTPUT_OPTION,
     Argument {
         id: FIRST,
         form: Form::Word("ENTRY"),
@@ -69,7 +67,7 @@ const FIND_ARGUMENTS: &[Argument] = &[
 pub const FIND_COMMAND: Subcommand = Subcommand {
     name: FIND,
     about: "The lines whose entry shares an address with ENTRY, as FILE:LINE: TEXT; status 1 if there are none",
-    arguments: &[FIND_ARGUMENTS],
+    arguments: &[SHARED, FIND_ARGUMENTS],
 };
 
 /// Returns the relation that the flags choose.
@@ -93,6 +91,10 @@ fn entry_or_report(rt: &HostRuntime, word: &str, grammar: Grammar) -> Option<Ent
         let shown = word.as_bytes().escape_ascii();
         let mut faults = rt.stderr();
         let _ = match cause_of(word.as_bytes(), grammar) {
+            Some(Cause::TextFollows) => writeln!(
+                faults,
+                "netset: not a network, an address or a range: {shown} (text after the entry: leave it out)"
+            ),
             Some(cause) => writeln!(
                 faults,
                 "netset: not a network, an address or a range: {shown} ({cause})"
@@ -126,7 +128,7 @@ fn search_status(first: u8, second: u8) -> u8
 fn search_file(rt: &HostRuntime, search: EntrySearch, name: &str, writers: &mut Writers<'_>) -> u8
     ensures { result ≤ 2 }
 {
-    match whole_of(rt, name, writers.reports) {
+    match bytes_of(rt, name, "entries", writers.reports) {
         Ok(bytes) => {
             let command = FindCommand {
                 alloc: rt.alloc(),
@@ -170,6 +172,9 @@ pub fn find_entries(rt: &HostRuntime, matches: &ArgMatches, writers: &mut Writer
     let names = matches.get_strs(OTHERS).unwrap_or(&[STANDARD_INPUT]);
     if reads_input_twice(names) {
         return report_argument_failure(rt, ArgumentFailure::InputTwice);
+    }
+    if let Err(failure) = check_names(names) {
+        return report_argument_failure(rt, failure);
     }
     let relation = chosen_relation(
         is_set(matches, CONTAINS),

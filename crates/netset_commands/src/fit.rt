@@ -6,7 +6,7 @@ use crate::arguments::{
     ANY_LISTS, ArgumentFailure, SHARED, names_of, reads_input_twice, report_argument_failure,
 };
 use crate::entry_options::{ENTRY_OPTION, entries_or_report};
-use crate::reading::{finish, set_reader};
+use crate::reading::{finish_lists, set_reader};
 use crate::table::{ARGUMENT, Argument, Form, Subcommand};
 use clap::ArgMatches;
 use ipnet_sets::IpSet;
@@ -154,7 +154,7 @@ fn read_never(
         (_, names) => (lists, IpSet::new(rt.alloc()), names),
     };
     let (lists, sets) = lists.read_all(rt, others, entries)?;
-    finish(lists.end()?, names, writers)?;
+    finish_lists(lists, names, writers)?;
     Ok((never, sets))
 }
 
@@ -183,7 +183,8 @@ pub fn fit_lists(rt: &HostRuntime, matches: &ArgMatches, writers: &mut Writers<'
                 request,
             };
             let (out, faults) = (&mut writers.answer, &mut writers.faults);
-            run_fit(command, names, out, faults).status
+            let ended = run_fit(command, names, out, faults);
+            writers.without_answer_at_1(ended.status)
         }
         Err(status) => status,
     }

@@ -166,11 +166,12 @@ fn end_noted(
 ) -> Result<TitledEntries, u8>
     ensures { IfErr result (λ status. status ≡ 2) }
 {
-    let NotedReader { sets, notes, .. } = lists.end()?;
+    let (reader, allowed) = lists.into_reader();
+    let NotedReader { sets, notes, .. } = reader;
     match entries_of(rt.alloc(), notes, names) {
         Ok(entries) => {
             finish(sets, names, writers)?;
-            Ok(entries)
+            if allowed { Ok(entries) } else { Err(2) }
         }
         Err(_) => Err(report_argument_failure(rt, ArgumentFailure::Memory)),
     }

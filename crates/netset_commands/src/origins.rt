@@ -1,14 +1,14 @@
 //! The command `origins`: its arguments, and its run.
-ghost use Rattle.std.specs.Prelude.{◌≤◌};
+ghost use Rattle.std.specs.Prelude.{◌≡◌, ◌≤◌, IfErr};
 ghost use Rattle.netset_commands.specs.Words.{IsOnly};
 
 use crate::arguments::{FIRST_LIST, OTHER_LIST, SHARED, flags_of, is_set, two_or_report};
 use crate::table::{ARGUMENT, Argument, Form, Subcommand};
 use clap::ArgMatches;
 use ipnet_origins::Validity;
-use netset_files::{Writers, bytes_of};
+use netset_files::{Reports, Writers, bytes_of, whole_of};
 use netset_lib::run_text;
-use netset_origins::{OriginsCommand, OriginsRequest};
+use netset_origins::{OriginsCommand, OriginsRequest, has_vrp_lines};
 
 /// The name of the command.
 pub const ORIGINS: &str = "origins";
@@ -74,6 +74,21 @@ fn only_of(matches: &ArgMatches) -> Option<Validity>
     }
 }
 
+/// Returns the bytes of the VRPs and of the routes, whose lists have these names. If a list cannot be read, or has
+/// nothing and that is to be refused, it is reported, and the error is the exit status.
+fn read_both(
+    rt: &HostRuntime,
+    names: &[&str; 2],
+    reports: Reports,
+) -> Result<(Vec<u8>, Vec<u8>), u8>
+    ensures { IfErr result (λ status. status ≡ 2) }
+{
+    let vrps = whole_of(rt, names[0], reports)?;
+    let allowed = has_vrp_lines(vrps.as_slice()) || reports.report_empty(rt, names[0], "VRPs");
+    let routes = bytes_of(rt, names[1], "routes", reports)?;
+    if allowed { Ok((vrps, routes)) } else { Err(2) }
+}
+
 /// Reads the arguments and both lists, prints the validity of the routes, and returns the exit status.
 #[inline(never)]
 pub fn validate_origins(rt: &HostRuntime, matches: &ArgMatches, writers: &mut Writers<'_>) -> u8
@@ -83,12 +98,8 @@ pub fn validate_origins(rt: &HostRuntime, matches: &ArgMatches, writers: &mut Wr
         Ok(names) => names.in_order(),
         Err(status) => return status,
     };
-    let vrps = match bytes_of(rt, names[0], "VRPs", writers.reports) {
-        Ok(bytes) => bytes,
-        Err(status) => return status,
-    };
-    let routes = match bytes_of(rt, names[1], "routes", writers.reports) {
-        Ok(bytes) => bytes,
+    let (vrps, routes) = match read_both(rt, &names, writers.reports) {
+        Ok(lists) => lists,
         Err(status) => return status,
     };
     let request = OriginsRequest {

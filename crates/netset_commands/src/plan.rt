@@ -117,7 +117,7 @@ pub fn plan_networks(rt: &HostRuntime, matches: &ArgMatches, writers: &mut Write
     };
     let out = &mut writers.answer;
     let faults = &mut writers.faults;
-    match bar {
+    let status = match bar {
         None => {
             let command = PlanCommand {
                 alloc,
@@ -138,5 +138,6 @@ pub fn plan_networks(rt: &HostRuntime, matches: &ArgMatches, writers: &mut Write
             };
             run_text(command, &names, out, faults)
         }
-    }
+    };
+    writers.without_answer_at_1(status)
 }

@@ -3,10 +3,10 @@ ghost use Rattle.std.specs.Prelude.{◌≤◌};
 
 use crate::arguments::{FIRST_LIST, OTHER_LIST, SHARED, flags_of, two_or_report};
 use crate::entry_options::ENTRY_OR_OTHER;
-use crate::reading::last_bytes;
+use crate::reading::two_bytes;
 use crate::table::{Argument, Form, Subcommand};
 use clap::ArgMatches;
-use netset_files::{Writers, bytes_of};
+use netset_files::Writers;
 use netset_lib::{PrefixListCommand, run_text};
 
 /// The name of the command.
@@ -43,12 +43,8 @@ pub fn judge_networks(rt: &HostRuntime, matches: &ArgMatches, writers: &mut Writ
         Ok(names) => names.in_order(),
         Err(status) => return status,
     };
-    let prefixes = match bytes_of(rt, names[0], "rules", writers.reports) {
-        Ok(bytes) => bytes,
-        Err(status) => return status,
-    };
-    let networks = match last_bytes(rt, matches, names[1], writers.reports) {
-        Ok(bytes) => bytes,
+    let (prefixes, networks) = match two_bytes(rt, matches, &names, "rules", writers.reports) {
+        Ok(lists) => lists,
         Err(status) => return status,
     };
     let command = PrefixListCommand {

@@ -461,7 +461,7 @@ fn read_answer(
     ensures { IfErr result (λ status. status ≡ 2) }
 {
     let entries = entries_or_report(rt, matches)?;
-    let (lists, answer) = read_answers(rt, first, names, entries)?;
+    let (lists, allowed, answer) = read_answers(rt, first, names, entries)?;
     finish(lists, names, writers)?;
-    Ok(answer)
+    if allowed { Ok(answer) } else { Err(2) }
 }

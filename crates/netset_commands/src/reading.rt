@@ -9,9 +9,9 @@ use crate::arguments::{ArgumentFailure, flags_of, report_argument_failure};
 use crate::entry_options::entries_or_report;
 use clap::ArgMatches;
 use ipnet_sets::IpSet;
-use netset_files::{Lists, Reports, Writers, bytes_with_entries};
-use netset_lib::SetReader;
+use netset_files::{Lists, Reports, Writers, bytes_with_entries, may_have_lines, whole_of};
 use netset_lib::runs::end_with;
+use netset_lib::{SetReader, TextCommand};
 
 /// Returns a reader of lists in the grammar of the command line. If memory runs out, it is reported, and the error is
 /// the exit status.
@@ -37,6 +37,20 @@ pub fn finish(reader: SetReader, names: &[&str], writers: &mut Writers<'_>) -> R
     }
 }
 
+/// Ends the reading of these lists, which have these names, as `finish` does. It also fails if a list has no entry, and
+/// that is to be refused.
+pub fn finish_lists(
+    lists: Lists<SetReader>,
+    names: &[&str],
+    writers: &mut Writers<'_>,
+) -> Result<(), u8>
+    ensures { IfErr result (λ status. status ≡ 2) }
+{
+    let (reader, allowed) = lists.into_reader();
+    finish(reader, names, writers)?;
+    if allowed { Ok(()) } else { Err(2) }
+}
+
 /// Reads the lists of these names into a set each. If there are entries, they are the last list. If that fails, or if
 /// lines are refused, it is reported, and the error is the exit status.
 pub fn read_sets(
@@ -50,7 +64,7 @@ pub fn read_sets(
     let lists = Lists::new(set_reader(rt, matches)?, writers.reports);
     let entries = entries_or_report(rt, matches)?;
     let (lists, sets) = lists.read_all(rt, names, entries)?;
-    finish(lists.end()?, names, writers)?;
+    finish_lists(lists, names, writers)?;
     Ok(sets)
 }
 
@@ -67,7 +81,7 @@ pub fn read_set(
 {
     let lists = Lists::new(set_reader(rt, matches)?, writers.reports);
     let (lists, set) = lists.read(rt, name)?;
-    finish(lists.end()?, names, writers)?;
+    finish_lists(lists, names, writers)?;
     Ok(set)
 }
 
@@ -83,7 +97,7 @@ pub fn read_only_set(
     let lists = Lists::new(set_reader(rt, matches)?, writers.reports);
     let entries = entries_or_report(rt, matches)?;
     let (lists, set) = lists.read_last(rt, name, entries)?;
-    finish(lists.end()?, &[name], writers)?;
+    finish_lists(lists, &[name], writers)?;
     Ok(set)
 }
 
@@ -100,7 +114,7 @@ pub fn read_pair(
     let entries = entries_or_report(rt, matches)?;
     let (lists, first) = lists.read(rt, names[0])?;
     let (lists, second) = lists.read_last(rt, names[1], entries)?;
-    finish(lists.end()?, names, writers)?;
+    finish_lists(lists, names, writers)?;
     Ok((first, second))
 }
 
@@ -115,4 +129,32 @@ pub fn last_bytes(
 {
     let entries = entries_or_report(rt, matches)?;
     bytes_with_entries(rt, name, entries, reports)
+}
+
+/// Reports why the command has no answer, if it has none. Nothing is written. Returns the exit status.
+pub fn report_only<C: TextCommand>(command: C, names: &[&str], writers: &mut Writers<'_>) -> u8
+    ensures { result ≡ 2 }
+{
+    if let Err(failure) = command.answer() {
+        let _ = end_with(&failure, names, &mut writers.faults);
+    }
+    2
+}
+
+/// Returns the bytes of the two lists of these names. `what` says what the lines of the first are. If there are
+/// entries, they are the second list. If a list cannot be read, or has no line and that is to be refused, it is
+/// reported, and the error is the exit status.
+pub fn two_bytes(
+    rt: &HostRuntime,
+    matches: &ArgMatches,
+    names: &[&str; 2],
+    what: &str,
+    reports: Reports,
+) -> Result<(Vec<u8>, Vec<u8>), u8>
+    ensures { IfErr result (λ status. status ≡ 2) }
+{
+    let first = whole_of(rt, names[0], reports)?;
+    let allowed = may_have_lines(rt, names[0], first.as_slice(), what, reports);
+    let second = last_bytes(rt, matches, names[1], reports)?;
+    if allowed { Ok((first, second)) } else { Err(2) }
 }

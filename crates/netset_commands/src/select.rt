@@ -7,6 +7,7 @@ use crate::arguments::{
 };
 use crate::entry_options::{ENTRY_OPTION, entries_or_report};
 use crate::listing::length_or_report;
+use crate::reading::report_only;
 use crate::table::{ARGUMENT, Argument, Form, Subcommand};
 use clap::ArgMatches;
 use ipnet_lists::ReadFailure;
@@ -152,22 +153,23 @@ fn request_of(rt: &HostRuntime, matches: &ArgMatches) -> Result<SelectRequest, u
     })
 }
 
-/// Reads the lists of these names into the selection. If there are entries, they are the last list. If that fails, it
-/// is reported, and the error is the exit status.
+/// Reads the lists of these names into the selection, and returns whether they may be as they are. If there are
+/// entries, they are the last list. If that fails, it is reported, and the error is the exit status.
 fn read_selected(
     rt: &HostRuntime,
     matches: &ArgMatches,
     selection: Selection,
     names: &[&str],
     reports: Reports,
-) -> Result<Selection, u8>
+) -> Result<(Selection, bool), u8>
     ensures { IfErr result (λ status. status ≡ 2) }
 {
     let lists = Lists::new(SelectedLists { selection }, reports);
     let entries = entries_or_report(rt, matches)?;
     let (lists, _) = lists.read_all(rt, names, entries)?;
-    let SelectedLists { selection } = lists.end()?;
-    Ok(selection)
+    let (reader, allowed) = lists.into_reader();
+    let SelectedLists { selection } = reader;
+    Ok((selection, allowed))
 }
 
 /// Reads the arguments and the lists, prints the entries that are selected, and returns the exit status.
@@ -188,7 +190,8 @@ pub fn select_entries(rt: &HostRuntime, matches: &ArgMatches, writers: &mut Writ
         return report_argument_failure(rt, ArgumentFailure::Memory);
     };
     match read_selected(rt, matches, selection, names, writers.reports) {
-        Ok(selection) => {
+        Ok((selection, false)) => report_only(selection, names, writers),
+        Ok((selection, true)) => {
             let (out, faults) = (&mut writers.answer, &mut writers.faults);
             run_text(selection, names, out, faults)
         }

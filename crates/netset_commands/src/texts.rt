@@ -3,10 +3,10 @@ ghost use Rattle.std.specs.Prelude.{◌≤◌, codes};
 ghost use Rattle.netset_commands.specs.Arguments.{IsFlag};
 
 use crate::arguments::{flags_of, two_or_report};
-use crate::reading::last_bytes;
+use crate::reading::two_bytes;
 use crate::table::{ARGUMENT, Argument, Form};
 use clap::ArgMatches;
-use netset_files::{Writers, bytes_of};
+use netset_files::Writers;
 use netset_lib::{TextRoutesCommand, run_text, table_or_report};
 use netset_routes::{AllRoutesCommand, plain_table_or_report};
 
@@ -51,12 +51,8 @@ pub fn route_with_text(rt: &HostRuntime, matches: &ArgMatches, writers: &mut Wri
         Ok(names) => names.in_order(),
         Err(status) => return status,
     };
-    let table = match bytes_of(rt, names[0], "entries", writers.reports) {
-        Ok(bytes) => bytes,
-        Err(status) => return status,
-    };
-    let list = match last_bytes(rt, matches, names[1], writers.reports) {
-        Ok(list) => list,
+    let (table, list) = match two_bytes(rt, matches, &names, "entries", writers.reports) {
+        Ok(lists) => lists,
         Err(status) => return status,
     };
     let command = TextRoutesCommand {
@@ -78,12 +74,8 @@ pub fn route_all(rt: &HostRuntime, matches: &ArgMatches, writers: &mut Writers<'
         Ok(names) => names.in_order(),
         Err(status) => return status,
     };
-    let bytes = match bytes_of(rt, names[0], "entries", writers.reports) {
-        Ok(bytes) => bytes,
-        Err(status) => return status,
-    };
-    let list = match last_bytes(rt, matches, names[1], writers.reports) {
-        Ok(list) => list,
+    let (bytes, list) = match two_bytes(rt, matches, &names, "entries", writers.reports) {
+        Ok(lists) => lists,
         Err(status) => return status,
     };
     let (alloc, grammar) = (rt.alloc(), flags_of(matches).grammar());

@@ -5,7 +5,7 @@ ghost use Rattle.netset_commands.specs.Calls.{AreFlags};
 ghost use Rattle.netset_lib.specs.Commands.{grammar_of, side_of};
 ghost use Rattle.netset_lib.specs.declared.command.Flags.{Flags};
 
-use crate::arguments::{flags_of, is_set, two_or_report};
+use crate::arguments::{MAPPED, flags_of, is_set, two_or_report};
 use crate::reading::read_set;
 use crate::table::{ARGUMENT, Argument, Form};
 use clap::ArgMatches;
@@ -47,6 +47,13 @@ pub const LINE_FLAGS: &[Argument] = &[
         needs: &[LINES],
         ..ARGUMENT
     },
+    Argument {
+        id: MAPPED,
+        form: Form::Flag(MAPPED),
+        help: "With --lines: an IPv4-mapped address, as ::ffff:10.0.0.1, is the IPv4 address",
+        needs: &[LINES],
+        ..ARGUMENT
+    },
 ];
 
 /// Which lines the flags choose.
@@ -55,6 +62,7 @@ fn lines_request(matches: &ArgMatches) -> LinesRequest
         × (result.grammar ≡ grammar_of flags.legacy) × (result.side ≡ side_of flags.outside) }
     ensures any { IsFlag matches.now (codes "any") result.any }
     ensures others { IsFlag matches.now (codes "other-lines") result.others }
+    ensures mapped { IsFlag matches.now (codes "mapped") result.mapped }
 {
     let flags = flags_of(matches);
     LinesRequest {
@@ -62,6 +70,7 @@ fn lines_request(matches: &ArgMatches) -> LinesRequest
         side: flags.side(),
         any: is_set(matches, ANY),
         others: is_set(matches, OTHER_LINES),
+        mapped: is_set(matches, MAPPED),
     }
 }
 
@@ -96,20 +105,22 @@ fn filter_named(
 ) -> u8
     ensures { result ≤ 2 }
 {
-    let (out, faults) = (&mut writers.answer, &mut writers.faults);
-    match open_log(rt, log) {
-        Ok(mut input) => {
-            let status = run_lines(filter, names, &mut input, out, faults);
-            if !input.is_utf16() {
-                return status;
-            }
-            let shown = log.as_bytes().escape_ascii();
-            let _ = writeln!(
-                faults,
-                "netset: {shown}: begins like UTF-16: is the file UTF-16?"
-            );
-            2
-        }
-        Err(unread) => report_unread(rt, log, &unread),
+    let mut input = match open_log(rt, log) {
+        Ok(input) => input,
+        Err(unread) => return report_unread(rt, log, &unread),
+    };
+    if let Err(status) = writers.check_input(rt, log, input.input()) {
+        return status;
     }
+    let (out, faults) = (&mut writers.answer, &mut writers.faults);
+    let status = run_lines(filter, names, &mut input, out, faults);
+    if !input.is_utf16() {
+        return status;
+    }
+    let shown = log.as_bytes().escape_ascii();
+    let _ = writeln!(
+        faults,
+        "netset: {shown}: begins like UTF-16: is the file UTF-16?"
+    );
+    2
 }

@@ -3,7 +3,7 @@ use Rattle.std.specs.Prelude.{◌≡◌, ℕ, List, []}
 use Rattle.ipnet_base.specs.Ranges.{AddressRange}
 use Rattle.ipnet.specs.declared.parser.Grammar.{Grammar}
 use Rattle.ipnet_lists.specs.declared.cause.NotEntry.{NotEntry}
-use Rattle.ipnet_lists.specs.ContentLines.{ContentLine, IsItemList}
+use Rattle.ipnet_lists.specs.ContentLines.{ContentLine, IsItemList, OrBroken}
 use Rattle.ipnet_lists.specs.Entries.{IsEntryText, IsNoEntry}
 use Rattle.ipnet_lists.specs.Lists.{Refusal}
 
@@ -20,14 +20,22 @@ pub record IsEntryOfLine (grammar : Grammar) (line : ContentLine) (entry : Numbe
   pub text : entry.text ≡ line.text
   pub writes : IsEntryText grammar line.text entry.range
 
+-- The cause of a line that is not an entry of this grammar.
+abbrev pub not_entry : Grammar → NotEntry
+not_entry grammar = record { grammar = grammar }
+
 -- The text is not an entry. It and the grammar decide which cause can be named (`IsReportedCause`).
 abbrev pub IsRefusedFor : Grammar → List ℕ → NotEntry → Type 0
-IsRefusedFor grammar text cause = IsNoEntry grammar text × (cause ≡ record { grammar = grammar })
+IsRefusedFor grammar text cause = IsNoEntry grammar text × (cause ≡ not_entry grammar)
+
+-- Why a line is refused: it has a carriage return in it, or it is not an entry. An entry has no carriage return.
+abbrev pub IsEntryLineCause : Grammar → List ℕ → NotEntry → Type 0
+IsEntryLineCause grammar = OrBroken (not_entry grammar) (IsRefusedFor grammar)
 
 -- The bytes are a list with these entries and refused lines.
 -- Example: `10.0.0.1\n\nx # y\n` has one entry, on line 1, and line 3, `x`, is refused.
 abbrev pub IsEntryList : Grammar → List ℕ → List NumberedEntry → List Refusal → Type 0
-IsEntryList grammar = IsItemList (IsEntryOfLine grammar) (IsRefusedFor grammar)
+IsEntryList grammar = IsItemList (IsEntryOfLine grammar) (IsEntryLineCause grammar)
 
 -- No line of the list is refused, and `Holds` is true of its entries.
 pub record HoldsOfEntries (grammar : Grammar) (bytes : List ℕ) (Holds : List NumberedEntry → Type 0) : Type 0 where

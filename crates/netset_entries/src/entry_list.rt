@@ -1,7 +1,7 @@
 //! The entries of a list, each with its line.
 ghost use Rattle.std.specs.Prelude.{◌≡◌, ◌∷◌, ◌++◌, [], IfOk};
 ghost use Rattle.netset_entries.specs.EntryLineOf.{numbered, IsReadOf};
-ghost use Rattle.netset_entries.specs.NumberedEntries.{IsEntryOfLine, IsRefusedFor};
+ghost use Rattle.netset_entries.specs.NumberedEntries.{IsEntryOfLine, IsRefusedFor, not_entry};
 
 use ipnet::Grammar;
 use ipnet_lists::{ContentLine, Entry, LineHandler, NotEntry, RefusedLines, read_lines, read_text};
@@ -36,6 +36,15 @@ impl<'a> LineHandler<'a, Vec<EntryLine<'a>>, NotEntry> for EntryReader {
         × (new.items ≡ old.items ++ entry ∷ []) };
 
     ghost is_cause = { λ h. IsRefusedFor h.grammar };
+
+    ghost broken = { λ h. not_entry h.grammar };
+
+    fn refuse_broken(&self) -> NotEntry
+        ensures { result ≡ not_entry self.now.grammar }
+    {
+        let grammar = self.grammar;
+        NotEntry { grammar }
+    }
 
     fn take(
         &self,

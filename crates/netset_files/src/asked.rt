@@ -79,14 +79,15 @@ pub fn read_first(rt: &HostRuntime, first: Lists<FirstReader>, name: &str) -> Re
     Ok(Stream { lists, answerer })
 }
 
-/// Reads the two lists of the query, which have these names, and returns the answer to the entries of the second. If
-/// there are `entries`, the second has these lines. If that fails, it is reported, and the error is the exit status.
+/// Reads the two lists of the query, which have these names, and returns their reader, whether the lists may be as they
+/// are, as `Lists::into_reader` says, and the answer to the entries of the second. If there are `entries`, the second
+/// has these lines. If that fails, it is reported, and the error is the exit status.
 pub fn read_answers(
     rt: &HostRuntime,
     first: Lists<FirstReader>,
     names: &[&str; 2],
     entries: Option<String>,
-) -> Result<(SetReader, Answer), u8>
+) -> Result<(SetReader, bool, Answer), u8>
     ensures { IfErr result (λ status. status ≡ 2) }
 {
     let (first, answerer) = first.read(rt, names[0])?;
@@ -104,8 +105,9 @@ pub fn read_answers(
         allowed,
     };
     let (second, answer) = second.read_last(rt, names[1], entries)?;
-    let SecondReader { lists, .. } = second.end()?;
-    Ok((lists, answer))
+    let (reader, allowed) = second.into_reader();
+    let SecondReader { lists, .. } = reader;
+    Ok((lists, allowed, answer))
 }
 
 /// Streams the second list, which has this name, and returns the exit status. `names` are the names of both.
@@ -119,9 +121,13 @@ pub fn stream_list(
 ) -> u8
     ensures { result ≤ 2 }
 {
-    let (out, faults) = (&mut writers.answer, &mut writers.faults);
-    match open_list(rt, name) {
-        Ok(mut input) => run_stream(stream, names, &mut input, out, faults),
-        Err(unread) => report_unread(rt, name, &unread),
+    let mut input = match open_list(rt, name) {
+        Ok(input) => input,
+        Err(unread) => return report_unread(rt, name, &unread),
+    };
+    if let Err(status) = writers.check_input(rt, name, &input) {
+        return status;
     }
+    let (out, faults) = (&mut writers.answer, &mut writers.faults);
+    run_stream(stream, names, &mut input, out, faults)
 }

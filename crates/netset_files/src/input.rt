@@ -1,7 +1,7 @@
 //! The bytes of a list, from a file or from standard input.
-ghost use Rattle.std.specs.Prelude.{◌≡◌, ◌↔◌, ◌≤◌, ◌⊎◌, length, take, false, pos, Some, None, IsTrue, IsErr};
+ghost use Rattle.std.specs.Prelude.{◌≡◌, ◌↔◌, ◌<◌, ◌≤◌, ◌⊎◌, length, take, false, pos, Some, None, IsTrue, IsErr};
 ghost use Rattle.std.specs.Prelude.{IfErr, IfOk, IsOkAnd};
-ghost use Rattle.std.specs.Fs.{IsDir, file_type};
+ghost use Rattle.std.specs.Fs.{IsDir, IsFile, file_type, metadata_len};
 ghost use Rattle.std.specs.IoError.{raw_os_error};
 ghost use Rattle.netset_files.specs.Files.{IsOutOfMemory};
 ghost use Rattle.netset_files.specs.Utf16.{is_one_null, alternate, has_utf16_mark, begins_utf16};
@@ -10,10 +10,14 @@ ghost use Rattle.ipnet_lists.specs.declared.reading.ReadFailure.TheVariants.{Mem
 use ipnet_lists::{ReadFailure, is_entry};
 use std::fs::{File, Metadata};
 use std::io::{ErrorKind, Read, Stdin, Write};
+use std::os::unix::fs::MetadataExt;
 use std::{fs, io};
 
 /// The path of standard input.
 const INPUT_PATH: &str = "/dev/stdin";
+
+/// The path of standard output.
+const OUTPUT_PATH: &str = "/dev/stdout";
 
 /// The system's number of the error that reading a folder is.
 const IS_A_DIRECTORY: i32 = 21;
@@ -78,7 +82,34 @@ impl Read for Input {
     }
 }
 
+/// Whether the two are one regular file that has bytes.
+fn are_one_file(input: &Metadata, output: &Metadata) -> bool
+    ensures file { IsTrue result → IsFile (file_type input.now) }
+    ensures bytes { IsTrue result → 0 < metadata_len input.now }
+{
+    let is_same = (input.dev(), input.ino()) == (output.dev(), output.ino());
+    input.is_file() && input.len() > 0 && is_same
+}
+
 impl Input {
+    /// Refuses the list, which has this name, if it is the file into which standard output is written, and has bytes.
+    /// An answer that is written while the file is read would be read again, without end. The error is the exit status.
+    #[inline(never)]
+    pub(crate) fn check_output(&self, rt: &HostRuntime, name: &str) -> Result<(), u8>
+        ensures { IfErr result (λ status. status ≡ 2) }
+    {
+        let input = match &self.source {
+            Source::Standard(_) => fs::metadata(rt, INPUT_PATH),
+            Source::File(file) => file.metadata(),
+        };
+        match (input, fs::metadata(rt, OUTPUT_PATH)) {
+            (Ok(input), Ok(output)) if are_one_file(&input, &output) => {
+                Err(report_output(rt, name))
+            }
+            _ => Ok(()),
+        }
+    }
+
     /// Why it was not read to its end.
     pub fn unread(&self, failure: ReadFailure) -> Unread
         ensures failure { result.failure ≡ failure }
@@ -208,6 +239,13 @@ fn begins_utf16(front: &[u8]) -> bool
 }
 
 impl Log {
+    /// The list that is read.
+    pub fn input(&self) -> &Input
+        ensures { result.now ≡ self.now.input }
+    {
+        &self.input
+    }
+
     /// The first bytes of the log that were read.
     fn front(&self) -> &[u8]
         ensures { result.now ≡ take self.now.seen self.now.front }
@@ -270,6 +308,18 @@ impl Read for Log {
         }
         self.input.read(buf)
     }
+}
+
+/// Reports that the list of this name is the output too, and returns the exit status, even if it cannot be printed.
+fn report_output(rt: &HostRuntime, name: &str) -> u8
+    ensures { result ≡ 2 }
+{
+    let shown = name.as_bytes().escape_ascii();
+    let _ = writeln!(
+        rt.stderr(),
+        "netset: {shown}: is also the output: write to another file, or use -o"
+    );
+    2
 }
 
 /// Opens the log of this name: standard input if it is "-", and otherwise a file. A folder is refused. A log that

@@ -10,8 +10,8 @@ mod reading;
 mod replacement;
 
 pub use asked::{FirstReader, read_answers, read_first, stream_list};
-pub use input::{ENTRY_LIST, Log, STANDARD_INPUT, Unread, open_log, report_unread};
+pub use input::{ENTRY_LIST, Input, Log, STANDARD_INPUT, Unread, open_log, report_unread};
 pub use lists::{Empties, ListReader, Lists, Reports, read_rules};
 pub use output::{AnswerWriter, CLOSED, Ends, Faults, Writers};
-pub use reading::{bytes_of, bytes_with_entries, whole_of};
+pub use reading::{bytes_of, bytes_with_entries, may_have_lines, whole_of};
 pub use replacement::OutputFailure;

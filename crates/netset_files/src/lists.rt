@@ -207,10 +207,14 @@ impl<L: ListReader> Lists<L> {
         Ok((lists, list))
     }
 
-    /// Reads the entries of the command line, a line each, as one list, as `read` reads a file.
+    /// Reads the entries of the command line, a line each, as one list, as `read` reads a file. If a file before it has
+    /// no entry, and that is to be refused, they are not read, and the error is the exit status.
     fn read_entries(self, rt: &HostRuntime, entries: &str) -> Result<(Lists<L>, L::List), u8>
         ensures { IfErr result (λ status. status ≡ 2) }
     {
+        if !self.allowed {
+            return Err(2);
+        }
         let Lists {
             reader,
             reports,
@@ -287,6 +291,16 @@ impl<L: ListReader> Lists<L> {
             return Err(report_unread(rt, ENTRY_LIST, &Unread::of_known_bytes(ReadFailure::Memory)));
         }
         Ok((lists, all))
+    }
+
+    /// Returns the reader, and whether the lists may be as they are: `false` if a list has no entry, and that is to be
+    /// refused.
+    pub fn into_reader(self) -> (L, bool)
+        ensures reader { result.0 ≡ self.reader }
+        ensures allowed { self.reports.empties ≢ Refuse → IsTrue result.1 }
+    {
+        let allowed = self.allowed;
+        (self.reader, allowed)
     }
 
     /// Returns the reader. If a list has no entry, and that is to be refused, the error is the exit status.

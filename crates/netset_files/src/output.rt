@@ -1,7 +1,8 @@
 //! The output of a command: standard output, or a file that only a whole answer replaces.
-ghost use Rattle.std.specs.Prelude.{◌≤◌, IsTrue};
+ghost use Rattle.std.specs.Prelude.{◌≡◌, ◌≤◌, IfErr, IsTrue};
 ghost use Rattle.netset_files.specs.Statuses.{IsExitStatus};
 
+use crate::input::Input;
 use crate::lists::Reports;
 use crate::replacement::{OutputFailure, Replacement};
 use netset_lib::{Output, finish};
@@ -52,6 +53,8 @@ enum Destination<'a> {
 pub struct AnswerWriter<'a> {
     destination: Destination<'a>,
     is_published: bool,
+    /// Whether the command has no answer, so that the file stays as it is.
+    is_withheld: bool,
     ends: &'a Ends,
 }
 
@@ -179,6 +182,7 @@ impl<'a> Writers<'a> {
         let answer = AnswerWriter {
             destination,
             is_published: false,
+            is_withheld: false,
             ends,
         };
         let err = rt.stderr();
@@ -189,8 +193,30 @@ impl<'a> Writers<'a> {
         })
     }
 
+    /// Refuses a list, which has this name, if the answer is written into it while it is read, as `Input::check_output`
+    /// does. The error is the exit status.
+    pub fn check_input(&self, rt: &HostRuntime, name: &str, input: &Input) -> Result<(), u8>
+        ensures { IfErr result (λ status. status ≡ 2) }
+    {
+        match &self.answer.destination {
+            Destination::Standard(_) => input.check_output(rt, name),
+            Destination::File(_) => Ok(()),
+        }
+    }
+
+    /// Notes that the command has no answer if it ends with status 1, and returns the status. Then the file stays as it
+    /// is.
+    pub fn without_answer_at_1(&mut self, status: u8) -> u8
+        ensures { result ≡ status }
+    {
+        if status == 1 {
+            self.answer.is_withheld = true;
+        }
+        status
+    }
+
     /// Ends a command with this status, and returns the exit status of the program. The file is replaced at status 0
-    /// or 1; otherwise it stays as it is.
+    /// or 1, if the command has an answer; otherwise it stays as it is.
     #[inline(never)]
     pub fn end(self, status: u8) -> u8
         ensures { status ≤ 2 → IsExitStatus result }
@@ -200,7 +226,11 @@ impl<'a> Writers<'a> {
             mut faults,
             ..
         } = self;
-        let status = finish(status, &mut answer, &mut faults);
+        let status = if answer.is_withheld {
+            status
+        } else {
+            finish(status, &mut answer, &mut faults)
+        };
         if let Destination::File(file) = &answer.destination {
             if !answer.is_published {
                 file.discard();

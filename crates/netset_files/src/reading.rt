@@ -1,5 +1,6 @@
 //! Lists that are read with a report if that fails.
-ghost use Rattle.std.specs.Prelude.{◌≡◌, string_bytes, IfSome, IfOk, IfErr};
+ghost use Rattle.std.specs.Prelude.{◌≡◌, ◌≢◌, string_bytes, IsTrue, IfSome, IfOk, IfErr};
+ghost use Rattle.netset_files.specs.declared.lists.Empties.TheVariants.{Refuse};
 
 use crate::input::{ENTRY_LIST, report_unread};
 use crate::lists::{Reports, read_whole};
@@ -16,6 +17,20 @@ pub fn whole_of(rt: &HostRuntime, name: &str, reports: Reports) -> Result<Vec<u8
     }
 }
 
+/// Whether the list of this name may have these bytes: `false` if it has no line, and that is to be refused. A list
+/// without a line is reported; `what` says what its lines are.
+pub fn may_have_lines(
+    rt: &HostRuntime,
+    name: &str,
+    bytes: &[u8],
+    what: &str,
+    reports: Reports,
+) -> bool
+    ensures { reports.empties ≢ Refuse → IsTrue result }
+{
+    has_lines(bytes) || reports.report_empty(rt, name, what)
+}
+
 /// Reads the bytes of the list of this name as `whole_of` does. It also fails if a file has no line, and that is to be
 /// refused; `what` says what its lines are.
 ///
@@ -27,7 +42,7 @@ pub fn bytes_of(rt: &HostRuntime, name: &str, what: &str, reports: Reports) -> R
     ensures { IfErr result (λ status. status ≡ 2) }
 {
     let bytes = whole_of(rt, name, reports)?;
-    if !has_lines(bytes.as_slice()) && !reports.report_empty(rt, name, what) {
+    if !may_have_lines(rt, name, bytes.as_slice(), what, reports) {
         return Err(2);
     }
     Ok(bytes)
@@ -54,7 +69,7 @@ pub fn bytes_with_entries(
     };
     let bytes = entries.into_bytes();
     reports.report_bytes(rt, ENTRY_LIST, bytes.len(), bytes.len());
-    if !has_lines(bytes.as_slice()) && !reports.report_empty(rt, ENTRY_LIST, "entries") {
+    if !may_have_lines(rt, ENTRY_LIST, bytes.as_slice(), "entries", reports) {
         return Err(2);
     }
     Ok(bytes)

@@ -1,5 +1,5 @@
 -- The options of a command line for the form of an answer, and why they do not go together.
-use Rattle.std.specs.Prelude.{◌≡◌, ◌≢◌, ◌⊎◌, ◌↔◌, ◌==◌, ◌≤◌, ℕ, true, false, cond, List, [], codes}
+use Rattle.std.specs.Prelude.{◌≡◌, ◌≢◌, ◌⊎◌, ◌↔◌, ◌==◌, ◌||◌, ◌≤◌, ℕ, Bool, true, false, cond, List, [], codes}
 use Rattle.std.specs.Prelude.{Option, Some, None, IsSome, IfSome, IsSomeAnd, unwrap_or, option_map}
 use Rattle.std.specs.List.{list_any}
 use Rattle.std.specs.Borrow.{Bor}
@@ -80,10 +80,14 @@ abbrev pub IsMinLength : FormName → FormOptions → ℕ → Type 0
 IsMinLength form options length = ((options.min_length ≡ None) × (length ≡ 0))
     ⊎ (IsSomeAnd options.min_length (λ word. IsLengthText word.now length) × (form ≢ Ranges))
 
+-- A line feed (10) or a carriage return (13).
+abbrev pub is_line_break : ℕ → Bool
+is_line_break byte = byte == 10 || byte == 13
+
 -- A text before or after each line is for lines, and is one line.
 abbrev pub IsGoodText : FormName → Option (Bor (List ℕ)) → Type 0
 IsGoodText form given =
-    IfSome given (λ text. HasLines form × (list_any (λ byte. byte == 10) text.now ≡ false))
+    IfSome given (λ text. HasLines form × (list_any is_line_break text.now ≡ false))
 
 -- A set has a name if and only if the form has sets.
 abbrev pub AreGoodSets : FormName → FormOptions → Type 0
@@ -161,10 +165,10 @@ pub record IsRequestOf (options : FormOptions) (request : FormRequest) : Type 0 
 abbrev pub IsFormFault : FormName → FormOptions → FormFault → Type 0
 IsFormFault form options Faults.Prefix = IsSome options.prefix × ¬ (HasLines form)
 IsFormFault form options Faults.LineBreak =
-    IsSomeAnd options.prefix (λ text. list_any (λ byte. byte == 10) text.now ≡ true)
+    IsSomeAnd options.prefix (λ text. list_any is_line_break text.now ≡ true)
 IsFormFault form options Faults.Suffix = IsSome options.suffix × ¬ (HasLines form)
 IsFormFault form options Faults.SuffixBreak =
-    IsSomeAnd options.suffix (λ text. list_any (λ byte. byte == 10) text.now ≡ true)
+    IsSomeAnd options.suffix (λ text. list_any is_line_break text.now ≡ true)
 IsFormFault form options Faults.Ranges = IsSome options.min_length × (form ≡ Ranges)
 IsFormFault form options (Faults.Length word) =
     (options.min_length ≡ Some word) × ((n : ℕ) → ¬ (IsLengthText word.now n))

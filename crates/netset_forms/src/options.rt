@@ -4,7 +4,7 @@ ghost use Rattle.std.specs.List.{list_any};
 ghost use Rattle.netset_forms.specs.FormOptions.{form_text, HasLines, HasSets, HasNames, IsMaxelem, IsRequestOf};
 ghost use Rattle.netset_forms.specs.FormOptions.{IsFormNamed, IsFormOf, IsMostElements, IsMinLength, IsGoodText};
 ghost use Rattle.netset_forms.specs.FormOptions.{AreGoodSets, IsGoodName, AreGoodBoth, AreRulesOf, IsFormFault};
-ghost use Rattle.netset_forms.specs.FormOptions.{fault_value};
+ghost use Rattle.netset_forms.specs.FormOptions.{fault_value, is_line_break};
 ghost use Rattle.netset_forms.specs.declared.options.FormName.{FormName};
 ghost use Rattle.netset_forms.specs.declared.options.FormName.TheVariants.{Iptables};
 
@@ -74,13 +74,13 @@ pub enum FormFault<'a> {
     /// A text before each line, and the form has no such lines.
     #[error("--prefix is for the formats plain and ranges")]
     Prefix,
-    /// The text before each line has a line break.
+    /// The text before each line has a line feed or a carriage return.
     #[error("--prefix has a line break")]
     LineBreak,
     /// A text after each line, and the form has no such lines.
     #[error("--suffix is for the formats plain and ranges")]
     Suffix,
-    /// The text after each line has a line break.
+    /// The text after each line has a line feed or a carriage return.
     #[error("--suffix has a line break")]
     SuffixBreak,
     /// A minimum prefix length, and the form has no networks.
@@ -210,11 +210,11 @@ impl FormName {
     }
 }
 
-/// Whether the text has a line break.
+/// Whether the text has a line feed or a carriage return.
 fn has_line_break(text: &str) -> bool
-    ensures { result ≡ list_any (λ byte. byte == 10) text.now }
+    ensures { result ≡ list_any is_line_break text.now }
 {
-    text.bytes().any(|byte| byte == b'\n')
+    text.bytes().any(|byte| byte == b'\n' || byte == b'\r')
 }
 
 /// Reads a `maxelem`: a number from 1 to 4294967295 without leading zeros.

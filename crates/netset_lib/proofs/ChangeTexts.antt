@@ -18,7 +18,7 @@ use Rattle.netset_lib.specs.declared.change_line.ChangeCause.{ChangeCause}
 use Rattle.netset_lib.specs.declared.change_line.ChangeCause.TheVariants as Causes
 use Rattle.netset_lib.specs.Changes.{ListChange, Added, Removed, changed_network, change_line, text_of_changes}
 use Rattle.netset_lib.specs.ChangeLists.{sign_of, IsChangeText, Fits, IsFittingChange, IsChangeCause}
-use Rattle.netset_lib.specs.ChangeLists.{IsChangeList}
+use Rattle.netset_lib.specs.ChangeLists.{IsChangeLineCause, IsChangeList}
 use Rattle.ipnet_lists.specs.ContentLines.{AreItems}
 use Rattle.ipnet_lists.specs.Entries.{block_range}
 use Rattle.ipnet_lists.specs.Lists.{IsContents, AreContents, RefusalFor, without_blanks, after_mark}
@@ -28,6 +28,8 @@ use Rattle.ipnet_lists.proofs.AddressBytes.{IsPlainByte}
 use Rattle.netset_lib.proofs.AnswerReading.{text_of, lines_of_text, no_mark, no_newline, canonical_some}
 use Rattle.ipnet_lists.proofs.BlankTexts.{first_fails, last_one_fails}
 use Rattle.ipnet_lists.proofs.OneReading.{all_contents, one_plain}
+use Rattle.ipnet_lists.specs.Entries.{HasReturn}
+use Rattle.ipnet_lists.proofs.ByteLaws.{plain_no_return}
 use Rattle.ipnet_lists.proofs.PlainLines.{IsSober, plain_entry, sober_contents, untrimmed}
 
 -- ---- a network word is one network
@@ -144,6 +146,11 @@ pub record IsPlainNetwork (n : Network) : Type 0 where
   pub network : IsNetwork n
   pub truncated : IsTruncated n
 
+-- its line has no carriage return
+no_return_in : (change : ListChange) → IsPlainNetwork (changed_network change) → ¬ (HasReturn (change_text change))
+no_return_in (Added n) h = plain_no_return (canonical_text n) (canonical_plain n h.network)
+no_return_in (Removed n) h = plain_no_return (canonical_text n) (canonical_plain n h.network)
+
 line_is_change : (grammar : Grammar) (change : ListChange) → IsPlainNetwork (changed_network change)
     → IsChangeText grammar (change_text change) change
 line_is_change grammar change h = record {
@@ -219,7 +226,7 @@ module _ (grammar : Grammar) (Has : Network → Type 0) where
 
   lines_read : (changes : List ListChange) (number : ℕ) (read : List ListChange)
       (refused : List (RefusalFor ChangeCause)) → All (IsGoodChange Has) changes
-      → AreItems (λ line. IsFittingChange grammar Has line.text) (IsChangeCause grammar Has) number
+      → AreItems (λ line. IsFittingChange grammar Has line.text) (IsChangeLineCause grammar Has) number
       (map change_text changes) read refused
       → (read ≡ changes) × (refused ≡ [])
   lines_read [] number read refused good h = h
@@ -229,7 +236,11 @@ module _ (grammar : Grammar) (Has : Network → Type 0) where
       let same = one_change grammar (change_text c) next.item c next.is.0 (line_is_change grammar c here.plain) in
       (next.next ∙ ap₂ (λ z zs. z ∷ zs) same rest.0, rest.1)
   lines_read (c ∷ changes) number read refused good (inr (items, next, k)) =
-      absurd (not_refused c next.cause (All-head (IsGoodChange Has) c changes good) next.reported)
+      let here = All-head (IsGoodChange Has) c changes good in
+      elim next.reported [
+        | inl broken ↦ absurd (no_return_in c here.plain broken.0)
+        | inr cause ↦ absurd (not_refused c next.cause here cause.1)
+      ]
 
   -- the text of changes is read as these changes
   pub changes_read : (changes read : List ListChange) (refused : List (RefusalFor ChangeCause))
@@ -244,5 +255,5 @@ module _ (grammar : Grammar) (Has : Network → Type 0) where
       all_contents (lines_of (after_mark (text_of_changes changes))) texts (map change_text changes) are
       (subst (λ ls. AreContents ls (map change_text changes)) (sym lines) (contents_of_lines changes good)) in
       lines_read changes 1 read refused good
-      (subst (λ ts. AreItems (λ line. IsFittingChange grammar Has line.text) (IsChangeCause grammar Has) 1 ts read
+      (subst (λ ts. AreItems (λ line. IsFittingChange grammar Has line.text) (IsChangeLineCause grammar Has) 1 ts read
       refused) same items)

@@ -1,5 +1,5 @@
 -- Lists of changes, one change a line, and the networks that they make of the networks of a set.
-use Rattle.std.specs.Prelude.{◌≡◌, ◌≢◌, ◌⊎◌, ℕ, List, [], codes, Contains}
+use Rattle.std.specs.Prelude.{◌≡◌, ◌≢◌, ◌⊎◌, ℕ, List, [], codes, Contains, Some}
 use Rattle.ipnet_base.specs.Address.{Address}
 use Rattle.ipnet_base.specs.Network.{Network, InBlock}
 use Rattle.ipnet_base.specs.Blocks.{IsMaximal}
@@ -9,7 +9,9 @@ use Rattle.netset_lib.specs.declared.change_line.ChangeCause.{ChangeCause}
 use Rattle.netset_lib.specs.declared.change_line.ChangeCause.TheVariants.{UnknownSign, NoNetwork, Present, Absent}
 use Rattle.netset_lib.specs.Answers.{IsSetText}
 use Rattle.netset_lib.specs.Changes.{ListChange, Added, Removed, changed_network}
-use Rattle.ipnet_lists.specs.ContentLines.{IsItemList}
+use Rattle.netset_lib.specs.declared.network_entry.NetworkCause.TheVariants.{NoEntry}
+use Rattle.ipnet_lists.specs.declared.cause.Cause.TheVariants.{CarriageReturn}
+use Rattle.ipnet_lists.specs.ContentLines.{IsItemList, OrBroken}
 use Rattle.ipnet_lists.specs.Lists.{RefusalFor}
 use Rattle.netset_lib.specs.NetworkEntries.{IsNetworkWord, IsNoNetworkWord, IsNetworkCause}
 use Rattle.ipnet_lists.specs.Words.{leading_word, after_word}
@@ -53,13 +55,19 @@ IsChangeCause grammar Has text (NoNetwork cause) = HasSign text × IsNoNetworkWo
 IsChangeCause grammar Has text Present = (n : Network) × IsChangeText grammar text (Added n) × Has n
 IsChangeCause grammar Has text Absent = (n : Network) × IsChangeText grammar text (Removed n) × ¬ (Has n)
 
+-- Why a line of a list of changes is refused: it has a carriage return in it, or the networks cannot be changed by it.
+-- Example: for the networks 10.0.0.0/8, `- 10.0.0.0/8 # ours\r+ ::1`; `+ 10.0.0.0/8`.
+abbrev pub IsChangeLineCause : Grammar → (Network → Type 0) → List ℕ → ChangeCause → Type 0
+IsChangeLineCause grammar Has = OrBroken (NoNetwork (NoEntry (Some CarriageReturn))) (IsChangeCause grammar Has)
+
 -- The bytes are a list of changes of these networks: each line is a change that fits, or is refused. Blanks, comments
 -- and a byte order mark are as in lists of entries. The order of the lines does not matter, nor does a repeated line.
 -- Example: for the networks 10.0.0.0/8, `- 10.0.0.0/8\n+ 10.0.0.0/9 # half\n- ::1\n` has two changes, and line 3 is
 -- refused.
 abbrev pub IsChangeList : Grammar → (Network → Type 0) → List ℕ → List ListChange → List (RefusalFor ChangeCause)
     → Type 0
-IsChangeList grammar Has = IsItemList (λ line. IsFittingChange grammar Has line.text) (IsChangeCause grammar Has)
+IsChangeList grammar Has = IsItemList (λ line. IsFittingChange grammar Has line.text)
+    (IsChangeLineCause grammar Has)
 
 -- The networks after the changes: those that no change removes, and those that are added.
 abbrev pub IsKeptOrAdded : (Network → Type 0) → List ListChange → Network → Type 0

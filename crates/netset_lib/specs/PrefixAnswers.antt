@@ -1,5 +1,5 @@
 -- The verdicts of a prefix list on the networks of a list.
-use Rattle.std.specs.Prelude.{◌≡◌, ◌≢◌, ◌↔◌, ℕ, List, [], ◌∷◌, ◌++◌, codes, Any, Bool, IsTrue}
+use Rattle.std.specs.Prelude.{◌≡◌, ◌≢◌, ◌↔◌, ℕ, List, [], ◌∷◌, ◌++◌, codes, Any, Bool, IsTrue, Some}
 use Rattle.ipnet_base.specs.Network.{Network}
 use Rattle.ipnet.specs.declared.parser.Grammar.{Grammar}
 use Rattle.ipnet_rules.specs.declared.rules.Action.{Action}
@@ -8,7 +8,9 @@ use Rattle.ipnet_rules.specs.declared.prefix_list.PrefixRule.{PrefixRule}
 use Rattle.ipnet_rules.specs.PrefixLists.{IsRouteVerdict}
 use Rattle.netset_lib.specs.declared.network_entry.NetworkCause.{NetworkCause}
 use Rattle.netset_lib.specs.declared.prefix_line.PrefixCause.{PrefixCause}
-use Rattle.ipnet_lists.specs.ContentLines.{IsItemList}
+use Rattle.netset_lib.specs.declared.network_entry.NetworkCause.TheVariants.{NoEntry}
+use Rattle.ipnet_lists.specs.declared.cause.Cause.TheVariants.{CarriageReturn}
+use Rattle.ipnet_lists.specs.ContentLines.{IsItemList, OrBroken}
 use Rattle.ipnet_lists.specs.Lists.{RefusalFor}
 use Rattle.netset_lib.specs.NetworkEntries.{IsNetworkWord, IsNoNetworkWord, IsNetworkCause}
 use Rattle.netset_lib.specs.PrefixLines.{IsPrefixList}
@@ -29,10 +31,15 @@ pub record IsNoListNetwork (grammar : Grammar) (text : List ℕ) (cause : Networ
   pub none : IsNoNetworkWord grammar text
   pub reported : IsNetworkCause grammar text cause
 
+-- Why a line of a list of networks is refused: it has a carriage return in it, or it is not a network.
+-- Example: `10.0.0.0/8 # ours\r::/0`; `10.0.0.0/33`.
+abbrev pub IsNetworkLineCause : Grammar → List ℕ → NetworkCause → Type 0
+IsNetworkLineCause grammar = OrBroken (NoEntry (Some CarriageReturn)) (IsNoListNetwork grammar)
+
 -- The bytes are a list of networks: each line is a network or an address, or is refused. Blanks, comments and a byte
 -- order mark are as in lists of entries. Example: of `10.0.0.0/8\n10.0.0.0-10.0.0.255\n`, line 2 is refused.
 abbrev pub IsNetworkList : Grammar → List ℕ → List ListNetwork → List (RefusalFor NetworkCause) → Type 0
-IsNetworkList grammar = IsItemList (λ line. IsListNetwork grammar line.text) (IsNoListNetwork grammar)
+IsNetworkList grammar = IsItemList (λ line. IsListNetwork grammar line.text) (IsNetworkLineCause grammar)
 
 -- The line of a verdict: the word of the action, and the network as it is written. Example: `permit 10.1.0.0/16`.
 abbrev pub verdict_line : Action → ListNetwork → List ℕ

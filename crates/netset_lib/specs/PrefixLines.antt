@@ -12,7 +12,9 @@ use Rattle.ipnet_rules.specs.PrefixLists.{IsBound, IsAbove}
 use Rattle.netset_lib.specs.declared.prefix_line.PrefixCause.{PrefixCause}
 use Rattle.netset_lib.specs.declared.prefix_line.PrefixCause.TheVariants.{UnknownWord, NoNetwork, BadBounds}
 use Rattle.netset_lib.specs.declared.prefix_line.PrefixCause.TheVariants.{RefusedBounds}
-use Rattle.ipnet_lists.specs.ContentLines.{IsItemList}
+use Rattle.netset_lib.specs.declared.network_entry.NetworkCause.TheVariants.{NoEntry}
+use Rattle.ipnet_lists.specs.declared.cause.Cause.TheVariants.{CarriageReturn}
+use Rattle.ipnet_lists.specs.ContentLines.{IsItemList, OrBroken}
 use Rattle.ipnet_lists.specs.Lists.{RefusalFor}
 use Rattle.netset_lib.specs.NetworkEntries.{IsNetworkWord, IsNoNetworkWord, IsNetworkCause}
 use Rattle.netset_lib.specs.RuleLines.{word_of, HasRuleWord}
@@ -79,8 +81,13 @@ IsPrefixCause grammar text BadBounds =
     HasRuleWord text × ((ge le : Option ℕ) → ¬ (IsBoundsText (bounds_text text) ge le))
 IsPrefixCause grammar text (RefusedBounds error) = HasRuleWord text × HasRefusedBounds grammar text error
 
+-- Why a line of a prefix list is refused: it has a carriage return in it, or it is not a rule.
+-- Example: `permit 10.0.0.0/8 # ours\rdeny ::/0`; `permit any`.
+abbrev pub IsPrefixLineCause : Grammar → List ℕ → PrefixCause → Type 0
+IsPrefixLineCause grammar = OrBroken (NoNetwork (NoEntry (Some CarriageReturn))) (IsPrefixCause grammar)
+
 -- The bytes are a prefix list: each line is a rule or is refused. Blanks, comments and a byte order mark are as in
 -- lists of entries.
 -- Example: `permit 10.0.0.0/8 le 24 # ours\n\ndeny any\n` has a rule on line 1, and line 3 is refused.
 abbrev pub IsPrefixList : Grammar → List ℕ → List PrefixRule → List (RefusalFor PrefixCause) → Type 0
-IsPrefixList grammar = IsItemList (λ line. IsPrefixText grammar line.text) (IsPrefixCause grammar)
+IsPrefixList grammar = IsItemList (λ line. IsPrefixText grammar line.text) (IsPrefixLineCause grammar)

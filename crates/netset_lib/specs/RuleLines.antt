@@ -1,5 +1,5 @@
 -- Lists of rules as people keep them: a rule on each line, which is a word and an entry.
-use Rattle.std.specs.Prelude.{◌≡◌, ◌≢◌, ◌↔◌, ℕ, List, [], codes, map}
+use Rattle.std.specs.Prelude.{◌≡◌, ◌≢◌, ◌↔◌, ℕ, List, [], codes, map, Some}
 use Rattle.ipnet_base.specs.Address.{Address}
 use Rattle.ipnet_base.specs.Ranges.{AddressRange}
 use Rattle.ipnet.specs.declared.parser.Grammar.{Grammar}
@@ -12,7 +12,8 @@ use Rattle.netset_lib.specs.declared.rule_line.RuleCause.{RuleCause}
 use Rattle.netset_lib.specs.declared.rule_line.RuleCause.TheVariants.{UnknownWord, NoEntry, TwoEntries, BadEntry}
 use Rattle.ipnet_lists.specs.Causes.{IsReportedCause}
 use Rattle.ipnet_lists.specs.Entries.{IsEntryText, IsNoEntry}
-use Rattle.ipnet_lists.specs.ContentLines.{ContentLine, IsItemList}
+use Rattle.ipnet_lists.specs.declared.cause.Cause.TheVariants.{CarriageReturn}
+use Rattle.ipnet_lists.specs.ContentLines.{ContentLine, IsItemList, OrBroken}
 use Rattle.ipnet_lists.specs.Lists.{RefusalFor}
 use Rattle.ipnet_lists.specs.Words.{leading_word, after_word}
 
@@ -52,6 +53,11 @@ pub record IsRefusedRule (grammar : Grammar) (text : List ℕ) (cause : RuleCaus
   pub none : IsNoRule grammar text
   pub reported : IsRuleCause grammar text cause
 
+-- Why a line of a list of rules is refused: it has a carriage return in it, or it is not a rule.
+-- Example: `permit 10.0.0.0/8 # ours\rdeny ::1`; `allow ::1`.
+abbrev pub IsRuleLineCause : Grammar → List ℕ → RuleCause → Type 0
+IsRuleLineCause grammar = OrBroken (BadEntry (Some CarriageReturn)) (IsRefusedRule grammar)
+
 -- The contents of a list of rules: the rules, and the line of each rule, in order.
 pub record RuleContents : Type 0 where
   pub rules : List Rule
@@ -71,5 +77,5 @@ IsRuleOfLine grammar line item = (item.0 ≡ line) × IsRuleText grammar line.te
 pub record IsRuleList (grammar : Grammar) (bytes : List ℕ) (contents : RuleContents)
     (refused : List (RefusalFor RuleCause)) : Type 0 where
   pub items : List (ContentLine × Rule)
-  pub read : IsItemList (IsRuleOfLine grammar) (IsRefusedRule grammar) bytes items refused
+  pub read : IsItemList (IsRuleOfLine grammar) (IsRuleLineCause grammar) bytes items refused
   pub is : contents ≡ contents_of_rules items

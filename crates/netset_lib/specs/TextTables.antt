@@ -15,8 +15,8 @@ use Rattle.ipnet_routes.specs.declared.routes.RouteTable.{RouteTable}
 use Rattle.ipnet_lists.specs.declared.cause.Cause.{Cause}
 use Rattle.netset_lib.specs.declared.text_line.NotTextLine.{NotTextLine}
 use Rattle.ipnet_lists.specs.Causes.{Has, HasMaskWord, IsReportedCause}
-use Rattle.ipnet_lists.specs.ContentLines.{IsItemList}
-use Rattle.ipnet_lists.specs.Entries.{IsEntryText, IsNoEntry}
+use Rattle.ipnet_lists.specs.ContentLines.{IsItemList, OrBroken}
+use Rattle.ipnet_lists.specs.Entries.{HasReturn, IsEntryText, IsNoEntry}
 use Rattle.netset_lib.specs.EntryAnswers.{AreAnswers, IsFoundIn}
 use Rattle.ipnet_lists.specs.Comments.{IsCommentAt}
 use Rattle.ipnet_lists.specs.Lists.{ListEntry, Refusal, RefusalFor, IsListRead}
@@ -55,24 +55,39 @@ abbrev pub IsTextLine : Grammar → List ℕ → TextLine → Type 0
 IsTextLine grammar contents line = (IsEntryText grammar contents line.range × (line.text ≡ []))
     ⊎ HasTextAfter grammar contents line
 
--- Why contents are not such a line: the cause of the first word if that is not an entry, and else of all contents.
+-- The contents are refused as a whole: they have a carriage return in them, or their first word is an entry.
+-- Example: `10.0.0.0 255.0.0.0`; not `10.0.0.0/33 eth0`.
+abbrev pub IsRefusedWhole : Grammar → List ℕ → Type 0
+IsRefusedWhole grammar contents =
+    HasReturn contents ⊎ ((range : AddressRange) × IsEntryText grammar (leading_word contents) range)
+
+-- Why contents are not such a line: the cause of the contents if these are refused as a whole, and else of their first
+-- word.
 -- Example: `LengthAbove32` for `10.0.0.0/33 eth0`; `MaskAfterBlank` for `10.0.0.0 255.0.0.0`.
 abbrev pub IsTextCause : Grammar → List ℕ → Option Cause → Type 0
 IsTextCause grammar contents cause =
-    (((range : AddressRange) × IsEntryText grammar (leading_word contents) range)
-    × IsReportedCause grammar contents cause)
-    ⊎ (IsNoEntry grammar (leading_word contents) × IsReportedCause grammar (leading_word contents) cause)
+    (IsRefusedWhole grammar contents × IsReportedCause grammar contents cause)
+    ⊎ ((¬ (IsRefusedWhole grammar contents)) × IsReportedCause grammar (leading_word contents) cause)
+
+-- The cause of a line that is refused in this grammar.
+abbrev pub not_text_line : Grammar → NotTextLine
+not_text_line grammar = record { grammar = grammar }
 
 -- The contents are not such a line. They and the grammar decide which cause can be named (`IsTextCause`).
 abbrev pub IsNoTextLine : Grammar → List ℕ → NotTextLine → Type 0
 IsNoTextLine grammar contents cause =
-    ((line : TextLine) → ¬ (IsTextLine grammar contents line)) × (cause ≡ record { grammar = grammar })
+    ((line : TextLine) → ¬ (IsTextLine grammar contents line)) × (cause ≡ not_text_line grammar)
+
+-- Why a line of a table is refused: it has a carriage return in it, or its contents are not such a line.
+-- Example: `10.0.0.0/8 eth0\r::/0 eth1`; `10.0.0.0/33 eth0`.
+abbrev pub IsTextLineCause : Grammar → List ℕ → NotTextLine → Type 0
+IsTextLineCause grammar = OrBroken (not_text_line grammar) (IsNoTextLine grammar)
 
 -- The bytes are a table: each line is an entry with or without a text, or is refused. Blanks, comments and a byte order
 -- mark are as in lists of entries.
 -- Example: `10.0.0.0/8 eth0 # ours\n\nx\n` has the line 10.0.0.0/8 with `eth0`, and line 3 is refused.
 abbrev pub IsTextTable : Grammar → List ℕ → List TextLine → List (RefusalFor NotTextLine) → Type 0
-IsTextTable grammar = IsItemList (λ line. IsTextLine grammar line.text) (IsNoTextLine grammar)
+IsTextTable grammar = IsItemList (λ line. IsTextLine grammar line.text) (IsTextLineCause grammar)
 
 -- The network is one of the table: a maximal block of the entry of a line.
 -- Example: a table of `10.0.0.0/8 a` and `10.0.0.0-10.0.0.5 b` has 10.0.0.0/8, 10.0.0.0/30 and 10.0.0.4/31.

@@ -1,5 +1,5 @@
 //! The addresses that a list of changes makes of a set.
-ghost use Rattle.std.specs.Prelude.{◌↔◌, IfOk, IfErr, OnOk, All, string_bytes};
+ghost use Rattle.std.specs.Prelude.{◌↔◌, IfOk, IfErr, OnOk, All, Some, string_bytes};
 ghost use Rattle.ipnet_base.specs.Address.{Address};
 ghost use Rattle.ipnet_sets.specs.Members.{IsMember};
 ghost use Rattle.netset_lib.specs.ApplySteps.{AreChangesRead, AreParts, AddsPart, parts_of};
@@ -7,14 +7,18 @@ ghost use Rattle.netset_lib.specs.ApplySteps.{IsChangeFailure};
 ghost use Rattle.netset_lib.specs.ChangeLists.{IsAnswerNetwork, Fits, IsFittingChange, IsChangeCause, IsInChanged};
 ghost use Rattle.netset_lib.specs.ChangeLists.{IsChangedText};
 ghost use Rattle.netset_lib.specs.ChangeSteps.{change_of};
+ghost use Rattle.netset_lib.specs.declared.change_line.ChangeCause.TheVariants.{NoNetwork};
+ghost use Rattle.netset_lib.specs.declared.network_entry.NetworkCause.TheVariants.{NoEntry};
+ghost use Rattle.ipnet_lists.specs.declared.cause.Cause.TheVariants.{CarriageReturn};
 
 pub mod laws;
 
 use crate::answer::{Form, set_text};
 use crate::change_line::{ChangeCause, read_change};
 use crate::changes::Change;
+use crate::network_entry::NetworkCause;
 use ipnet::{Grammar, IpNet};
-use ipnet_lists::{ContentLine, LineHandler, ListFailure, Refusals, read_lines};
+use ipnet_lists::{Cause, ContentLine, LineHandler, ListFailure, Refusals, read_lines};
 use ipnet_sets::IpSet;
 use std::alloc::{AllocError, Global};
 
@@ -60,6 +64,12 @@ impl<'a, 's> LineHandler<'a, Parts, ChangeCause> for ChangeReader<'s> {
         × AddsPart change (parts_of old) (parts_of new) };
 
     ghost is_cause = { λ h. IsChangeCause h.grammar (IsAnswerNetwork (IsMember h.set.now)) };
+
+    ghost broken = { λ h. NoNetwork (NoEntry (Some CarriageReturn)) };
+
+    fn refuse_broken(&self) -> ChangeCause {
+        ChangeCause::NoNetwork(NetworkCause::NoEntry(Some(Cause::CarriageReturn)))
+    }
 
     fn take(
         &self,

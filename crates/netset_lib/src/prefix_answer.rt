@@ -1,17 +1,20 @@
 //! The verdicts of a prefix list on the networks of a list.
-ghost use Rattle.std.specs.Prelude.{◌≡◌, ◌∷◌, ◌++◌, [], IfOk, IfErr, OnOk};
+ghost use Rattle.std.specs.Prelude.{◌≡◌, ◌∷◌, ◌++◌, [], IfOk, IfErr, OnOk, Some};
+ghost use Rattle.ipnet_lists.specs.declared.cause.Cause.TheVariants.{CarriageReturn};
 ghost use Rattle.ipnet.specs.NetworkOf.{ip_network};
 ghost use Rattle.ipnet_rules.specs.CompiledListOf.{rules_of};
 ghost use Rattle.netset_lib.specs.PrefixAnswers.{IsListNetwork, IsNoListNetwork, IsVerdictAnswer};
 ghost use Rattle.netset_lib.specs.PrefixLines.{IsPrefixText, IsPrefixCause};
 ghost use Rattle.netset_lib.specs.PrefixReading.{ArePrefixesRead, AreJudged, IsPrefixFailure, AddsVerdict};
 ghost use Rattle.netset_lib.specs.RuleLines as lines;
+ghost use Rattle.netset_lib.specs.declared.network_entry.NetworkCause.TheVariants.{NoEntry};
+ghost use Rattle.netset_lib.specs.declared.prefix_line.PrefixCause.TheVariants.{NoNetwork};
 ghost use Rattle.netset_lib.specs.declared.prefix_answer.PrefixFailure.TheVariants.{Memory};
 
 use crate::network_entry::{NetworkCause, read_network_entry};
 use crate::prefix_line::{PrefixCause, read_prefix_rule};
 use ipnet::{Grammar, IpNet};
-use ipnet_lists::{ContentLine, LineHandler, Refusals, read_lines};
+use ipnet_lists::{Cause, ContentLine, LineHandler, Refusals, read_lines};
 use ipnet_rules::{Action, CompiledPrefixList, PrefixList, PrefixRule};
 use std::alloc::{AllocError, Global};
 
@@ -61,6 +64,12 @@ impl<'a> LineHandler<'a, Vec<PrefixRule>, PrefixCause> for PrefixReader {
         × (new.items ≡ old.items ++ rule ∷ []) };
 
     ghost is_cause = { λ h. IsPrefixCause h.grammar };
+
+    ghost broken = { λ h. NoNetwork (NoEntry (Some CarriageReturn)) };
+
+    fn refuse_broken(&self) -> PrefixCause {
+        PrefixCause::NoNetwork(NetworkCause::NoEntry(Some(Cause::CarriageReturn)))
+    }
 
     fn take(
         &self,
@@ -127,6 +136,12 @@ impl<'a> LineHandler<'a, Verdicts, NetworkCause> for Judge {
         × AddsVerdict (rules_of h.list) n old new };
 
     ghost is_cause = { λ h. IsNoListNetwork h.grammar };
+
+    ghost broken = { λ h. NoEntry (Some CarriageReturn) };
+
+    fn refuse_broken(&self) -> NetworkCause {
+        NetworkCause::NoEntry(Some(Cause::CarriageReturn))
+    }
 
     fn take(
         &self,

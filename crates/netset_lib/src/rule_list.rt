@@ -1,13 +1,15 @@
 //! Lists of rules, one rule a line.
-ghost use Rattle.std.specs.Prelude.{ℕ, List, IfOk};
+ghost use Rattle.std.specs.Prelude.{ℕ, List, IfOk, Some};
+ghost use Rattle.ipnet_lists.specs.declared.cause.Cause.TheVariants.{CarriageReturn};
 ghost use Rattle.ipnet_text.specs.Inputs.{GaveWhole};
 ghost use Rattle.netset_lib.specs.RuleContentsOf.{WasRuleListRead, contents_of};
 ghost use Rattle.netset_lib.specs.RuleLines.{IsRefusedRule};
 ghost use Rattle.netset_lib.specs.RuleSteps.{AddsRule};
+ghost use Rattle.netset_lib.specs.declared.rule_line.RuleCause.TheVariants.{BadEntry};
 
 use crate::rule_line::{RuleCause, read_rule};
 use ipnet::Grammar;
-use ipnet_lists::{ContentLine, LineHandler, ReadFailure, Refusals, read_bytes, read_lines};
+use ipnet_lists::{Cause, ContentLine, LineHandler, ReadFailure, Refusals, read_bytes, read_lines};
 use ipnet_rules::Rule;
 use std::alloc::{AllocError, Global};
 use std::io::Read;
@@ -48,6 +50,12 @@ impl<'a> LineHandler<'a, RuleList, RuleCause> for RuleLines {
     ghost takes = { λ h line old new. AddsRule h.grammar line (contents_of old) (contents_of new) };
 
     ghost is_cause = { λ h. IsRefusedRule h.grammar };
+
+    ghost broken = { λ h. BadEntry (Some CarriageReturn) };
+
+    fn refuse_broken(&self) -> RuleCause {
+        RuleCause::BadEntry(Some(Cause::CarriageReturn))
+    }
 
     fn take(
         &self,

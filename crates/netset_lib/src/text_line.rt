@@ -54,6 +54,9 @@ pub struct NotTextLine {
 pub(crate) fn text_cause(contents: &[u8], grammar: Grammar) -> Option<Cause>
     ensures { IsTextCause grammar contents.now result }
 {
+    if has_byte(contents, b'\r') {
+        return cause_of(contents, grammar);
+    }
     let (word, _) = cut_word(contents);
     match read_text(word, grammar) {
         Some(_) => cause_of(contents, grammar),

@@ -1,10 +1,10 @@
 //! The command `route --with-text` of the program.
-ghost use Rattle.std.specs.Prelude.{◌≡◌, not, List, ℕ, IfSome};
+ghost use Rattle.std.specs.Prelude.{◌≡◌, not, List, ℕ, IfSome, IsNone};
 ghost use Rattle.std.specs.Io.KnownBytes.{Keeps};
 ghost use Rattle.ipnet_text.specs.Outputs.{IsWritten, IsFrontWritten};
 ghost use Rattle.netset_lib.specs.ListReports.{IsRouteReport, IsRouteBegun};
 ghost use Rattle.netset_lib.specs.TextReasons.{ExplainsTextLine};
-ghost use Rattle.netset_lib.specs.TextReplies.{IsTextFailure};
+ghost use Rattle.netset_lib.specs.TextReplies.{IsTextFailure, IsTableReported};
 ghost use Rattle.netset_lib.specs.TextTables.{IsTextRouteAnswer, IsTableOfTexts};
 
 use crate::reports::{OUT_OF_MEMORY, report_words};
@@ -114,6 +114,8 @@ pub fn table_or_report<'a, X: Write>(
 ) -> Option<RouteTable<&'a str>>
     ensures table { IfSome result (IsTableOfTexts grammar bytes.now) }
     ensures faultless { IfSome result (λ _. Keeps (X.contents faults.old) (X.contents faults.new)) }
+    ensures reported { IsNone result
+        → IsTableReported grammar bytes.now name.entry (X.contents faults.old) (X.contents faults.new) }
 {
     match table_of_texts(alloc, bytes, grammar) {
         Ok(table) => Some(table),

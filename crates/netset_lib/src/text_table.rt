@@ -1,8 +1,8 @@
 //! Tables of networks with texts, read line by line.
-ghost use Rattle.std.specs.Prelude.{IfOk, OnOk};
+ghost use Rattle.std.specs.Prelude.{◌≡◌, IfOk, OnOk};
 ghost use Rattle.ipnet_lists.specs.EntryOf.{entry_range};
 ghost use Rattle.netset_lib.specs.TextSteps.{AddsBlocks, AreTextsRead, texts_in};
-ghost use Rattle.netset_lib.specs.TextTables.{IsTextLine, IsNoTextLine};
+ghost use Rattle.netset_lib.specs.TextTables.{IsTextLine, IsNoTextLine, not_text_line};
 
 use crate::text_line::{NotTextLine, read_table_line};
 use ipnet::{Grammar, IpNet};
@@ -42,6 +42,15 @@ impl<'a> LineHandler<'a, Vec<(IpNet, &'a str)>, NotTextLine> for TableLines {
         × AddsBlocks (texts_in old.items) l.range l.text (texts_in new.items) };
 
     ghost is_cause = { λ h. IsNoTextLine h.grammar };
+
+    ghost broken = { λ h. not_text_line h.grammar };
+
+    fn refuse_broken(&self) -> NotTextLine
+        ensures { result ≡ not_text_line self.now.grammar }
+    {
+        let grammar = self.grammar;
+        NotTextLine { grammar }
+    }
 
     fn take(
         &self,

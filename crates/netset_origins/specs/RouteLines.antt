@@ -2,10 +2,12 @@
 -- that announced the network, or a set of AS numbers in braces.
 use Rattle.std.specs.Prelude.{◌≡◌, ◌||◌, ◌==◌, ℕ, Bool, true, List, [], ◌∷◌, ◌++◌, codes, Option, Some, None}
 use Rattle.std.specs.Char.{is_ascii_digit, is_ascii_whitespace}
-use Rattle.std.specs.List.{list_all}
+use Rattle.std.specs.List.{list_all, list_any}
 use Rattle.ipnet_base.specs.Network.{Network}
 use Rattle.ipnet.specs.declared.parser.Grammar.{Grammar}
-use Rattle.ipnet_lists.specs.ContentLines.{IsItemList}
+use Rattle.ipnet_lists.specs.declared.cause.Cause.TheVariants.{CarriageReturn}
+use Rattle.ipnet_lists.specs.ContentLines.{IsItemList, OrBroken}
+use Rattle.netset_lib.specs.declared.network_entry.ArgumentCause.TheVariants.{NoEntry}
 use Rattle.ipnet_lists.specs.Entries.{IsNetworkOrMasked}
 use Rattle.ipnet_lists.specs.Lists.{RefusalFor}
 use Rattle.ipnet_lists.specs.Words.{leading_word, after_word}
@@ -25,9 +27,11 @@ pub record ListRoute : Type 0 where
 abbrev pub is_set_byte : ℕ → Bool
 is_set_byte b = is_ascii_digit b || (b == 44 || is_ascii_whitespace b)
 
--- The text is a set of AS numbers: braces around digits, commas and blanks. Example: `{64496,64497}`.
+-- The text is a set of AS numbers: braces around digits, commas and blanks, with at least one digit.
+-- Example: `{64496,64497}`; not `{}` or `{,}`.
 abbrev pub IsAsSet : List ℕ → Type 0
 IsAsSet text = (inner : List ℕ) × (text ≡ codes "{" ++ inner ++ codes "}") × (list_all is_set_byte inner ≡ true)
+    × (list_any is_ascii_digit inner ≡ true)
 
 -- The text is this origin. Example: `AS64496` is 64496, and `{64496,64497}` is `None`.
 abbrev pub IsOrigin : List ℕ → Option ℕ → Type 0
@@ -67,7 +71,12 @@ IsRouteCause grammar text (NoNetwork cause) = IsArgumentCause grammar (network_p
 IsRouteCause grammar text NoOrigin =
     HasNetwork grammar text × ((origin : Option ℕ) → ¬ (IsOrigin (origin_part text) origin))
 
+-- Why a line of a list of routes is refused: it has a carriage return in it, or it is not a route.
+-- Example: `192.0.2.0/24 64496 # a\r::/0 64496`; `192.0.2.0/24 x`.
+abbrev pub IsRouteLineCause : Grammar → List ℕ → RouteCause → Type 0
+IsRouteLineCause grammar = OrBroken (NoNetwork (NoEntry (Some CarriageReturn))) (IsRouteCause grammar)
+
 -- The bytes are a list of routes: each line is a route, or is refused. Blanks, comments and a byte order mark are as in
 -- lists of entries. Example: of `192.0.2.0/24 64496\n192.0.2.0 64496\n`, line 2 is refused.
 abbrev pub IsRouteList : Grammar → List ℕ → List ListRoute → List (RefusalFor RouteCause) → Type 0
-IsRouteList grammar = IsItemList (λ line. IsRouteText grammar line.text) (IsRouteCause grammar)
+IsRouteList grammar = IsItemList (λ line. IsRouteText grammar line.text) (IsRouteLineCause grammar)

@@ -1,14 +1,16 @@
 -- Lists of validated ROA payloads (VRPs), as validators write them: on each line an AS number, a network and the
 -- greatest prefix length, with a comma between. A trust anchor and a time may follow; they decide nothing.
-use Rattle.std.specs.Prelude.{◌≡◌, ◌⊎◌, ◌<◌, ℕ, List, [], ◌∷◌, ◌++◌, codes}
+use Rattle.std.specs.Prelude.{◌≡◌, ◌≢◌, ◌⊎◌, ◌<◌, ℕ, List, [], ◌∷◌, ◌++◌, codes, Some}
 use Rattle.ipnet_base.specs.Address.{width}
 use Rattle.ipnet_base.specs.Network.{Network, truncation}
 use Rattle.ipnet.specs.NetworkOf.{ip_network}
 use Rattle.ipnet.specs.declared.parser.Grammar.{Grammar}
 use Rattle.ipnet_lists.specs.Causes.{Has}
-use Rattle.ipnet_lists.specs.ContentLines.{IsItemList}
+use Rattle.ipnet_lists.specs.declared.cause.Cause.TheVariants.{CarriageReturn}
+use Rattle.ipnet_lists.specs.ContentLines.{IsItemList, OrBroken}
+use Rattle.netset_lib.specs.declared.network_entry.ArgumentCause.TheVariants.{NoEntry}
 use Rattle.ipnet_lists.specs.Entries.{IsNetworkOrMasked}
-use Rattle.ipnet_lists.specs.Lists.{RefusalFor}
+use Rattle.ipnet_lists.specs.Lists.{IsContents, RefusalFor}
 use Rattle.ipnet_origins.specs.declared.payload.Payload.{Payload}
 use Rattle.ipnet_origins.specs.declared.payload.PayloadError.{PayloadError}
 use Rattle.ipnet_origins.specs.declared.payload.PayloadError.TheVariants.{MaxLenBelowPrefixLen, MaxLenAboveWidth}
@@ -34,6 +36,14 @@ last_fields text = after_field (after_field (after_field (after_field text)))
 abbrev pub IsHeader : List ℕ → Type 0
 IsHeader text = (text ≡ codes "ASN,IP Prefix,Max Length,Trust Anchor")
     ⊎ (text ≡ codes "ASN,IP Prefix,Max Length,Trust Anchor,Expires")
+
+-- The contents of a line are neither empty nor a header. Example: `AS64496,192.0.2.0/24,24`.
+abbrev pub IsVrpContents : List ℕ → Type 0
+IsVrpContents text = (text ≢ []) × ¬ (IsHeader text)
+
+-- The line has such contents. Example: `x # ours`; not `# ours` or `ASN,IP Prefix,Max Length,Trust Anchor`.
+abbrev pub IsOtherLine : List ℕ → Type 0
+IsOtherLine line = (text : List ℕ) × IsContents line text × IsVrpContents text
 
 -- The VRP has this AS number, and this network without host bits. Only private contracts use this.
 pub record IsVrpOf (asn : ℕ) (n : Network) (vrp : Payload) : Type 0 where
@@ -90,10 +100,15 @@ IsVrpCause grammar text (Causes.NoNetwork cause) =
 IsVrpCause grammar text Causes.NoMaxLen = HasLengthCause grammar text Causes.NoMaxLen
 IsVrpCause grammar text (Causes.RefusedMaxLen error) = HasLengthCause grammar text (Causes.RefusedMaxLen error)
 
--- Why a line is refused: it is not the header, and it is not a VRP for this cause.
--- Example: `ASN,IP Prefix,Max Length,Trust Anchor` is never refused, though its first field is not an AS number.
+-- The line is not the header, and it is not a VRP for this cause.
+-- Example: `ASN,IP Prefix,Max Length,Trust Anchor` has no cause, though its first field is not an AS number.
+abbrev pub IsNoVrpLine : Grammar → List ℕ → VrpCause → Type 0
+IsNoVrpLine grammar text cause = (¬ (IsHeader text)) × IsVrpCause grammar text cause
+
+-- Why a line is refused: it has a carriage return in it, or it is neither a header nor a VRP.
+-- Example: `AS64496,192.0.2.0/24,24,x # a\rb`; `AS64496,192.0.2.0/24,x`.
 abbrev pub IsVrpLineCause : Grammar → List ℕ → VrpCause → Type 0
-IsVrpLineCause grammar text cause = (¬ (IsHeader text)) × IsVrpCause grammar text cause
+IsVrpLineCause grammar = OrBroken (Causes.NoNetwork (NoEntry (Some CarriageReturn))) (IsNoVrpLine grammar)
 
 -- The line adds these VRPs: a header adds none, and another line adds the VRP that it is.
 -- Example: `AS64496,192.0.2.0/24,24` adds 192.0.2.0/24 with greatest length 24 and AS 64496.

@@ -1,5 +1,5 @@
 //! The validity of the routes of a list, by a list of validated ROA payloads (VRPs).
-ghost use Rattle.std.specs.Prelude.{◌≡◌, ◌⊎◌, ◌++◌, ◌↔◌, IsTrue, IfOk, IfErr, OnOk, List};
+ghost use Rattle.std.specs.Prelude.{◌≡◌, ◌⊎◌, ◌++◌, ◌↔◌, IsTrue, IfOk, IfErr, OnOk, List, Some};
 ghost use Rattle.ipnet_origins.specs.declared.origins.Validity.TheVariants.{Invalid};
 ghost use Rattle.ipnet.specs.NetworkOf.{ip_network};
 ghost use Rattle.ipnet_origins.specs.OriginsOf.{payloads_of};
@@ -9,16 +9,21 @@ ghost use Rattle.netset_origins.specs.OriginAnswers.{AreVrpsOf, IsVrpsFailure, I
 ghost use Rattle.netset_origins.specs.OriginSteps.{AreVrpsRead, AreJudged, AddsRoute, AddsWhy, AddsLine};
 ghost use Rattle.netset_origins.specs.RouteLines.{IsRouteText, IsRouteCause};
 ghost use Rattle.netset_origins.specs.RouteSteps.{route_in};
-ghost use Rattle.netset_origins.specs.VrpLines.{IsVrpLine, IsVrpLineCause};
+ghost use Rattle.netset_origins.specs.VrpLines.{IsVrpLine, IsNoVrpLine};
+ghost use Rattle.ipnet_lists.specs.declared.cause.Cause.TheVariants.{CarriageReturn};
+ghost use Rattle.netset_lib.specs.declared.network_entry.ArgumentCause.TheVariants.{NoEntry};
+ghost use Rattle.netset_origins.specs.declared.route_line.RouteCause.TheVariants as Routes;
+ghost use Rattle.netset_origins.specs.declared.vrp_line.VrpCause.TheVariants as Vrps;
 ghost use Rattle.netset_origins.specs.declared.answer.OriginsFailure.TheVariants.{Memory};
 
 use crate::route_line::{RouteCause, RouteLine, read_route};
 use crate::vrp_json::{JsonFailure, JsonFault, begins_object, read_json};
 use crate::vrp_line::{VrpCause, is_header, read_vrp};
 use ipnet::{Grammar, IpNet};
-use ipnet_lists::{ContentLine, LineHandler, Refusals, read_lines};
+use ipnet_lists::{Cause, ContentLine, LineHandler, Refusals, read_lines};
 use ipnet_origins::{OriginTable, Payload, Validity};
 use itoa::Buffer;
+use netset_lib::ArgumentCause;
 use std::alloc::{AllocError, Global};
 
 /// A question about a list of routes.
@@ -79,7 +84,13 @@ impl<'a> LineHandler<'a, Vec<Payload>, VrpCause> for VrpReader {
     ghost takes = { λ h line old new. (added : List Payload) × IsVrpLine h.grammar line.text added
         × (new.items ≡ old.items ++ added) };
 
-    ghost is_cause = { λ h. IsVrpLineCause h.grammar };
+    ghost is_cause = { λ h. IsNoVrpLine h.grammar };
+
+    ghost broken = { λ h. Vrps.NoNetwork (NoEntry (Some CarriageReturn)) };
+
+    fn refuse_broken(&self) -> VrpCause {
+        VrpCause::NoNetwork(ArgumentCause::NoEntry(Some(Cause::CarriageReturn)))
+    }
 
     fn take(
         &self,
@@ -221,6 +232,12 @@ impl<'a> LineHandler<'a, OriginAnswers, RouteCause> for Judge {
         × AddsRoute (payloads_of h.table) h.request r old new };
 
     ghost is_cause = { λ h. IsRouteCause h.request.grammar };
+
+    ghost broken = { λ h. Routes.NoNetwork (NoEntry (Some CarriageReturn)) };
+
+    fn refuse_broken(&self) -> RouteCause {
+        RouteCause::NoNetwork(ArgumentCause::NoEntry(Some(Cause::CarriageReturn)))
+    }
 
     fn take(
         &self,

@@ -13,4 +13,4 @@ pub use answer::{OriginAnswers, OriginsFailure, OriginsRequest, origin_answers};
 pub use origins_program::OriginsCommand;
 pub use route_line::RouteCause;
 pub use vrp_json::JsonFault;
-pub use vrp_line::VrpCause;
+pub use vrp_line::{VrpCause, has_vrp_lines};

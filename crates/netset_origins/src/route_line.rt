@@ -1,6 +1,7 @@
 //! A line of a list of routes: a network, and the AS number that announced it.
-ghost use Rattle.std.specs.Prelude.{◌≡◌, ◌↔◌, IsTrue, IfOk, IfErr, IfSome, IsNone, All, Option, ℕ};
-ghost use Rattle.std.specs.List.{list_all};
+ghost use Rattle.std.specs.Prelude.{◌≡◌, ◌↔◌, true, IsTrue, IfOk, IfErr, IfSome, IsNone, All, Option, ℕ};
+ghost use Rattle.std.specs.Char.{is_ascii_digit};
+ghost use Rattle.std.specs.List.{list_all, list_any};
 ghost use Rattle.netset_origins.specs.RouteLines.{is_set_byte, IsAsSet, IsOrigin, network_part, origin_part};
 ghost use Rattle.netset_origins.specs.RouteLines.{IsRouteText, IsRouteCause};
 ghost use Rattle.netset_origins.specs.RouteSteps.{route_in};
@@ -49,6 +50,20 @@ fn are_set_bytes(text: &[u8]) -> bool
     text.iter().all(|byte| is_set_byte(*byte))
 }
 
+/// Whether one of the bytes is a digit.
+fn has_digit(text: &[u8]) -> bool
+    ensures { result ≡ list_any is_ascii_digit text.now }
+{
+    text.iter().any(|byte| byte.is_ascii_digit())
+}
+
+/// Whether the text may be between the braces of a set of AS numbers.
+fn are_members(text: &[u8]) -> bool
+    ensures { IsTrue result ↔ ((list_all is_set_byte text.now ≡ true) × (list_any is_ascii_digit text.now ≡ true)) }
+{
+    are_set_bytes(text) && has_digit(text)
+}
+
 /// Whether the text is a set of AS numbers in braces.
 fn is_as_set(text: &[u8]) -> bool
     ensures { IsTrue result ↔ IsAsSet text.now }
@@ -60,7 +75,7 @@ fn is_as_set(text: &[u8]) -> bool
     if text[last] != b'}' {
         return false;
     }
-    are_set_bytes(&text[1..last])
+    are_members(&text[1..last])
 }
 
 /// Returns the origin that the text is: an AS number, or `None` within if it is a set of AS numbers.

@@ -1,20 +1,22 @@
--- A table of which lines are refused has no routes.
-use Rattle.std.proofs.Common.{◌≡◌, ◌≢◌, ℕ, ◌+◌, List, [], ◌∷◌, sym, subst, inl, inr}
+-- A table of which lines are refused has no routes, and its report.
+use Rattle.std.proofs.Common.{◌≡◌, ◌≢◌, ℕ, ◌+◌, List, [], ◌∷◌, ◌++◌, ap, sym, ◌∙◌, subst, inl, inr, Option, Some, None}
+use Rattle.std.specs.Io.KnownBytes.{Appends, Keeps}
 use Rattle.ipnet.specs.Lines.{lines_of}
 use Rattle.ipnet.specs.declared.parser.Grammar.{Grammar}
 use Rattle.ipnet_lists.specs.ContentLines.{AreItems}
 use Rattle.ipnet_lists.specs.Lists.{RefusalFor, after_mark}
 use Rattle.ipnet_lists.proofs.OneReading.{all_contents}
+use Rattle.ipnet_text.specs.Outputs.{IsFrontWritten}
 use Rattle.ipnet_routes.specs.declared.routes.RouteTable.{RouteTable}
-use Rattle.netset_lib.specs.TextTables.{TextLine, IsTextLine, IsNoTextLine, HasRefusedTextLines, IsTableOfTexts}
+use Rattle.netset_lib.specs.TextTables.{TextLine, IsTextLine, IsTextLineCause, HasRefusedTextLines, IsTableOfTexts}
 use Rattle.netset_lib.specs.declared.text_line.NotTextLine.{NotTextLine}
 use Rattle.std.specs.Borrow.{Bor}
 
 -- if all lines are lines of a table, no line is refused
 none_refused : (grammar : Grammar) (number : ℕ) (texts : List (List ℕ)) (lines others : List TextLine)
     (refused : List (RefusalFor NotTextLine))
-    → AreItems (λ line. IsTextLine grammar line.text) (IsNoTextLine grammar) number texts lines []
-    → AreItems (λ line. IsTextLine grammar line.text) (IsNoTextLine grammar) number texts others refused
+    → AreItems (λ line. IsTextLine grammar line.text) (IsTextLineCause grammar) number texts lines []
+    → AreItems (λ line. IsTextLine grammar line.text) (IsTextLineCause grammar) number texts others refused
     → refused ≡ []
 none_refused grammar number [] lines others refused h k = k.1
 none_refused grammar number ([] ∷ texts) lines others refused h k =
@@ -22,7 +24,10 @@ none_refused grammar number ([] ∷ texts) lines others refused h k =
 none_refused grammar number ((b ∷ text) ∷ texts) lines others refused (inl (more, next, h)) (inl (rest, also, k)) =
     none_refused grammar (number + 1) texts more rest refused h k
 none_refused grammar number ((b ∷ text) ∷ texts) lines others refused (inl (more, next, h)) (inr (rest, also, k)) =
-    absurd (also.reported.0 next.item next.is)
+    elim also.reported [
+      | inl broken ↦ absurd (next.unbroken broken.0)
+      | inr cause ↦ absurd (cause.1.0 next.item next.is)
+    ]
 none_refused grammar number ((b ∷ text) ∷ texts) lines others refused (inr (more, next, h)) k =
     let clash = next.next in absurd cc
 
@@ -34,4 +39,21 @@ not_both grammar bytes table refused t r =
     let (again, also, k) = r.read in
     let same = all_contents (lines_of (after_mark bytes)) texts again are also in
     r.some (none_refused grammar 1 again t.lines r.lines refused
-    (subst (λ z. AreItems (λ line. IsTextLine grammar line.text) (IsNoTextLine grammar) 1 z t.lines []) same h) k)
+    (subst (λ z. AreItems (λ line. IsTextLine grammar line.text) (IsTextLineCause grammar) 1 z t.lines []) same h) k)
+
+kept_then : (a b c : Option (List ℕ)) (bs : List ℕ) → Keeps a b → Appends b c bs → Appends a c bs
+kept_then None b c bs k h = tt
+kept_then (Some xs) None c bs k h = absurd k
+kept_then (Some xs) (Some ys) None bs k h = absurd h
+kept_then (Some xs) (Some ys) (Some zs) bs k h = h ∙ ap (λ z. z ++ bs) k
+
+-- what was written after nothing
+pub kept_front : (IsText : List ℕ → Type 0) (a b c : Option (List ℕ)) → Keeps a b → IsFrontWritten IsText b c
+    → IsFrontWritten IsText a c
+kept_front IsText a b c k h = record {
+  text = h.text;
+  right = h.right;
+  front = h.front;
+  begins = h.begins;
+  written = kept_then a b c h.front k h.written;
+}

@@ -1,5 +1,5 @@
 -- What `route --all` prints of a table of networks with texts and the entries of a list.
-use Rattle.std.specs.Prelude.{◌≡◌, ◌<◌, ◌↔◌, ◌∷◌, ◌++◌, ℕ, Bool, List, [], AllPairs, Contains, codes}
+use Rattle.std.specs.Prelude.{◌≡◌, ◌<◌, ◌↔◌, ◌∷◌, ◌++◌, ℕ, Bool, List, [], AllPairs, Contains, Option, codes}
 use Rattle.std.specs.List.{flat_map}
 use Rattle.std.specs.Borrow.{Bor}
 use Rattle.ipnet.specs.declared.parser.Grammar.{Grammar}
@@ -13,6 +13,9 @@ use Rattle.ipnet_routes.specs.Routes.{Route}
 use Rattle.ipnet_routes.specs.RoutesOf.{routes_of}
 use Rattle.ipnet_routes.specs.declared.routes.RouteTable.{RouteTable}
 use Rattle.netset_lib.specs.EntryAnswers.{AreAnswers, IsFoundIn}
+use Rattle.ipnet_lists.specs.Reports.{ExplainsEntry}
+use Rattle.ipnet_text.specs.Outputs.{IsFrontWritten}
+use Rattle.netset_lib.specs.ListReports.{IsListBegun}
 use Rattle.netset_lib.specs.RouteAnswers.{Holds}
 use Rattle.netset_lib.specs.TextTables.{HasRefusedEntries}
 use Rattle.netset_routes.specs.Shortening.{route_line}
@@ -64,3 +67,13 @@ abbrev pub IsEntryListFailure : Grammar → List ℕ → ListFailure NotEntry �
 IsEntryListFailure grammar bytes (Failures.Refused lines) =
     (refusals : List Refusal) × HasRefusedEntries grammar bytes refusals × AreRefused lines refusals
 IsEntryListFailure grammar bytes Failures.Memory = Unit {0}
+
+-- The bytes are not a list of entries, or memory ran out, and a front of the report about it was written, perhaps all.
+-- The list has this name.
+-- Example: for the bytes `10.0.0.0/33\n` and the name `a`,
+-- `a:1: not a network, an address or a range: 10.0.0.0/33 (the prefix length is above 32)`.
+abbrev pub IsEntriesReported : Grammar → (bytes : List ℕ) → (name : Bor (List ℕ)) → Option (List ℕ)
+    → Option (List ℕ) → Type 0
+IsEntriesReported grammar bytes name held held_after = (failure : ListFailure NotEntry)
+    × IsEntryListFailure grammar bytes failure
+    × IsFrontWritten (IsListBegun ExplainsEntry failure (name ∷ [])) held held_after

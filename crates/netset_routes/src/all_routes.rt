@@ -1,5 +1,6 @@
 //! The command `route --all` of the program: all routes of each entry of a list.
-ghost use Rattle.std.specs.Prelude.{◌≡◌, ◌++◌, [], ⊤, false, not, List, ℕ, IfErr, IfOk, IfSome, OnOk, string_bytes};
+ghost use Rattle.std.specs.Prelude.{◌≡◌, ◌⊎◌, ◌++◌, [], ⊤, false, not, List, ℕ, IfErr, IfOk, IfSome, IsNone, OnOk};
+ghost use Rattle.std.specs.Prelude.{string_bytes};
 ghost use Rattle.std.specs.Io.KnownBytes.{Keeps};
 ghost use Rattle.ipnet_lists.specs.EntryOf.{entry_range};
 ghost use Rattle.ipnet_lists.specs.FoundEntry.{entry_of};
@@ -8,9 +9,10 @@ ghost use Rattle.ipnet_lists.specs.Lists.{ListEntry, IsListRead};
 ghost use Rattle.ipnet.specs.NetworkOf.{ip_network};
 ghost use Rattle.ipnet_routes.specs.Routes.{ip_routes};
 ghost use Rattle.netset_lib.specs.Routing.{HasEnds};
+ghost use Rattle.netset_lib.specs.TextReplies.{IsTableReported};
 ghost use Rattle.netset_lib.specs.TextTables.{IsTableOfTexts};
 ghost use Rattle.netset_routes.specs.AllRoutes.{AreHolders, IsAllRoutesAnswer, IsEntryListFailure, holder_line};
-ghost use Rattle.netset_routes.specs.AllRoutes.{holder_lines};
+ghost use Rattle.netset_routes.specs.AllRoutes.{IsEntriesReported, holder_lines};
 ghost use Rattle.netset_routes.specs.AllRouteSteps.{AddsRoutes, AreRoutesBy};
 
 use crate::shorten::push_route;
@@ -265,6 +267,9 @@ pub fn plain_table_or_report<'a, X: Write>(
     ensures entries { IfSome result (λ _. (entries : List ListEntry) × IsListRead grammar 0 bytes.now entries []) }
     ensures table { IfSome result (IsTableOfTexts grammar bytes.now) }
     ensures faultless { IfSome result (λ _. Keeps (X.contents faults.old) (X.contents faults.new)) }
+    ensures reported { IsNone result
+        → IsEntriesReported grammar bytes.now name.entry (X.contents faults.old) (X.contents faults.new)
+        ⊎ IsTableReported grammar bytes.now name.entry (X.contents faults.old) (X.contents faults.new) }
 {
     match check_entries(alloc, bytes, grammar) {
         Ok(()) => table_or_report(alloc, bytes, grammar, name, faults),

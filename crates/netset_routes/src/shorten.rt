@@ -1,14 +1,17 @@
 //! The command `shorten` of the program.
-ghost use Rattle.std.specs.Prelude.{◌≡◌, ◌≤◌, ◌⊎◌, ◌++◌, true, List, IfOk, OnOk, string_bytes};
+ghost use Rattle.std.specs.Prelude.{◌≡◌, ◌≢◌, ◌≤◌, ◌⊎◌, ◌++◌, true, List, IfOk, OnOk, string_bytes};
 ghost use Rattle.std.specs.Io.KnownBytes.{Keeps};
 ghost use Rattle.ipnet.specs.NetworkOf.{ip_network};
 ghost use Rattle.ipnet_lists.specs.Lists.{RefusalFor};
 ghost use Rattle.ipnet_routes.specs.Routes.{ip_routes};
 ghost use Rattle.ipnet_text.specs.Outputs.{IsWritten, IsFrontWritten};
 ghost use Rattle.netset_lib.specs.declared.failure.Failure.TheVariants.{Memory};
+ghost use Rattle.netset_lib.specs.Reports.{memory_line, unwritable, words_line};
+ghost use Rattle.netset_lib.specs.TextReplies.{IsTableReported};
 ghost use Rattle.netset_lib.specs.TextTables.{HasRefusedTextLines};
 ghost use Rattle.netset_lib.specs.declared.text_line.NotTextLine.{NotTextLine};
-ghost use Rattle.netset_routes.specs.Shortening.{IsShortenedText, IsShortenAnswer, route_line, route_lines};
+ghost use Rattle.netset_routes.specs.Shortening.{IsShortenedText, IsShortenAnswer};
+ghost use Rattle.netset_routes.specs.Shortening.{route_line, route_lines};
 
 use ipnet::{Grammar, IpNet};
 use ipnet_fewest::shortest_table;
@@ -99,7 +102,7 @@ pub struct ShortenRequest<'a> {
 impl<'a> ShortenRequest<'a> {
     /// Writes the shortest table of the table that the bytes are, as `ShortenCommand` does. Returns the exit status.
     /// Each line is an entry, or an entry, blanks and a text, as `TextRoutesCommand` of `netset_lib` says. If lines are
-    /// refused, they are reported, the status is 2, and nothing is written.
+    /// refused, they are reported, the status is 2, and nothing is written. The status is never 1.
     ///
     /// ```text
     /// "10.0.0.0/8 eth0\n10.1.0.0/16 eth0 # old\n": 0, and out gets "10.0.0.0/8 eth0\n"
@@ -108,6 +111,16 @@ impl<'a> ShortenRequest<'a> {
     /// ```
     pub fn run<W: Write, X: Write>(&self, out: &mut W, faults: &mut X) -> u8
         ensures status { result ≤ 2 }
+        ensures never_one { result ≢ 1 }
+        ensures faultless { result ≡ 0 → Keeps (X.contents faults.old) (X.contents faults.new) }
+        ensures reported { result ≡ 2 → (Keeps (W.contents out.old) (W.contents out.new)
+            × IsTableReported self.now.grammar self.now.bytes.now self.now.name (X.contents faults.old)
+            (X.contents faults.new))
+            ⊎ ((Keeps (W.contents out.old) (W.contents out.new)
+            × IsFrontWritten (λ t. t ≡ memory_line) (X.contents faults.old) (X.contents faults.new))
+            ⊎ (IsFrontWritten (IsShortenAnswer self.now.grammar self.now.bytes.now) (W.contents out.old)
+            (W.contents out.new)
+            × IsFrontWritten (λ t. t ≡ words_line unwritable) (X.contents faults.old) (X.contents faults.new))) }
         ensures answered { result ≡ 0 → IsWritten (IsShortenAnswer self.now.grammar self.now.bytes.now)
             (W.contents out.old) (W.contents out.new) }
         ensures refused { (refused : List (RefusalFor NotTextLine))

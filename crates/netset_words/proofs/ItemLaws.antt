@@ -1,7 +1,7 @@
 -- The items of a line, one after another.
 use Rattle.std.proofs.Common.{◌≡◌, ℕ, Bool, true, false, List, [], ◌∷◌, ◌++◌, refl, sym}
 use Rattle.std.proofs.Common.{ap, ◌∙◌, subst, append_assoc, append-nil, Some, None, ◌⊎◌, inl, inr}
-use Rattle.std.proofs.Common.{Bor, Option, MatchOption}
+use Rattle.std.proofs.Common.{Bor}
 use Rattle.netset_words.specs.declared.item.ExtractRequest.{ExtractRequest}
 use Rattle.netset_words.specs.declared.item.Kind.TheVariants as Kinds
 use Rattle.netset_words.specs.declared.line_items.LineState.{LineState}
@@ -163,13 +163,3 @@ pub all_items : (how : ExtractRequest) (line rest base answer : List ℕ) (state
     → (items : List Item) × AreItems how (words_of line) items × IsLineUpTo how base items answer state
 all_items how line rest base answer state h none =
     (h.items, subst (AreItems how (words_of line)) (append-nil h.items) (h.are [] none), h.up_to)
-
--- a case of a result
-pub match_some : {A : Type 0} (o : Option A) (x : A) (P : Type 0) (Q : A → Type 0) → MatchOption o P Q
-    → o ≡ Some x → Q x
-match_some o x P Q h is = subst (λ z. MatchOption z P Q) is h
-
-pub match_none : {A : Type 0} (o : Option A) (P : Type 0) (Q : A → Type 0) → MatchOption o P Q
-    → ((x : A) → o ≡ Some x → ⊥) → P
-match_none None P Q h none = h
-match_none (Some x) P Q h none = absurd (none x refl)

@@ -1,5 +1,10 @@
 -- Lemmas of this crate.
+pub mod Cases
 pub mod WordLaws
+pub mod MappedLaws
+pub mod PlaceLaws
+pub mod PlaceBytes
+pub mod NameLaws
 pub mod KindLaws
 pub mod RangeLaws
 pub mod ItemLaws

@@ -1,9 +1,8 @@
 -- The bytes of a log: lines that are complete, and the front of one that is not.
-use Rattle.std.proofs.Common.{◌≡◌, ◌≢◌, ℕ, ◌+◌, ◌-◌, ◌<◌, ◌≤◌, ◌||◌, ◌==◌, true, false, List, [], ◌∷◌, ◌++◌}
+use Rattle.std.proofs.Common.{◌≡◌, ◌≢◌, ℕ, ◌+◌, ◌-◌, ◌<◌, ◌≤◌, ◌||◌, true, false, List, [], ◌∷◌, ◌++◌}
 use Rattle.std.proofs.Common.{All, length, take, drop, refl, sym, ap, ◌∙◌, arith, inl, inr, subst, append_assoc}
-use Rattle.std.proofs.Common.{append-nil, get_or, get_or-take, length-take-le, eq-eqb, ne_eqb, eqb-true, if◌then◌else◌}
-use Rattle.std.proofs.lemmas.List.{take_more, take-append-drop, take_rest}
-use Rattle.std.proofs.lemmas.List.Elements.{All-nil, All-append, All-head, All-tail, All-from_get_or}
+use Rattle.std.proofs.Common.{append-nil, get_or}
+use Rattle.std.proofs.lemmas.List.Elements.{All-nil, All-append}
 use Rattle.std.proofs.Common.{not}
 use Rattle.std.specs.List.{suffix_len}
 use Rattle.std.proofs.lemmas.List.Sums.{suffix_len_is}
@@ -11,8 +10,8 @@ use Rattle.netset_words.specs.Words.{cuts}
 use Rattle.memchr.specs.Find.{NoneBefore, Nowhere, Passes, is_byte}
 use Rattle.ipnet_sets.specs.Members.{IsMember}
 use Rattle.ipnet_sets.specs.declared.set.IpSet.{IpSet}
-use Rattle.ipnet.specs.Lines.{lines_of, onto_first_line}
-use Rattle.ipnet_text.proofs.ClosedLines.{IsClosed, closed_append}
+use Rattle.ipnet.specs.Lines.{lines_of}
+use Rattle.ipnet_text.proofs.ClosedLines.{closed_append}
 use Rattle.ipnet_lists.proofs.LineEnds.{ended, ended_closed, only, before_end, no_end, to_end}
 use Rattle.netset_words.specs.declared.line_filter.LineFilter.{LineFilter}
 use Rattle.netset_words.specs.declared.line_filter.Rest.TheVariants as Rests

@@ -18,34 +18,39 @@ use Rattle.ipnet_sets.specs.Members.{IsMember}
 use Rattle.ipnet_sets.specs.SetRanges.{IsInRange, range_of}
 use Rattle.ipnet_sets.specs.declared.set.IpSet.{IpSet}
 use Rattle.ipnet_lists.specs.declared.entry.Entry.TheVariants as Entries
-use Rattle.ipnet_lists.specs.Entries.{IsIpv4Text}
+use Rattle.ipnet_lists.specs.Entries.{IsEntryText, IsIpv4Text}
 use Rattle.ipnet_lists.specs.EntryOf.{entry_range}
 use Rattle.netset_lib.specs.Filtering.{HasAddresses}
 use Rattle.netset_words.specs.declared.log_line.LinesRequest.{LinesRequest}
 use Rattle.netset_words.specs.declared.log_line.Verdict.{Verdict}
 use Rattle.netset_words.specs.declared.log_line.Verdict.TheVariants as Verdicts
-use Rattle.netset_words.specs.LogEntries.{IsLogEntry, IsNoEntryWord}
+use Rattle.netset_words.specs.LogEntries.{IsNoEntryWord}
 use Rattle.netset_words.specs.LogLines.{LiesIn, IsInsideWord, IsOutsideWord, AreChosen}
 use Rattle.netset_words.specs.LogLines.{AreNotChosen, IsVerdict}
 use Rattle.netset_words.specs.LogSteps.{IsNextLogEntry}
-use Rattle.netset_words.specs.Words.{Word, cuts, words_of}
-use Rattle.netset_words.proofs.WordLaws.{word_front}
+use Rattle.netset_words.specs.Places.{IsRangeOf}
+use Rattle.netset_words.specs.Words.{Word, cuts, first_gap, words_of}
+use Rattle.netset_words.proofs.MappedLaws.{ipv4_is_not_mapped}
+use Rattle.netset_words.proofs.WordLaws.{onto_rest, word_front}
 
 -- ---- the next entry
 
--- a word at the front of the bytes
-pub front_entry : (grammar : Grammar) (bytes : List ℕ) (len : ℕ) (range : AddressRange) → 0 < len
+-- a word at the front of the bytes that is an entry
+pub front_entry : (how : LinesRequest) (bytes : List ℕ) (len : ℕ) (range : AddressRange) → 0 < len
     → len ≤ length bytes → ((k : ℕ) → k < len → cuts (get_or bytes k 0) ≡ false)
-    → (len < length bytes → cuts (get_or bytes len 0) ≡ true) → IsLogEntry grammar (take len bytes) range
-    → IsNextLogEntry grammar bytes range (take (length bytes - len) (drop len bytes))
-front_entry grammar bytes len range some within letters next is = record {
-  before = [];
-  word = record { before = []; text = take len bytes };
-  cut = word_front len bytes some within letters next
-      ∙ ap (λ z. record { before = []; text = take len bytes } ∷ words_of z) (sym (take_rest bytes len));
-  none = All-nil (IsNoEntryWord grammar);
-  is = is;
-}
+    → (len < length bytes → cuts (get_or bytes len 0) ≡ true) → IsEntryText how.grammar (take len bytes) range
+    → IsRangeOf how.mapped how.grammar (take len bytes) range
+    → IsNextLogEntry how bytes range (take (length bytes - len) (drop len bytes))
+front_entry how bytes len range some within letters next entry is =
+    let rest = take (length bytes - len) (drop len bytes) in
+    record {
+      before = [];
+      word = record { before = []; text = take len bytes; after = first_gap (words_of rest) };
+      cut = word_front len bytes some within letters next
+          ∙ ap (onto_rest [] (take len bytes)) (sym (take_rest bytes len));
+      none = All-nil (IsNoEntryWord how.grammar);
+      is = (take len bytes, inl (refl, (range, entry)), is);
+    }
 
 -- a text of the strict grammar is one of each grammar
 any_octet : (grammar : Grammar) (text : List ℕ) (n : ℕ) → IsOctet Strict text n → IsOctet grammar text n
@@ -65,28 +70,30 @@ any_joined grammar text (a ∷ b ∷ octets) (first, rest, cut, is, more) =
     (first, rest, cut, any_octet grammar first a is, any_joined grammar rest (b ∷ octets) more)
 
 any_address : (grammar : Grammar) (text : List ℕ) (a : Ipv4Addr) → IsIpv4AddressText Strict text (ipv4_octets a)
-    → IsLogEntry grammar text (entry_range (Entries.Address (Ip.V4 a)))
+    → IsIpv4Text grammar text (ipv4_address a)
 unfolding ipv4_bits
-any_address grammar text a h =
-    let writes : IsIpv4Text grammar text (ipv4_address a) =
-    record {
-      octets = ipv4_octets a;
-      writes = (any_joined grammar text (ipv4_octets a) h.0, h.1);
-      family = refl;
-      number = refl;
-    } in
-    inl (inl (inr record { address = ipv4_address a; writes = inl writes; is = refl }))
+any_address grammar text a h = record {
+  octets = ipv4_octets a;
+  writes = (any_joined grammar text (ipv4_octets a) h.0, h.1);
+  family = refl;
+  number = refl;
+}
 
 -- an address at the front of the bytes
-pub address_front : (grammar : Grammar) (bytes : List ℕ) (len : ℕ) (a : Ipv4Addr) → 0 < len → len ≤ length bytes
+pub address_front : (how : LinesRequest) (bytes : List ℕ) (len : ℕ) (a : Ipv4Addr) → 0 < len → len ≤ length bytes
     → ((k : ℕ) → k < len → cuts (get_or bytes k 0) ≡ false)
     → (len < length bytes → cuts (get_or bytes len 0) ≡ true)
     → IsIpv4AddressText Strict (take len bytes) (ipv4_octets a)
-    → IsNextLogEntry grammar bytes (entry_range (Entries.Address (Ip.V4 a)))
+    → IsNextLogEntry how bytes (entry_range (Entries.Address (Ip.V4 a)))
     (take (length bytes - len) (drop len bytes))
-address_front grammar bytes len a some within letters next writes =
-    front_entry grammar bytes len (entry_range (Entries.Address (Ip.V4 a))) some within letters next
-    (any_address grammar (take len bytes) a writes)
+address_front how bytes len a some within letters next writes =
+    let grammar = how.grammar in
+    let text = take len bytes in
+    let is = any_address grammar text a writes in
+    let entry : IsEntryText grammar text (entry_range (Entries.Address (Ip.V4 a))) =
+    inl (inr record { address = ipv4_address a; writes = inl is; is = refl }) in
+    front_entry how bytes len (entry_range (Entries.Address (Ip.V4 a))) some within letters next entry
+    (inr (λ on. ipv4_is_not_mapped grammar text (ipv4_address a) refl (inl is), entry))
 
 -- words that are not entries were passed
 pub record IsPassed (grammar : Grammar) (bytes rest : List ℕ) : Type 0 where
@@ -136,7 +143,7 @@ one_lies set a r fits h = (
 -- words that do not choose their line
 abbrev pub IsSoFar : LinesRequest → (Address → Type 0) → List Word → Verdict → Type 0
 IsSoFar how InSet words Verdicts.Chosen = ⊥
-IsSoFar how InSet words Verdicts.Other = (how.any ≡ true) × AreNotChosen true how.grammar InSet words
+IsSoFar how InSet words Verdicts.Other = (how.any ≡ true) × AreNotChosen true how InSet words
 IsSoFar how InSet words Verdicts.NoEntry = All (IsNoEntryWord how.grammar) words
 
 -- words were judged, and they do not choose the line
@@ -150,28 +157,28 @@ pub none_judged : (how : LinesRequest) (InSet : Address → Type 0) (bytes : Lis
     → IsJudged how InSet bytes bytes Verdicts.NoEntry
 none_judged how InSet bytes = record { judged = []; cut = refl; so_far = All-nil (IsNoEntryWord how.grammar) }
 
-none_are_passed : (grammar : Grammar) (InSet : Address → Type 0) (words : List Word)
-    → All (IsNoEntryWord grammar) words → All (λ w. IsNoEntryWord grammar w ⊎ IsOutsideWord grammar InSet w) words
-none_are_passed grammar InSet words h =
-    All-weaker (IsNoEntryWord grammar) (λ w. IsNoEntryWord grammar w ⊎ IsOutsideWord grammar InSet w) (λ w no. inl no)
-    words h
+none_are_passed : (how : LinesRequest) (InSet : Address → Type 0) (words : List Word)
+    → All (IsNoEntryWord how.grammar) words → All (λ w. IsNoEntryWord how.grammar w ⊎ IsOutsideWord how InSet w) words
+none_are_passed how InSet words h =
+    All-weaker (IsNoEntryWord how.grammar) (λ w. IsNoEntryWord how.grammar w ⊎ IsOutsideWord how InSet w)
+    (λ w no. inl no) words h
 
 -- the next entry chooses the line
 pub chosen_now : (how : LinesRequest) (InSet : Address → Type 0) (judged : List Word) (bytes rest after : List ℕ)
     (verdict : Verdict) (range : AddressRange) → words_of bytes ≡ judged ++ words_of rest
-    → IsSoFar how InSet judged verdict → IsNextLogEntry how.grammar rest range after → LiesIn InSet range
-    → AreChosen how.any how.grammar InSet (words_of bytes)
+    → IsSoFar how InSet judged verdict → IsNextLogEntry how rest range after → LiesIn InSet range
+    → AreChosen how.any how InSet (words_of bytes)
 chosen_now how InSet judged bytes rest after verdict range cut so_far next lies =
     choose how.any verdict refl so_far
   where
     all : words_of bytes ≡ (judged ++ next.before) ++ next.word ∷ words_of after
     all = cut ∙ ap (λ z. judged ++ z) next.cut ∙ sym (append_assoc judged next.before (next.word ∷ words_of after))
 
-    inside : IsInsideWord how.grammar InSet next.word
+    inside : IsInsideWord how InSet next.word
     inside = (range, next.is, lies)
 
     choose : (any : Bool) (v : Verdict) → how.any ≡ any → IsSoFar how InSet judged v
-        → AreChosen any how.grammar InSet (words_of bytes)
+        → AreChosen any how InSet (words_of bytes)
     choose true v is h = record {
       before = judged ++ next.before;
       word = next.word;
@@ -193,12 +200,12 @@ chosen_now how InSet judged bytes rest after verdict range cut so_far next lies 
 -- the next entry is the first, and does not choose the line
 pub other_now : (how : LinesRequest) (InSet : Address → Type 0) (judged : List Word) (bytes rest after : List ℕ)
     (verdict : Verdict) (range : AddressRange) → words_of bytes ≡ judged ++ words_of rest
-    → IsSoFar how InSet judged verdict → IsNextLogEntry how.grammar rest range after → ¬ (LiesIn InSet range)
-    → how.any ≡ false → AreNotChosen how.any how.grammar InSet (words_of bytes)
+    → IsSoFar how InSet judged verdict → IsNextLogEntry how rest range after → ¬ (LiesIn InSet range)
+    → how.any ≡ false → AreNotChosen how.any how InSet (words_of bytes)
 other_now how InSet judged bytes rest after verdict range cut so_far next out only =
-    subst (λ any. AreNotChosen any how.grammar InSet (words_of bytes)) (sym only) (first verdict so_far)
+    subst (λ any. AreNotChosen any how InSet (words_of bytes)) (sym only) (first verdict so_far)
   where
-    first : (v : Verdict) → IsSoFar how InSet judged v → AreNotChosen false how.grammar InSet (words_of bytes)
+    first : (v : Verdict) → IsSoFar how InSet judged v → AreNotChosen false how InSet (words_of bytes)
     first Verdicts.Chosen h = absurd h
     first Verdicts.Other h = let clash : true ≡ false = sym h.0 ∙ only in absurd cc
     first Verdicts.NoEntry h = record {
@@ -213,7 +220,7 @@ other_now how InSet judged bytes rest after verdict range cut so_far next out on
 
 -- the next entry does not choose the line, and a later one may
 pub judged_more : (how : LinesRequest) (InSet : Address → Type 0) (bytes rest after : List ℕ) (verdict : Verdict)
-    (range : AddressRange) → (h : IsJudged how InSet bytes rest verdict) → IsNextLogEntry how.grammar rest range after
+    (range : AddressRange) → (h : IsJudged how InSet bytes rest verdict) → IsNextLogEntry how rest range after
     → ¬ (LiesIn InSet range) → how.any ≡ true
     → IsJudged how InSet bytes after Verdicts.Other
 judged_more how InSet bytes rest after verdict range h next out any = record {
@@ -231,22 +238,22 @@ judged_more how InSet bytes rest after verdict range h next out any = record {
         cut = refl;
         is = (range, next.is, out);
       },
-      All-append (λ w. IsNoEntryWord how.grammar w ⊎ IsOutsideWord how.grammar InSet w) (h.judged ++ next.before)
+      All-append (λ w. IsNoEntryWord how.grammar w ⊎ IsOutsideWord how InSet w) (h.judged ++ next.before)
           (next.word ∷ [])
-          (All-append (λ w. IsNoEntryWord how.grammar w ⊎ IsOutsideWord how.grammar InSet w) h.judged next.before
-          (passed verdict h.so_far) (none_are_passed how.grammar InSet next.before next.none))
-          (All-cons (λ w. IsNoEntryWord how.grammar w ⊎ IsOutsideWord how.grammar InSet w) next.word []
+          (All-append (λ w. IsNoEntryWord how.grammar w ⊎ IsOutsideWord how InSet w) h.judged next.before
+          (passed verdict h.so_far) (none_are_passed how InSet next.before next.none))
+          (All-cons (λ w. IsNoEntryWord how.grammar w ⊎ IsOutsideWord how InSet w) next.word []
           (inr (range, next.is, out))
-          (All-nil (λ w. IsNoEntryWord how.grammar w ⊎ IsOutsideWord how.grammar InSet w))),
+          (All-nil (λ w. IsNoEntryWord how.grammar w ⊎ IsOutsideWord how InSet w))),
     ),
   );
 }
   where
     passed : (v : Verdict) → IsSoFar how InSet h.judged v
-        → All (λ w. IsNoEntryWord how.grammar w ⊎ IsOutsideWord how.grammar InSet w) h.judged
+        → All (λ w. IsNoEntryWord how.grammar w ⊎ IsOutsideWord how InSet w) h.judged
     passed Verdicts.Chosen k = absurd k
     passed Verdicts.Other k = k.1.1
-    passed Verdicts.NoEntry k = none_are_passed how.grammar InSet h.judged k
+    passed Verdicts.NoEntry k = none_are_passed how InSet h.judged k
 
 -- no entry is left
 pub judged_all : (how : LinesRequest) (InSet : Address → Type 0) (bytes rest : List ℕ) (verdict : Verdict)
@@ -258,7 +265,7 @@ judged_all how InSet bytes rest verdict h none =
     whole : (v : Verdict) → IsSoFar how InSet h.judged v → IsVerdict how InSet (h.judged ++ words_of rest) v
     whole Verdicts.Chosen k = absurd k
     whole Verdicts.Other k =
-        subst (λ any. AreNotChosen any how.grammar InSet (h.judged ++ words_of rest)) (sym k.0) (
+        subst (λ any. AreNotChosen any how InSet (h.judged ++ words_of rest)) (sym k.0) (
           record {
             before = k.1.0.before;
             word = k.1.0.word;
@@ -267,7 +274,7 @@ judged_all how InSet bytes rest verdict h none =
                 ∙ append_assoc k.1.0.before (k.1.0.word ∷ k.1.0.after) (words_of rest);
             is = k.1.0.is;
           },
-          All-append (λ w. IsNoEntryWord how.grammar w ⊎ IsOutsideWord how.grammar InSet w) h.judged (words_of rest)
-              k.1.1 (none_are_passed how.grammar InSet (words_of rest) none),
+          All-append (λ w. IsNoEntryWord how.grammar w ⊎ IsOutsideWord how InSet w) h.judged (words_of rest)
+              k.1.1 (none_are_passed how InSet (words_of rest) none),
         )
     whole Verdicts.NoEntry k = All-append (IsNoEntryWord how.grammar) h.judged (words_of rest) k none

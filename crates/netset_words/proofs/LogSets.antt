@@ -11,10 +11,10 @@ use Rattle.netset_words.specs.LogLines.{IsVerdict, IsLogLine, AreLogLines, LogRe
 use Rattle.netset_words.specs.Words.{Word}
 
 module _ (how : LinesRequest) (P Q : Address → Type 0) (same : (x : Address) → IsAddress x → P x ↔ Q x) where
-  inside : (w : Word) → IsInsideWord how.grammar P w → IsInsideWord how.grammar Q w
+  inside : (w : Word) → IsInsideWord how P w → IsInsideWord how Q w
   inside w (range, is, lies) = (range, is, λ x fits within. (same x fits).0 (lies x fits within))
 
-  outside : (w : Word) → IsOutsideWord how.grammar P w → IsOutsideWord how.grammar Q w
+  outside : (w : Word) → IsOutsideWord how P w → IsOutsideWord how Q w
   outside w (range, is, out) = (range, is, λ lies. out (λ x fits within. (same x fits).1 (lies x fits within)))
 
   first : (IsSo IsToo : Word → Type 0) → ((w : Word) → IsSo w → IsToo w) → (words : List Word)
@@ -33,17 +33,17 @@ module _ (how : LinesRequest) (P Q : Address → Type 0) (same : (x : Address) �
   one IsSo IsToo f words h =
       record { before = h.before; word = h.word; after = h.after; cut = h.cut; is = f h.word h.is }
 
-  chosen : (any : Bool) (words : List Word) → AreChosen any how.grammar P words → AreChosen any how.grammar Q words
-  chosen false words h = first (IsInsideWord how.grammar P) (IsInsideWord how.grammar Q) inside words h
-  chosen true words h = one (IsInsideWord how.grammar P) (IsInsideWord how.grammar Q) inside words h
+  chosen : (any : Bool) (words : List Word) → AreChosen any how P words → AreChosen any how Q words
+  chosen false words h = first (IsInsideWord how P) (IsInsideWord how Q) inside words h
+  chosen true words h = one (IsInsideWord how P) (IsInsideWord how Q) inside words h
 
-  not_chosen : (any : Bool) (words : List Word) → AreNotChosen any how.grammar P words
-      → AreNotChosen any how.grammar Q words
-  not_chosen false words h = first (IsOutsideWord how.grammar P) (IsOutsideWord how.grammar Q) outside words h
+  not_chosen : (any : Bool) (words : List Word) → AreNotChosen any how P words
+      → AreNotChosen any how Q words
+  not_chosen false words h = first (IsOutsideWord how P) (IsOutsideWord how Q) outside words h
   not_chosen true words (h, all) = (
-    one (IsOutsideWord how.grammar P) (IsOutsideWord how.grammar Q) outside words h,
-    All-weaker (λ w. IsNoEntryWord how.grammar w ⊎ IsOutsideWord how.grammar P w)
-        (λ w. IsNoEntryWord how.grammar w ⊎ IsOutsideWord how.grammar Q w)
+    one (IsOutsideWord how P) (IsOutsideWord how Q) outside words h,
+    All-weaker (λ w. IsNoEntryWord how.grammar w ⊎ IsOutsideWord how P w)
+        (λ w. IsNoEntryWord how.grammar w ⊎ IsOutsideWord how Q w)
         (λ w is. elim is [ inl h ↦ inl h | inr h ↦ inr (outside w h) ]) words all,
   )
 

@@ -3,7 +3,8 @@ use Rattle.std.proofs.Common.{◌≡◌, ℕ, Bool, not, true, false, List, ◌�
 use Rattle.std.proofs.Common.{sym, ap, ◌∙◌, subst, codes}
 use Rattle.ipnet_lists.specs.Entries.{IsNoEntry}
 use Rattle.netset_words.specs.declared.item.ExtractRequest.{ExtractRequest}
-use Rattle.netset_words.specs.Items.{BeginsRange, IsRangeItem, IsSomeEntry, span}
+use Rattle.netset_words.specs.Items.{BeginsRange, IsRangeItem, span}
+use Rattle.netset_words.specs.Places.{IsSomeEntry}
 use Rattle.netset_words.specs.declared.item.Kind.TheVariants as Kinds
 use Rattle.netset_words.specs.Words.{Word}
 

@@ -1,13 +1,13 @@
 -- The entries in a line of any text, and its netmasks.
 use Rattle.std.specs.Prelude.{◌≡◌, ◌≢◌, ◌⊎◌, ℕ, Bool, true, List, [], ◌∷◌, ◌++◌, codes, take, if◌then◌else◌}
 use Rattle.ipnet_base.specs.Address.{Address, IPv4}
-use Rattle.ipnet_base.specs.Ranges.{AddressRange}
 use Rattle.ipnet.specs.declared.parser.Grammar.{Grammar}
 use Rattle.ipnet_lists.specs.Causes.{IsNetmaskNumber}
-use Rattle.ipnet_lists.specs.Entries.{IsAddressText, IsEntryText, IsNoEntry}
+use Rattle.ipnet_lists.specs.Entries.{IsAddressText}
 use Rattle.netset_words.specs.declared.item.Kind.{Kind}
 use Rattle.netset_words.specs.declared.item.Kind.TheVariants as Kinds
 use Rattle.netset_words.specs.declared.item.ExtractRequest.{ExtractRequest}
+use Rattle.netset_words.specs.Places.{IsSomeEntry, IsPlace, HasNoPlace, IsShownAs}
 use Rattle.netset_words.specs.Words.{Word}
 
 -- The address is an IPv4 netmask of length 1 to 31. Example: 255.0.0.0, and not 0.0.0.0 or 255.255.255.255.
@@ -21,16 +21,13 @@ pub record IsMask (x : Address) : Type 0 where
 abbrev pub IsMaskText : Grammar → List ℕ → Type 0
 IsMaskText grammar text = (x : Address) × IsAddressText grammar text x × IsMask x
 
--- The text is an entry.
-abbrev pub IsSomeEntry : Grammar → List ℕ → Type 0
-IsSomeEntry grammar text = (range : AddressRange) × IsEntryText grammar text range
-
--- The kind of a word: an entry, a netmask, or something else. A netmask is not an entry.
--- Example: `10.0.0.0/8` is an entry, `255.0.0.0` a netmask, `allow` something else.
-abbrev pub IsKind : Grammar → List ℕ → Kind → Type 0
-IsKind grammar text Kinds.Entry = IsSomeEntry grammar text × ¬ (IsMaskText grammar text)
-IsKind grammar text Kinds.Mask = IsMaskText grammar text
-IsKind grammar text Kinds.Other = IsNoEntry grammar text
+-- The kind and the text of the item that a word is: an entry, a netmask, or something else. A netmask is not an entry.
+-- Example: `outside:10.0.0.1/443` is the entry `10.0.0.1`, `255.0.0.0` a netmask, `allow` something else.
+abbrev pub IsItemOf : ExtractRequest → Word → Kind → List ℕ → Type 0
+IsItemOf how w Kinds.Entry text = (place : List ℕ) × IsPlace how.grammar w place × ¬ (IsMaskText how.grammar place)
+    × IsShownAs how.mapped how.grammar place text
+IsItemOf how w Kinds.Mask text = IsPlace how.grammar w text × IsMaskText how.grammar text
+IsItemOf how w Kinds.Other text = HasNoPlace how.grammar w
 
 -- A part of a line, and what it is.
 pub record Item : Type 0 where
@@ -65,8 +62,7 @@ IsRangeItem how first (dash ∷ last ∷ words) item more = IsSpacedRange how fi
 abbrev pub IsNextItem : ExtractRequest → List Word → Item → List Word → Type 0
 IsNextItem how [] item more = ⊥
 IsNextItem how (first ∷ words) item more = IsRangeItem how first words item more
-    ⊎ ((¬ (BeginsRange how first words)) × (item.text ≡ first.text) × IsKind how.grammar first.text item.kind
-    × (more ≡ words))
+    ⊎ ((¬ (BeginsRange how first words)) × IsItemOf how first item.kind item.text × (more ≡ words))
 
 -- The items of the words, in order.
 -- Example: with ranges `inetnum: 10.0.0.1 - 10.0.0.9 ::1` has three items, and two of them are entries.

@@ -1,8 +1,10 @@
 -- The definitions that the contracts of this crate use.
 pub mod Words
+pub mod Places
 pub mod Items
 pub mod Extracts
 pub mod WordSteps
+pub mod PlaceSteps
 pub mod ExtractSteps
 pub mod Extractions
 pub mod LogEntries

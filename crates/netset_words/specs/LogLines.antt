@@ -23,12 +23,12 @@ abbrev pub LiesIn : (Address → Type 0) → AddressRange → Type 0
 LiesIn InSet range = (x : Address) → IsAddress x → IsInRange range x → InSet x
 
 -- The word is an entry that lies in the set.
-abbrev pub IsInsideWord : Grammar → (Address → Type 0) → Word → Type 0
-IsInsideWord grammar InSet w = (range : AddressRange) × IsLogEntry grammar w.text range × LiesIn InSet range
+abbrev pub IsInsideWord : LinesRequest → (Address → Type 0) → Word → Type 0
+IsInsideWord how InSet w = (range : AddressRange) × IsLogEntry how w range × LiesIn InSet range
 
 -- The word is an entry that does not lie in the set.
-abbrev pub IsOutsideWord : Grammar → (Address → Type 0) → Word → Type 0
-IsOutsideWord grammar InSet w = (range : AddressRange) × IsLogEntry grammar w.text range × ¬ (LiesIn InSet range)
+abbrev pub IsOutsideWord : LinesRequest → (Address → Type 0) → Word → Type 0
+IsOutsideWord how InSet w = (range : AddressRange) × IsLogEntry how w range × ¬ (LiesIn InSet range)
 
 -- The first of the words that is an entry has this property.
 -- Example: of the words `GET`, `10.0.0.1` and `::1` it is `10.0.0.1`.
@@ -49,20 +49,20 @@ pub record IsOfOne (IsSo : Word → Type 0) (words : List Word) : Type 0 where
   pub is : IsSo word
 
 -- The words choose their line: the first of them that is an entry lies in the set, or any of them if that is enough.
-abbrev pub AreChosen : Bool → Grammar → (Address → Type 0) → List Word → Type 0
-AreChosen false grammar InSet words = IsOfFirst grammar (IsInsideWord grammar InSet) words
-AreChosen true grammar InSet words = IsOfOne (IsInsideWord grammar InSet) words
+abbrev pub AreChosen : Bool → LinesRequest → (Address → Type 0) → List Word → Type 0
+AreChosen false how InSet words = IsOfFirst how.grammar (IsInsideWord how InSet) words
+AreChosen true how InSet words = IsOfOne (IsInsideWord how InSet) words
 
 -- There are entries among the words, and they do not choose their line.
-abbrev pub AreNotChosen : Bool → Grammar → (Address → Type 0) → List Word → Type 0
-AreNotChosen false grammar InSet words = IsOfFirst grammar (IsOutsideWord grammar InSet) words
-AreNotChosen true grammar InSet words = IsOfOne (IsOutsideWord grammar InSet) words
-    × All (λ w. IsNoEntryWord grammar w ⊎ IsOutsideWord grammar InSet w) words
+abbrev pub AreNotChosen : Bool → LinesRequest → (Address → Type 0) → List Word → Type 0
+AreNotChosen false how InSet words = IsOfFirst how.grammar (IsOutsideWord how InSet) words
+AreNotChosen true how InSet words = IsOfOne (IsOutsideWord how InSet) words
+    × All (λ w. IsNoEntryWord how.grammar w ⊎ IsOutsideWord how InSet w) words
 
 -- The verdict on words.
 abbrev pub IsVerdict : LinesRequest → (Address → Type 0) → List Word → Verdict → Type 0
-IsVerdict how InSet words Verdicts.Chosen = AreChosen how.any how.grammar InSet words
-IsVerdict how InSet words Verdicts.Other = AreNotChosen how.any how.grammar InSet words
+IsVerdict how InSet words Verdicts.Chosen = AreChosen how.any how InSet words
+IsVerdict how InSet words Verdicts.Other = AreNotChosen how.any how InSet words
 IsVerdict how InSet words Verdicts.NoEntry = All (IsNoEntryWord how.grammar) words
 
 -- At most this number of bytes of a line are kept: 1 MiB.

@@ -4,7 +4,6 @@ use Rattle.std.specs.Prelude.{◌≡◌, ◌⊎◌, ◌<◌, ◌≤◌, ◌+◌,
 use Rattle.std.specs.Prelude.{length, All}
 use Rattle.ipnet_base.specs.Address.{Address}
 use Rattle.ipnet_base.specs.Ranges.{AddressRange}
-use Rattle.ipnet.specs.declared.parser.Grammar.{Grammar}
 use Rattle.netset_words.specs.declared.line_filter.LineAnswers.{LineAnswers}
 use Rattle.netset_words.specs.declared.line_filter.Rest.{Rest}
 use Rattle.netset_words.specs.declared.line_filter.Rest.TheVariants as Rests
@@ -18,12 +17,12 @@ use Rattle.netset_words.specs.LogLines.{treated_front}
 use Rattle.netset_words.specs.Words.{Word, words_of}
 
 -- The next entry of the bytes, and the bytes after its word.
-pub record IsNextLogEntry (grammar : Grammar) (bytes : List ℕ) (range : AddressRange) (after : List ℕ) : Type 0 where
+pub record IsNextLogEntry (how : LinesRequest) (bytes : List ℕ) (range : AddressRange) (after : List ℕ) : Type 0 where
   pub before : List Word
   pub word : Word
   pub cut : words_of bytes ≡ before ++ word ∷ words_of after
-  pub none : All (IsNoEntryWord grammar) before
-  pub is : IsLogEntry grammar word.text range
+  pub none : All (IsNoEntryWord how.grammar) before
+  pub is : IsLogEntry how word range
 
 -- How the rest of a line is treated.
 abbrev pub rest_of : Treatment → Rest

@@ -133,9 +133,10 @@ impl Extraction {
     /// Reads the next text up to its end.
     ///
     /// A byte order mark at the start is skipped. Words are cut at spaces, tabs, line ends, vertical tabs, form feeds,
-    /// and at `"`, `'`, a backquote, `,`, `;`, `(`, `)`, `[`, `]`, `{`, `}`, `<`, `>`, `=` and `|`. A word that is an
-    /// entry counts, and a word that is an IPv4 netmask of length 1 to 31 is refused with its line. So is a line with a
-    /// NUL byte. A refused line is not an error here: the command `extract` reports it.
+    /// and at `"`, `#`, `%`, `&`, `'`, `(`, `)`, `,`, `;`, `<`, `=`, `>`, `?`, `[`, a backslash, `]`, a backquote, `{`,
+    /// `|` and `}`. The entry in a word counts; `specs/Places` says what may be before and after it. An IPv4 netmask of
+    /// length 1 to 31 is refused with its line. So is a line with a NUL byte. A refused line is not an error here: the
+    /// command `extract` reports it.
     ///
     /// The error is `Unreadable` if a read fails, now or in a call before, and `Memory` if memory runs out.
     pub fn read<R: Read>(&mut self, input: &mut R) -> Result<(), ReadFailure>

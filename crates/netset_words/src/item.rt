@@ -1,15 +1,19 @@
 //! The items of a line: entries, netmasks, and other words.
-ghost use Rattle.std.specs.Prelude.{◌≡◌, ◌<◌, ◌↔◌, ◌++◌, [], length, IsTrue, IfSome, IfNone, MatchOption};
+ghost use Rattle.std.specs.Prelude.{◌≡◌, ◌<◌, ◌↔◌, ◌++◌, [], List, ℕ, length, IsTrue, IfSome, IfNone, MatchOption};
 ghost use Rattle.ipnet_base.specs.Address.{ip_address};
-ghost use Rattle.netset_words.specs.Items.{BeginsRange, IsKind, IsMask, IsNextItem, IsRangeItem};
-ghost use Rattle.netset_words.specs.Words.{words_of};
+ghost use Rattle.netset_words.specs.Items.{BeginsRange, IsItemOf, IsMask, IsMaskText, IsNextItem, IsRangeItem};
+ghost use Rattle.ipnet_lists.specs.EntryOf.{IsWrittenAs};
+ghost use Rattle.netset_words.specs.Places.{IsPlace};
+ghost use Rattle.netset_words.specs.PlaceSteps.{IsFound};
+ghost use Rattle.netset_words.specs.Words.{Word, words_of};
 ghost use Rattle.netset_words.specs.WordSteps.{item_of, word_of};
 
-use crate::log_entry::has_separator;
+use crate::host::{Place, has_separator};
+use crate::mapped::mapped_ipv4;
+use crate::place::read_place;
 use crate::word::{NextWord, next_word};
-use ipnet::{Grammar, IpAddr};
-use ipnet_lists::{is_netmask, parse_address, read_entry, read_text};
-use std::str;
+use ipnet::{Grammar, IpAddr, Ipv4Addr};
+use ipnet_lists::{Entry, is_netmask, read_text};
 
 /// The entries to extract from texts.
 #[derive(Clone, Copy, Debug, PartialEq, Eq)]
@@ -20,6 +24,8 @@ pub struct ExtractRequest {
     pub first: bool,
     /// Whether two addresses around a `-` with blanks are a range.
     pub ranges: bool,
+    /// Whether an IPv4-mapped address is the IPv4 address.
+    pub mapped: bool,
 }
 
 /// The kind of a part of a line.
@@ -38,6 +44,8 @@ pub(crate) enum Kind {
 pub(crate) struct LineItem<'a> {
     pub(crate) kind: Kind,
     pub(crate) text: &'a [u8],
+    /// The IPv4 address to print in place of the text, which is its IPv4-mapped address.
+    pub(crate) mapped: Option<Ipv4Addr>,
     pub(crate) after: &'a [u8],
 }
 
@@ -51,34 +59,54 @@ fn is_mask(address: IpAddr) -> bool
     }
 }
 
-/// Returns the kind of the text.
-fn text_kind(text: &str, grammar: Grammar) -> Kind
-    ensures { IsKind grammar text.now result }
+/// Whether the entry is a netmask of length 1 to 31.
+fn is_mask_entry(entry: Entry) -> bool
+    ensures { (grammar : Grammar) → (text : List ℕ) → IsWrittenAs grammar text entry
+        → (IsTrue result ↔ IsMaskText grammar text) }
 {
-    if let Some(address) = parse_address(text, grammar) {
-        return if is_mask(address) {
-            Kind::Mask
-        } else {
-            Kind::Entry
-        };
-    }
-    match read_entry(text, grammar) {
-        Some(_) => Kind::Entry,
-        None => Kind::Other,
+    match entry {
+        Entry::Address(address) => is_mask(address),
+        Entry::Network(_) => false,
+        Entry::Ipv4Range(_, _) => false,
+        Entry::Ipv6Range(_, _) => false,
     }
 }
 
-/// Returns the kind of the word.
-fn word_kind(word: &[u8], grammar: Grammar) -> Kind
-    ensures { IsKind grammar word.now result }
+/// Returns the item that a place is.
+fn place_item<'a>(place: Place<'a>, request: ExtractRequest, after: &'a [u8]) -> LineItem<'a>
+    ensures item { (w : Word) → IsFound request.grammar (IsPlace request.grammar w) place.entry
+        → IsItemOf request w (item_of result).kind (item_of result).text }
+    ensures after { result.after.now ≡ after.now }
 {
-    // Most words are cheap to refuse.
-    if !has_separator(word) {
-        return Kind::Other;
+    if is_mask_entry(place.entry) {
+        return LineItem {
+            kind: Kind::Mask,
+            text: place.text,
+            mapped: None,
+            after,
+        };
     }
-    match str::from_utf8(word) {
-        Ok(text) => text_kind(text, grammar),
-        Err(_) => Kind::Other,
+    LineItem {
+        kind: Kind::Entry,
+        text: place.text,
+        mapped: mapped_ipv4(request.mapped, place.entry),
+        after,
+    }
+}
+
+/// Returns the item that the word is.
+fn word_item<'a>(word: NextWord<'a>, request: ExtractRequest) -> LineItem<'a>
+    ensures item { IsItemOf request (word_of word.entry) (item_of result).kind (item_of result).text }
+    ensures after { result.after.now ≡ word.entry.after.now }
+{
+    match read_place(word, request.grammar) {
+        Some(place) => place_item(place, request, word.after),
+        None => LineItem {
+            kind: Kind::Other,
+            text: word.text,
+            mapped: None,
+            after: word.after,
+        },
     }
 }
 
@@ -115,6 +143,7 @@ fn range_at<'a>(
         Some(_) => Some(LineItem {
             kind: Kind::Entry,
             text,
+            mapped: None,
             after: last.after,
         }),
         None => None,
@@ -133,9 +162,5 @@ pub(crate) fn next_item<'a>(bytes: &'a [u8], request: ExtractRequest) -> Option<
     if let Some(item) = range_at(bytes, first, request) {
         return Some(item);
     }
-    Some(LineItem {
-        kind: word_kind(first.text, request.grammar),
-        text: first.text,
-        after: first.after,
-    })
+    Some(word_item(first, request))
 }

@@ -3,12 +3,15 @@
 
 pub mod extract_program;
 pub mod extraction;
+mod host;
 pub mod item;
 pub mod line_filter;
 mod line_items;
 pub mod lines_program;
 mod log_entry;
 pub mod log_line;
+mod mapped;
+mod place;
 pub mod refused_word;
 mod word;
 mod word_reader;

@@ -197,8 +197,8 @@ fn report_front(
 /// Reads the lines of a log, and chooses those to print.
 ///
 /// A line is chosen if its first entry lies entirely inside a set, or entirely outside; with `any`, if any of its
-/// entries does. With `others`, the lines that are not chosen are printed. Words are cut as by `Extraction`. Here a
-/// netmask is an address, and ADDRESS:PORT is the ADDRESS. A line longer than 1 MiB is decided by the whole words of
+/// entries does. With `others`, the lines that are not chosen are printed. Entries are found as by `Extraction`. Here a
+/// netmask is an address. A line longer than 1 MiB is decided by the whole words of
 /// its first MiB.
 #[derive(Drop)]
 pub struct LineFilter {

@@ -4,9 +4,11 @@ ghost use Rattle.netset_words.specs.ExtractSteps.{IsLineUpTo, entry_item, mask_i
 ghost use Rattle.netset_words.specs.Items.{AreItems, Item};
 ghost use Rattle.netset_words.specs.declared.item.ExtractRequest.{ExtractRequest};
 ghost use Rattle.netset_words.specs.Words.{words_of};
-ghost use Rattle.netset_words.specs.WordSteps.{item_of};
+ghost use Rattle.netset_words.specs.WordSteps.{item_of, shown_text};
 
 use crate::item::{ExtractRequest, Kind, LineItem, next_item};
+use ipnet::{IpAddr, Ipv4Addr};
+use ipnet_lists::ip_addr_text;
 use std::alloc::AllocError;
 
 /// The items of a line that were read, as far as the rest of the line needs to know.
@@ -18,11 +20,25 @@ pub(crate) struct LineState<'a> {
     pub(crate) mask: Option<&'a [u8]>,
 }
 
-/// Appends the entry and a newline.
-fn push_entry(answer: &mut Vec<u8>, text: &[u8]) -> Result<(), AllocError>
-    ensures { OnOk result (answer.new.items ≡ (answer.old.items ++ text.now) ++ 10 ∷ []) }
+/// Appends the text of the IPv4 address, or else the text.
+fn push_shown(answer: &mut Vec<u8>, mapped: Option<Ipv4Addr>, text: &[u8]) -> Result<(), AllocError>
+    ensures { OnOk result (answer.new.items ≡ answer.old.items ++ shown_text mapped text.now) }
 {
-    answer.extend_from_slice(text)?;
+    match mapped {
+        Some(address) => {
+            let shown = ip_addr_text(IpAddr::V4(address));
+            answer.extend_from_slice(shown.as_str().as_bytes())
+        }
+        None => answer.extend_from_slice(text),
+    }
+}
+
+/// Appends the text of an item and a newline.
+fn push_item(answer: &mut Vec<u8>, item: LineItem<'_>) -> Result<(), AllocError>
+    ensures { OnOk result (answer.new.items
+        ≡ (answer.old.items ++ shown_text item.entry.mapped item.entry.text.now) ++ 10 ∷ []) }
+{
+    push_shown(answer, item.mapped, item.text)?;
     answer.push(b'\n')?;
     Ok(())
 }
@@ -32,16 +48,17 @@ fn read_entry_item<'a>(
     answer: &mut Vec<u8>,
     request: ExtractRequest,
     state: LineState<'a>,
-    text: &'a [u8],
+    item: LineItem<'a>,
 ) -> Result<LineState<'a>, AllocError>
     ensures { IfOk result (λ after. (base : List ℕ) → (items : List Item)
         → IsLineUpTo request base items answer.old.items state.entry
-        → IsLineUpTo request base (items ++ entry_item text.now ∷ []) answer.new.items after) }
+        → IsLineUpTo request base (items ++ entry_item (shown_text item.entry.mapped item.entry.text.now) ∷ [])
+        answer.new.items after) }
 {
     if request.first && state.has_entry {
         return Ok(state);
     }
-    push_entry(answer, text)?;
+    push_item(answer, item)?;
     Ok(LineState {
         has_entry: true,
         mask: state.mask,
@@ -75,7 +92,7 @@ fn read_item<'a>(
         → IsLineUpTo request base (items ++ item_of item.entry ∷ []) answer.new.items after) }
 {
     match item.kind {
-        Kind::Entry => read_entry_item(answer, request, state, item.text),
+        Kind::Entry => read_entry_item(answer, request, state, item),
         Kind::Mask => Ok(read_mask_item(state, item.text)),
         Kind::Other => Ok(state),
     }

@@ -2,7 +2,7 @@
 ghost use Rattle.std.specs.Prelude.{◌≡◌, ◌<◌, ◌↔◌, All, length, IsTrue, IfSome, MatchOption};
 ghost use Rattle.ipnet_base.specs.Address.{ip_address};
 ghost use Rattle.ipnet_sets.specs.Members.{IsMember};
-ghost use Rattle.ipnet.specs.declared.parser.Grammar.{Grammar};
+ghost use Rattle.netset_words.specs.declared.log_line.LinesRequest.{LinesRequest};
 ghost use Rattle.ipnet_lists.specs.EntryOf.{entry_range};
 ghost use Rattle.ipnet_lists.specs.declared.entry.Entry.TheVariants as Entries;
 ghost use Rattle.netset_words.specs.LogEntries.{IsNoEntryWord};
@@ -30,6 +30,8 @@ pub struct LinesRequest {
     pub any: bool,
     /// Whether the lines that are not chosen are printed, instead of those that are.
     pub others: bool,
+    /// Whether an IPv4-mapped address is the IPv4 address.
+    pub mapped: bool,
 }
 
 /// Whether a text is chosen by its entries.
@@ -94,8 +96,8 @@ const LONGEST: usize = "255.255.255.255 ".len();
 /// bytes: this is a quick test.
 #[inline]
 fn leading_address(bytes: &[u8]) -> Option<LineEntry<'_>>
-    ensures entry { IfSome result (λ e. (grammar : Grammar)
-        → IsNextLogEntry grammar bytes.now (entry_range e.entry) e.after.now) }
+    ensures entry { IfSome result (λ e. (how : LinesRequest)
+        → IsNextLogEntry how bytes.now (entry_range e.entry) e.after.now) }
     ensures shorter { IfSome result (λ e. length e.after.now < length bytes.now) }
 {
     if bytes.len() < LONGEST {
@@ -112,9 +114,9 @@ fn leading_address(bytes: &[u8]) -> Option<LineEntry<'_>>
 }
 
 /// Returns the first entry of the bytes, or `None` if they have none.
-pub(crate) fn next_log_entry<'a>(bytes: &'a [u8], grammar: Grammar) -> Option<LineEntry<'a>>
-    ensures entry { MatchOption result (All (IsNoEntryWord grammar) (words_of bytes.now))
-        (λ e. IsNextLogEntry grammar bytes.now (entry_range e.entry) e.after.now) }
+pub(crate) fn next_log_entry<'a>(bytes: &'a [u8], request: LinesRequest) -> Option<LineEntry<'a>>
+    ensures entry { MatchOption result (All (IsNoEntryWord request.grammar) (words_of bytes.now))
+        (λ e. IsNextLogEntry request bytes.now (entry_range e.entry) e.after.now) }
     ensures shorter { IfSome result (λ e. length e.after.now < length bytes.now) }
 {
     if let Some(found) = leading_address(bytes) {
@@ -122,7 +124,7 @@ pub(crate) fn next_log_entry<'a>(bytes: &'a [u8], grammar: Grammar) -> Option<Li
     }
     let mut rest = bytes;
     'words: while let Some(word) = next_word(rest) {
-        if let Some(entry) = read_log_entry(word.text, grammar) {
+        if let Some(entry) = read_log_entry(word, request) {
             return Some(LineEntry {
                 entry,
                 after: word.after,
@@ -159,7 +161,7 @@ pub(crate) fn verdict_on(set: &IpSet, request: LinesRequest, text: &[u8]) -> Ver
 {
     let mut rest = text;
     let mut verdict = Verdict::NoEntry;
-    'entries: while let Some(found) = next_log_entry(rest, request.grammar) {
+    'entries: while let Some(found) = next_log_entry(rest, request) {
         if lies_in(set, found.entry) {
             return Verdict::Chosen;
         }

@@ -8,6 +8,13 @@ returns-in-NulByte c =
     c.has_byte.ensures ∙ ap (list_any (λ b. b == 0)) c.as_bytes.ensures.value in
     rw c.in-NulByte.is (λ e. sym same ∙ e, λ e. same ∙ e)
 
+pub returns-in-CarriageReturn : goal.returns-in-CarriageReturn
+returns-in-CarriageReturn c =
+    let same : c.has_byte-in-CarriageReturn.result ≡ list_any (λ b. b == 13) c.args.text.now =
+    c.has_byte-in-CarriageReturn.ensures
+    ∙ ap (list_any (λ b. b == 13)) c.as_bytes-in-CarriageReturn.ensures.value in
+    rw c.in-CarriageReturn.is (λ e. sym same ∙ e, λ e. same ∙ e)
+
 pub returns-in-LegacyAlone : goal.returns-in-LegacyAlone
 returns-in-LegacyAlone c = rw c.in-LegacyAlone.is c.is_entry.ensures
 

@@ -1,5 +1,6 @@
 use Rattle.std.proofs.Common.{length, sym, ◌∙◌, subst, eqb-true}
 use Rattle.ipnet_text.proofs.LineCuts.{empty_text}
+use Rattle.ipnet_lists.specs.ContentLines.{OrBroken}
 use Rattle.ipnet_lists.specs.Lists.{after_mark}
 use Rattle.ipnet_lists.proofs.ContentLaws.{AreTakenBefore, before_start, before_more, before_end}
 use Rattle.ipnet_lists.proofs.content_line.read_lines.Goals as goal
@@ -7,7 +8,7 @@ use Rattle.ipnet_lists.proofs.content_line.read_lines.Goals as goal
 pub lines-init : goal.lines-init
 lines-init g c =
     let takes = g.H.LineHandler.takes c.args.handler.now in
-    let is_cause = g.H.LineHandler.is_cause c.args.handler.now in
+    let is_cause = OrBroken (g.H.LineHandler.broken c.args.handler.now) (g.H.LineHandler.is_cause c.args.handler.now) in
     let bytes = after_mark c.args.bytes.now in
     subst (λ z. AreTakenBefore takes is_cause bytes c.args.made.now 0 z c.args.made.now c.new-refused.result)
     (sym c.skip_mark-rest.ensures)
@@ -15,7 +16,8 @@ lines-init g c =
 
 pub lines-preserved : goal.lines-preserved
 lines-preserved g c =
-    before_more (g.H.LineHandler.takes c.args.handler.now) (g.H.LineHandler.is_cause c.args.handler.now)
+    before_more (g.H.LineHandler.takes c.args.handler.now)
+    (OrBroken (g.H.LineHandler.broken c.args.handler.now) (g.H.LineHandler.is_cause c.args.handler.now))
     (after_mark c.args.bytes.now) c.args.made.now c.lines.number c.in_ok-number.number c.lines.rest.now
     c.first_line_of_bytes.result.0.now c.contents_of-text.result.now c.first_line_of_bytes.result.1.now c.lines.made
     c.take_line.new.made c.lines.refused c.take_line.new.refused c.lines.invariant c.first_line_of_bytes.ensures.lines
@@ -24,7 +26,7 @@ lines-preserved g c =
 pub returns : goal.returns
 returns g c =
     let takes = g.H.LineHandler.takes c.args.handler.now in
-    let is_cause = g.H.LineHandler.is_cause c.args.handler.now in
+    let is_cause = OrBroken (g.H.LineHandler.broken c.args.handler.now) (g.H.LineHandler.is_cause c.args.handler.now) in
     let bytes = after_mark c.args.bytes.now in
     let none = empty_text c.lines.rest.now
     (eqb-true (length c.lines.rest.now) 0 (sym c.is_empty.ensures ∙ c.lines-test.false)) in

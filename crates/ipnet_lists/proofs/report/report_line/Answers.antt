@@ -1,4 +1,4 @@
-use Rattle.std.proofs.Common.{◌≡◌, OnOk, subst}
+use Rattle.std.proofs.Common.{OnOk, subst}
 use Rattle.std.specs.Io.KnownBytes.{Appends}
 use Rattle.ipnet_lists.specs.Explanations.{words_of}
 use Rattle.ipnet_lists.proofs.ReportLaws.{IsFrontOf, line_of_parts}

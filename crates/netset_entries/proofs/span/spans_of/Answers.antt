@@ -13,8 +13,7 @@ use Rattle.netset_entries.proofs.SpanLaws.{AreSpansTo, spans_start, spans_push, 
 use Rattle.netset_entries.proofs.SpanLaws.{sorted_by_place}
 use Rattle.netset_entries.proofs.span.spans_of.Goals as goal
 use Rattle.netset_entries.proofs.span.spans_of.Goals.{then-flags-place+in-Some+in_ok-push-in-Some}
-use Rattle.netset_entries.proofs.span.spans_of.Goals.{then-flags-place+in-None}
-use Rattle.netset_entries.proofs.span.spans_of.Goals.{else-flags-place}
+use Rattle.netset_entries.proofs.span.spans_of.Goals.{then-flags-place+in-None, else-flags-place}
 
 pub loop-place-init : goal.loop-place-init
 loop-place-init c =

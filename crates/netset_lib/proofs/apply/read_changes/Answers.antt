@@ -3,7 +3,7 @@ use Rattle.ipnet.specs.NetworkOf.{ip_network}
 use Rattle.ipnet_sets.specs.Members.{IsMember}
 use Rattle.ipnet_lists.proofs.ContentLaws.{list_taken}
 use Rattle.netset_lib.specs.ApplySteps.{AddsPart, AreParts, parts_of}
-use Rattle.netset_lib.specs.ChangeLists.{IsAnswerNetwork, IsFittingChange, IsChangeCause}
+use Rattle.netset_lib.specs.ChangeLists.{IsAnswerNetwork, IsFittingChange, IsChangeLineCause}
 use Rattle.netset_lib.specs.Changes.{ListChange}
 use Rattle.netset_lib.proofs.ApplyLaws.{no_parts, parts_more}
 use Rattle.netset_lib.proofs.apply.read_changes.Goals as goal
@@ -13,7 +13,8 @@ returns c =
     let grammar = c.args.grammar in
     let Has = IsAnswerNetwork (IsMember c.args.set.now) in
     let (refusals, taken, kept) = c.in_ok-refused.ensures in
-    let (changes, read, are) = list_taken (λ line. IsFittingChange grammar Has line.text) (IsChangeCause grammar Has)
+    let (changes, read, are) = list_taken (λ line. IsFittingChange grammar Has line.text)
+    (IsChangeLineCause grammar Has)
     (λ line old new. (change : ListChange) × IsFittingChange grammar Has line.text change
     × AddsPart change (parts_of old) (parts_of new))
     (λ parts changes. AreParts changes (parts_of parts))

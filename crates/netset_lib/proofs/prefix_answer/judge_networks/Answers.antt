@@ -2,7 +2,7 @@ use Rattle.std.proofs.Common.{false, [], subst}
 use Rattle.ipnet_rules.specs.CompiledListOf.{rules_of}
 use Rattle.ipnet_rules.proofs.VerdictLaws.{any_nil}
 use Rattle.ipnet_lists.proofs.ContentLaws.{list_taken}
-use Rattle.netset_lib.specs.PrefixAnswers.{ListNetwork, IsListNetwork, IsNoListNetwork}
+use Rattle.netset_lib.specs.PrefixAnswers.{ListNetwork, IsListNetwork, IsNetworkLineCause}
 use Rattle.netset_lib.specs.PrefixReading.{AddsVerdict, AreVerdictsOn}
 use Rattle.netset_lib.proofs.PrefixLaws.{verdict_added}
 use Rattle.netset_lib.proofs.prefix_answer.judge_networks.Goals as goal
@@ -16,7 +16,7 @@ returns c =
       denied = (λ no. absurd cc, λ one. absurd (any_nil _ one));
     } in
     let (refusals, taken, kept) = c.in_ok-refused.ensures in
-    let (networks, read, are) = list_taken (λ line. IsListNetwork grammar line.text) (IsNoListNetwork grammar)
+    let (networks, read, are) = list_taken (λ line. IsListNetwork grammar line.text) (IsNetworkLineCause grammar)
     (λ line old new. (n : ListNetwork) × IsListNetwork grammar line.text n × AddsVerdict rules n old new)
     (AreVerdictsOn rules)
     (λ line old new (n, is, adds). (n, is, λ networks h. verdict_added rules n old new networks adds h))

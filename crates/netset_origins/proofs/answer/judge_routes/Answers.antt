@@ -2,7 +2,7 @@ use Rattle.std.proofs.Common.{false, [], arith}
 use Rattle.ipnet_lists.proofs.ContentLaws.{list_taken}
 use Rattle.ipnet_origins.specs.OriginsOf.{payloads_of}
 use Rattle.netset_origins.specs.OriginSteps.{AddsRoute, AreAnswersBy}
-use Rattle.netset_origins.specs.RouteLines.{ListRoute, IsRouteText, IsRouteCause}
+use Rattle.netset_origins.specs.RouteLines.{ListRoute, IsRouteText, IsRouteLineCause}
 use Rattle.netset_origins.proofs.AnswerLaws.{route_added, answers_same}
 use Rattle.netset_origins.proofs.answer.judge_routes.Goals as goal
 
@@ -15,7 +15,8 @@ returns c =
       invalid = (λ no. absurd cc, λ (i, r, l, e, h). absurd (omega (arith, l)));
     } in
     let (refusals, taken, kept) = c.in_ok-refused.ensures in
-    let (routes, read, are) = list_taken (λ line. IsRouteText request.grammar line.text) (IsRouteCause request.grammar)
+    let (routes, read, are) = list_taken (λ line. IsRouteText request.grammar line.text)
+    (IsRouteLineCause request.grammar)
     (λ line old new. (r : ListRoute) × IsRouteText request.grammar line.text r × AddsRoute vrps request r old new)
     (AreAnswersBy vrps request)
     (λ line old new (r, is, adds). (r, is, λ routes h. route_added vrps request r old new routes adds h))

@@ -2,7 +2,8 @@ use Rattle.std.proofs.Common.{◌≡◌, []}
 use Rattle.netset_words.specs.Items.{IsNextItem}
 use Rattle.netset_words.specs.Words.{words_of}
 use Rattle.netset_words.specs.WordSteps.{item_of}
-use Rattle.netset_words.proofs.ItemLaws.{item_more, all_items, match_none}
+use Rattle.netset_words.proofs.Cases.{match_none}
+use Rattle.netset_words.proofs.ItemLaws.{item_more, all_items}
 use Rattle.netset_words.proofs.line_items.read_items.Goals as goal
 
 pub items-preserved : goal.items-preserved

@@ -4,7 +4,7 @@ use Rattle.ipnet_lists.specs.EntryOf.{entry_range}
 use Rattle.netset_words.specs.LogEntries.{IsNoEntryWord}
 use Rattle.netset_words.specs.LogSteps.{IsNextLogEntry}
 use Rattle.netset_words.specs.Words.{words_of}
-use Rattle.netset_words.proofs.ItemLaws.{match_none}
+use Rattle.netset_words.proofs.Cases.{match_none}
 use Rattle.netset_words.proofs.LogEntryLaws.{not_true, not_false}
 use Rattle.netset_words.proofs.LogLaws.{chosen_now, other_now, judged_more, judged_all, none_judged}
 use Rattle.netset_words.proofs.log_line.verdict_on.Goals as goal
@@ -51,5 +51,5 @@ returns c =
     let rest = c.entries.rest.now in
     judged_all c.args.request (IsMember c.args.set.now) c.args.text.now rest c.entries.verdict c.entries.invariant
     (match_none c.next_log_entry.result (All (IsNoEntryWord c.args.request.grammar) (words_of rest))
-    (λ e. IsNextLogEntry c.args.request.grammar rest (entry_range e.entry) e.after.now)
+    (λ e. IsNextLogEntry c.args.request rest (entry_range e.entry) e.after.now)
     c.next_log_entry.ensures.entry c.in_default.not-Some)

@@ -1,7 +1,7 @@
 use Rattle.std.proofs.Common.{◌≡◌, map, ap, ap₂}
 use Rattle.ipnet_lists.proofs.ContentLaws.{list_taken}
 use Rattle.netset_lib.specs.RuleContentsOf.{contents_of, line_of_rule}
-use Rattle.netset_lib.specs.RuleLines.{IsRuleOfLine, IsRefusedRule, contents_of_rules}
+use Rattle.netset_lib.specs.RuleLines.{IsRuleOfLine, IsRuleLineCause, contents_of_rules}
 use Rattle.netset_lib.specs.RuleSteps.{AddsRule}
 use Rattle.netset_lib.proofs.RuleLaws.{rule_added}
 use Rattle.netset_lib.proofs.rule_list.RuleList.from_bytes.Goals as goal
@@ -10,7 +10,7 @@ pub returns : goal.returns
 returns c =
     let grammar = c.args.grammar in
     let (refusals, taken, kept) = c.in_ok-refused.ensures in
-    let (items, read, is) = list_taken (IsRuleOfLine grammar) (IsRefusedRule grammar)
+    let (items, read, is) = list_taken (IsRuleOfLine grammar) (IsRuleLineCause grammar)
     (λ line old new. AddsRule grammar line (contents_of old) (contents_of new))
     (λ list items. contents_of list ≡ contents_of_rules items)
     (λ line old new. rule_added grammar line (contents_of old) (contents_of new)) c.args.bytes.now _ _ refusals

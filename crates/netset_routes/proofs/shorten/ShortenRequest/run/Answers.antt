@@ -1,7 +1,9 @@
 -- The table is read from the bytes, and the text is of this table.
-use Rattle.std.proofs.Common.{refl, inl, inr}
-use Rattle.std.proofs.KnownBytes.{Keeps-refl}
-use Rattle.netset_routes.proofs.RefusedLaws.{not_both}
+use Rattle.std.proofs.Common.{◌≡◌, true, false, refl, subst, inl, inr, arith}
+use Rattle.std.proofs.KnownBytes.{Keeps-refl, Keeps-trans}
+use Rattle.ipnet_text.specs.Outputs.{IsFrontWritten}
+use Rattle.netset_lib.specs.Reports.{failure_words, words_line}
+use Rattle.netset_routes.proofs.RefusedLaws.{kept_front, not_both}
 use Rattle.netset_routes.proofs.shorten.ShortenRequest.run.Goals as goal
 
 pub returns-in-Some-clause-answered : goal.returns-in-Some-clause-answered
@@ -35,3 +37,44 @@ returns-in-Some-clause-cut_short g c two = elim (c.run_text.ensures.cut_short tw
 
 pub returns-in-None-clause-cut_short : goal.returns-in-None-clause-cut_short
 returns-in-None-clause-cut_short g c two = inl (Keeps-refl (g.W.Write.contents c.args.out.now))
+
+pub returns-in-Some-clause-never_one : goal.returns-in-Some-clause-never_one
+returns-in-Some-clause-never_one g c one = elim (c.run_text.ensures.other one) [
+  | inl (written, success, kept) ↦ let clash : false ≡ true = success in absurd cc
+  | inr (kept, (failure, is, exit, begun)) ↦ absurd (omega (arith, exit))
+]
+
+pub returns-in-Some-clause-faultless : goal.returns-in-Some-clause-faultless
+returns-in-Some-clause-faultless g c zero =
+    Keeps-trans (g.X.Write.contents c.args.faults.now) (g.X.Write.contents c.table_or_report.new.faults)
+    (g.X.Write.contents c.run_text.new.faults) c.in-Some.ensures.faultless (c.run_text.ensures.faultless zero)
+
+pub returns-in-Some-clause-reported : goal.returns-in-Some-clause-reported
+returns-in-Some-clause-reported g c two =
+    let before = g.X.Write.contents c.args.faults.now in
+    let now = g.X.Write.contents c.table_or_report.new.faults in
+    let after = g.X.Write.contents c.run_text.new.faults in
+    let silent = c.in-Some.ensures.faultless in
+    elim (c.run_text.ensures.cut_short two) [
+      | inl (kept, (failure, is, exit, begun)) ↦
+          inr (inl (
+            kept,
+            kept_front _ before now after silent
+                (subst (λ f. IsFrontWritten (λ t. t ≡ words_line (failure_words f)) now after) is begun),
+          ))
+      | inr (begun, report) ↦
+          inr (inr (
+            record {
+              text = begun.text;
+              right = record { table = c.in-Some.table; read = c.in-Some.ensures.table; shortened = begun.right };
+              front = begun.front;
+              begins = begun.begins;
+              written = begun.written;
+            },
+            kept_front _ before now after silent report,
+          ))
+    ]
+
+pub returns-in-None-clause-reported : goal.returns-in-None-clause-reported
+returns-in-None-clause-reported g c two =
+    inl (Keeps-refl (g.W.Write.contents c.args.out.now), c.in-None.ensures.reported refl)

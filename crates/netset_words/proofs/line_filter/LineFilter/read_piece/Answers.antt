@@ -1,6 +1,6 @@
 use Rattle.std.proofs.Common.{refl, length}
 use Rattle.memchr.specs.Find.{NoneBefore, Nowhere, Passes, is_byte}
-use Rattle.netset_words.proofs.ItemLaws.{match_none}
+use Rattle.netset_words.proofs.Cases.{match_none}
 use Rattle.netset_words.proofs.LogBytes.{piece_goes, piece_ends}
 use Rattle.netset_words.proofs.line_filter.LineFilter.read_piece.Goals as goal
 

@@ -6,7 +6,7 @@ use Rattle.netset_words.specs.declared.refused_word.WordCause.TheVariants.{NulBy
 use Rattle.netset_words.specs.Extracts.{mask_refusals}
 use Rattle.netset_words.specs.Items.{mask_texts}
 use Rattle.netset_words.proofs.ExtractLaws.{nul_line, word_line}
-use Rattle.netset_words.proofs.ItemLaws.{match_some, match_none}
+use Rattle.netset_words.proofs.Cases.{match_some, match_none}
 use Rattle.netset_words.proofs.word_reader.WordReader.read_line.Goals as goal
 
 pub returns-then-has_byte : goal.returns-then-has_byte

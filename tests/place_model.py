@@ -1,0 +1,98 @@
+"""A plain model of the words of a line and of the entries in them, written from Words.antt and Places.antt in
+crates/netset_words/specs. A module, not a script."""
+import re
+from ipaddress import IPv4Address
+
+from entry_model import address_of, is_entry
+
+# The bytes that cut words, as characters: the model takes each byte as one character.
+CUTS = "\0\t\n\v\f\r \"#%&'(),;<=>?[\\]`{|}"
+NAME = "[A-Za-z][A-Za-z0-9+._-]*"
+
+
+def words_of(line):
+    """The words of the line, as triples of the bytes before a word, the word, and the bytes between it and the next."""
+    parts = re.split("([" + re.escape(CUTS) + "]+)", line)
+    gaps, texts = [""] + parts[1::2], parts[0::2]
+    if texts and not texts[-1]:
+        gaps, texts = gaps[:-1], texts[:-1]
+    words = [(gap, text) for gap, text in zip(gaps, texts) if text]
+    if parts and not parts[0] and words:
+        words[0] = (parts[1], words[0][1])
+    return [(gap, text, words[at + 1][0] if at + 1 < len(words) else "") for at, (gap, text) in enumerate(words)]
+
+
+class Places:
+    """The entries in words, in one grammar."""
+
+    def __init__(self, legacy):
+        self.legacy = legacy
+
+    def address(self, text):
+        return text if address_of(text, self.legacy) else None
+
+    def ipv4(self, text):
+        found = address_of(text, self.legacy)
+        return text if found and found[0] == 4 else None
+
+    def part(self, pattern, text):
+        """The address that is the group of the pattern."""
+        parts = re.fullmatch(pattern, text, re.DOTALL)
+        return self.address(parts[1]) if parts else None
+
+    def before_port(self, text, sign):
+        """An address before the first sign, if only digits follow."""
+        return self.part("([^{0}]*){0}[0-9]+".format(sign), text)
+
+    def before_last_port(self, text):
+        return self.part("(.*):[0-9]+", text)
+
+    def before_colon(self, text):
+        front, sign, _ = text.partition(":")
+        return self.ipv4(front) if sign else None
+
+    def host(self, text):
+        return (self.address(text) or self.ipv4(re.match("[^:/]*", text)[0]) or self.before_port(text, "/")
+                or self.before_last_port(text))
+
+    def at_user(self, text):
+        return self.host(text.partition("@")[2]) or self.before_port(text, "@") if "@" in text else None
+
+    def at_slash(self, text, after):
+        front, sign, back = text.partition("/")
+        if self.before_port(text, "/") or not sign:
+            return self.before_port(text, "/")
+        if back.startswith("/"):
+            return self.host(back[1:])
+        if not front:
+            return self.host(back)
+        if not re.fullmatch(NAME, front):
+            return None
+        return self.before_colon(back) or (self.host(back) if set("._") & set(front) or after == "(" else None)
+
+    def at_colon(self, text):
+        front, sign, back = text.partition(":")
+        if not sign or not re.fullmatch(NAME, front):
+            return self.before_colon(text)
+        return self.host(back)
+
+    def at_dot(self, before, word, text, after):
+        """An address and a port as tcpdump prints them."""
+        is_end = after == " > " or before == " > " and word.endswith(":")
+        return self.part(r"(.*)\.[^.]*", text) if is_end else None
+
+    def in_word(self, before, word, after):
+        """The text of the entry in the word, or None."""
+        text = word[:-1] if word.endswith(":") else word.rstrip(".-")
+        for whole in (word, text):
+            if is_entry(whole, self.legacy):
+                return whole
+        return (self.at_user(text) or self.at_slash(text, after) or self.at_colon(text)
+                or self.before_last_port(text) or self.at_dot(before, word, text, after))
+
+
+def unmapped(text, legacy):
+    """The text of the IPv4 address, if the text is its IPv4-mapped address, or else the text."""
+    found = address_of(text, legacy)
+    is_mapped = found and found[0] == 6 and found[1] >> 32 == 0xffff
+    return str(IPv4Address(found[1] & 0xffffffff)) if is_mapped else text
