@@ -179,7 +179,7 @@ fn end_noted(
 
 /// The request with these entries.
 fn with_entries<'a>(request: MapRequest<'a>, entries: &'a TitledEntries) -> MapRequest<'a>
-    ensures { result.frame ≡ request.frame }
+    ensures { result.frame ≡ request.entry.frame }
 {
     let MapRequest { frame, look } = request;
     let look = Look {
