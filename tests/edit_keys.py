@@ -1,7 +1,8 @@
 """Which crates' edits need not be tried: they were all tried with the same key, and passed.
 
 The key of a crate is a hash of all that the verdicts on its edits depend on: the kit, the texts of the crate and of
-every crate below it, their lines of crates.txt, the edits, and the scripts that judge. The file tests/tried_edits.txt
+every crate below it, their lines of crates.txt, the edits, and the scripts that judge. A line of a source, definition
+or proof that has only a comment does not count: the prover does not read comments. The file tests/tried_edits.txt
 has a section for each kit, the newest last. A line has a crate, its key, and how many edits and controls passed.
 `tests/wrong_bodies` writes the line of a crate when all of its edits have passed in one run. Nothing else writes lines.
 
@@ -12,6 +13,7 @@ import fcntl
 import hashlib
 import os
 import random
+import re
 import subprocess
 
 from crates import below
@@ -25,6 +27,10 @@ HEAD = """# The crates whose wrong bodies were all tried and refused: crate, key
 SOURCES = ("src", "specs", "proofs")
 JUDGES = ("crates.py", "edit_batches.py", "edit_copies.py", "edit_files.py", "edit_keys.py", "edit_rooms.py",
           "edit_trials.py", "edit_verdicts.py")
+# what begins a comment in a source, and in a definition or proof
+COMMENT_MARKS = {".rt": b"//", ".antt": b"--"}
+# what is in a string or is a character, and does not end a string
+IN_STRINGS = re.compile(rb"""\\\\|\\"|'"'""")
 # how many edits of crates that are not tried a commit draws
 DRAWN = 20
 
@@ -59,12 +65,25 @@ class Keys:
         return self.sums[crate, folders]
 
     def sum_of(self, paths):
-        """The sum of the names and contents of these files."""
+        """The sum of the names and contents of these files, without comments."""
         total = hashlib.sha256()
         for path in paths:
             with open(os.path.join(TOP, path), "rb") as file:
-                total.update(("%s %s\n" % (path, hashlib.sha256(file.read()).hexdigest())).encode())
+                text = read_by_prover(path, file.read())
+            total.update(("%s %s\n" % (path, hashlib.sha256(text).hexdigest())).encode())
         return total.hexdigest()
+
+
+def read_by_prover(path, text):
+    """The text of the file without the lines that have only a comment.
+
+    If a string can go on in the next line, what looks like a comment there can be a part of it, and all lines count.
+    """
+    mark = COMMENT_MARKS.get(os.path.splitext(path)[1])
+    if mark is None:
+        return text
+    lines = [line for line in text.split(b"\n") if not line.lstrip().startswith(mark)]
+    return text if any(IN_STRINGS.sub(b"", line).count(b'"') % 2 for line in lines) else b"\n".join(lines)
 
 
 def counts_of(crate):

@@ -41,6 +41,12 @@ keep_line("high", %r, keys, listed())
 CASES = [
     ("nothing", {}, []),
     ("a source", {"crates/high/src/lib.rt": "\n"}, ["high"]),
+    ("a comment in a source", {"crates/high/src/lib.rt": "// four\n  /// five\n"}, []),
+    ("a comment in a definition and a proof of a crate below",
+     {"crates/low/specs/Lib.antt": "-- four\n", "crates/low/proofs/f/Answers.antt": "  -- five\n"}, []),
+    ("a comment behind a definition", {"crates/high/specs/Lib.antt": "four -- five\n"}, ["high"]),
+    ("the mark of another kind of file", {"crates/high/src/lib.rt": "-- four\n"}, ["high"]),
+    ("what looks like a comment in a string", {"crates/high/src/lib.rt": "\"\\\n// four\n\"\n"}, ["high"]),
     ("a new source", {"crates/high/src/new.rt": "\n"}, ["high"]),
     ("a definition", {"crates/high/specs/Lib.antt": "\n"}, ["high"]),
     ("a proof", {"crates/high/proofs/f/Answers.antt": "\n"}, ["high"]),

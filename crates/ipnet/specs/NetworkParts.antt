@@ -41,7 +41,8 @@ pub record IsSubnetOfLength (n : Network) (prefix_len : ℕ) (k : Network) : Typ
 
 -- The list is all subnets of `n` with this prefix length, ascending. They are disjoint, 2^(prefix_len - n.prefix_len)
 -- in number, and the maximal blocks of `n` under that minimum prefix length.
--- Example: 10.0.0.0/26, 10.0.0.64/26, 10.0.0.128/26, 10.0.0.192/26 for 10.0.0.0/24 and 26.
+-- Example: 10.0.0.0/26, 10.0.0.64/26, 10.0.0.128/26, 10.0.0.192/26 for 10.0.0.0/24 and 26. For 10.0.0.0/24 and 16, or
+-- 33, there is no such list.
 pub record AreSubnetsOfLength (n : Network) (prefix_len : ℕ) (networks : List Network) : Type 0 where
   pub ascending : IsAscending networks
   pub members : (k : Network) → Contains networks k ↔ IsSubnetOfLength n prefix_len k

@@ -36,7 +36,7 @@ pub record IsIpv6NetworkText (grammar : Grammar) (text : List ℕ) (network : Ne
   pub number : network.number ≡ from_be_bytes w128 (octets_of groups)
 
 -- The text denotes this network, of either family.
--- Example: `10.0.0.0/8` and `fd00::/8`.
+-- Example: `10.0.0.0/8` and `fd00::/8` in both grammars; `010.0.0.0/8` only in the legacy grammar.
 abbrev pub IsNetworkText : Grammar → List ℕ → Network → Type 0
 IsNetworkText grammar text network =
     IsIpv4NetworkText grammar text network ⊎ IsIpv6NetworkText grammar text network

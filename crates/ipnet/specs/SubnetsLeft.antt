@@ -40,7 +40,8 @@ pub record IsWalkOf (range : SubnetRange) (networks : List Network) : Type 0 whe
 -- One call of `next` on a walk. `network_of` is the network that an item represents, `range_of` the range of a walk,
 -- and `left` the networks that it still yields. The trait promises that the first of them is returned; this adds the
 -- rest.
--- Example: on the walk above the first call returns 10.0.0.0/25, and leaves 10.0.0.128 to 10.0.0.239 with minimum 0.
+-- Example: on the walk over 10.0.0.0 to 10.0.0.239 with minimum 0, the first call returns 10.0.0.0/25. It leaves
+-- 10.0.0.128 to 10.0.0.239 with minimum 0.
 pub record IsSubnetStep {S A : Type 0} (network_of : A → Network) (range_of : S → SubnetRange) (left : S → List Network)
     (old : S) (answer : Option A) (new : S) : Type 0 where
   -- The standard library requires this of each `next`: the list gets shorter. A `for` loop uses its fields `on`,
@@ -54,14 +55,15 @@ pub record IsSubnetStep {S A : Type 0} (network_of : A → Network) (range_of : 
   -- The stored ends after the call.
   pub advanced : IfSome answer (λ n. (x : Address) → IsGreatestOf (network_of n) x
       → IsAdvancedPast x.number (range_of old) (range_of new))
-  -- the list before the call is the walk over the range before, and the list after it the walk over the range after
+  -- The list before the call is the walk over the range before, and the list after it the walk over the range after.
   pub walk : IsWalkOf (range_of old) (left old)
   pub rest : IsWalkOf (range_of new) (left new)
-  -- `None` is returned if and only if the start is above the end, and then nothing changes
+  -- `None` is returned if and only if the start is above the end, and then nothing changes.
   pub over : IsNone answer ↔ ((range_of old).end < (range_of old).start)
   pub unchanged : IfNone answer (new ≡ old)
 
--- The range that an `Ipv4Subnets` stores.
+-- The range that an `Ipv4Subnets` stores: the addresses that are left to walk over, and the minimum prefix length.
+-- Example: the walk over the subnets of 10.0.0.0/24 with length 26 begins with 10.0.0.0 to 10.0.0.255 and 26.
 abbrev pub ipv4_subnet_range : Ipv4Subnets → SubnetRange
 ipv4_subnet_range s = ipv4_range_of s.start s.end s.min_prefix_len
 
@@ -74,9 +76,11 @@ abbrev pub ip_subnet_range : IpSubnets → SubnetRange
 ip_subnet_range (Ip.V4 s) = ipv4_subnet_range s
 ip_subnet_range (Ip.V6 s) = ipv6_subnet_range s
 
--- The networks that an `Ipv4Subnets` still yields: the one list of maximal blocks of its range. It is taken from the
--- proof that this list exists, so all that is known of it is `IsWalkOf`, which the laws in `subnets::walk_laws` state.
--- Example: after 10.0.0.0/25 the walk above still yields 10.0.0.128/26, 10.0.0.192/27, 10.0.0.224/28.
+-- The networks that an `Ipv4Subnets` still yields: the one list of maximal blocks of its range. `blocks_exist` proves
+-- that there is such a list, and `.0` is the list itself. All that is known of it is `IsWalkOf`, which the laws in
+-- `subnets::walk_laws` state.
+-- Example: after 10.0.0.0/25 the walk over 10.0.0.0 to 10.0.0.239 still yields 10.0.0.128/26, 10.0.0.192/27,
+-- 10.0.0.224/28.
 unfoldable pub ipv4_subnets_left : Ipv4Subnets → List Network
 ipv4_subnets_left s = (blocks_exist IPv4 s.start s.end s.min_prefix_len s.end_fits s.min_prefix_fits).0
 

@@ -74,29 +74,32 @@ IsAggregateOf answer networks = AreMaximalBlocks (IsCoveredBy networks) 0 answer
 
 -- The aggregate, and the facts that follow for every list of networks. This is the contract of `aggregate`; a proof
 -- uses each fact by its field name.
+-- In the examples, `networks` is 10.0.0.128/25, 10.0.0.9/25, and `answer` is 10.0.0.0/24.
 pub record IsCanonicalAggregateOf (answer networks : List Network) : Type 0 where
   -- It is the maximal blocks of the addresses that the list covers, ascending, each once.
   pub aggregate : IsAggregateOf answer networks
-  -- each of its networks is an address of its family with a prefix that is no longer, and has no host bit
+  -- Each of its networks has an address of its family, a prefix length of at most the width, and no host bit.
   pub valid : All IsNetwork answer
   pub truncated : All IsTruncated answer
-  -- each comes before all later ones
+  -- Each of its networks comes before all later ones.
   pub ascending : IsAscending answer
-  -- it covers the same addresses as the list
+  -- It covers the same addresses as the list. Example: 10.0.0.0 to 10.0.0.255.
   pub addresses : HaveSameCover answer networks
   -- No two of its networks share an address.
   pub disjoint : ArePairwiseDisjoint answer
   -- No list that covers exactly these addresses is shorter. One of the same length is the aggregate, once truncated and
   -- sorted.
   pub shortest : IsShortestCover (IsCoveredBy networks) 0 answer
-  -- It has at most as many networks as the list.
+  -- It has at most as many networks as the list. Example: one, and the list has two.
   pub no_longer : length answer ≤ length networks
   -- The list has no other aggregate.
   pub only : (other : List Network) → IsAggregateOf other networks → other ≡ answer
-  -- It is the aggregate of another list if and only if that list covers the same addresses.
+  -- It is the aggregate of another list of networks if and only if that list covers the same addresses.
+  -- Example: it is the aggregate of 10.0.0.0/26, 10.0.0.64/26, 10.0.0.128/25, and not of 10.0.0.0/25.
   pub canonical : (others : List Network) → All IsNetwork others
       → IsAggregateOf answer others ↔ HaveSameCover others networks
-  -- The order, repeats and host bits of the list do not matter.
+  -- The order, repeats and host bits of the list do not matter. It is the aggregate of every list that has the same
+  -- networks, once truncated. Example: 10.0.0.0/25, 10.0.0.200/25, 10.0.0.0/25.
   pub unordered : (others : List Network)
       → ((n : Network) → Contains (map truncation others) n ↔ Contains (map truncation networks) n)
       → IsAggregateOf answer others

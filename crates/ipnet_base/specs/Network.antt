@@ -53,7 +53,8 @@ IsSubnetOf n k = (x : Address) → InBlock n x → InBlock k x
 abbrev pub HaveSameBlock : Network → Network → Type 0
 HaveSameBlock n k = IsSubnetOf n k × IsSubnetOf k n
 
--- The two blocks have no address in common. Example: 192.168.0.0/24 and 192.168.1.0/24; or networks of two families.
+-- The two blocks have no address in common. Read: if an address is in both blocks, that is impossible (`⊥`).
+-- Example: 192.168.0.0/24 and 192.168.1.0/24; or networks of two families.
 abbrev pub AreDisjoint : Network → Network → Type 0
 AreDisjoint n k = (x : Address) → InBlock n x → InBlock k x → ⊥
 

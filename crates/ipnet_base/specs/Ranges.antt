@@ -71,7 +71,7 @@ pub record IsNthBack (n : ℕ) (old : AddressRange) (answer : Option Address) (n
 pub record IsRangeStep {R A : Type 0} (address_of : A → Address) (range_of : R → AddressRange) (old : R)
     (answer : Option A) (new : R) : Type 0 where
   -- The standard library requires this of each `next`: fewer addresses are left. A `for` loop uses its fields `on`,
-  -- `keeps` and `rests`.
+  -- `keeps` and `rests`. Example: at most 4 are left of 10.0.0.0 to 10.0.0.3, and at most 3 after the call.
   pub progress : MakesProgress (λ _. ⊤) (λ r. at_most (address_count (range_of r))) old answer new
   pub open progress use *
   pub ends : IsNext (range_of old) (option_map address_of answer) (range_of new)
@@ -80,7 +80,7 @@ pub record IsRangeStep {R A : Type 0} (address_of : A → Address) (range_of : R
 -- Example: from 10.0.0.0 to 10.0.0.3, `next_back` returns 10.0.0.3 and leaves the ends 10.0.0.0 and 10.0.0.2.
 pub record IsRangeStepBack {R A : Type 0} (address_of : A → Address) (range_of : R → AddressRange) (old : R)
     (answer : Option A) (new : R) : Type 0 where
-  -- Fewer addresses are left after each item.
+  -- Fewer addresses are left after each item, as for `next`.
   pub progress : MakesProgress (λ _. ⊤) (λ r. at_most (address_count (range_of r))) old answer new
   pub open progress use *
   pub ends : IsNextBack (range_of old) (option_map address_of answer) (range_of new)

@@ -12,7 +12,7 @@ pub record StartsAt (family : Family) (start end min_prefix_len : ℕ) (n : Netw
   pub of_family : n.family ≡ family
   pub at_start : n.number ≡ start
 
--- The largest of these networks: the one with the shortest prefix. It is the next network of a walk.
+-- The largest network that `StartsAt` allows here: the one with the shortest prefix. It is the next network of a walk.
 -- Example: from 10.0.0.0 to 10.0.0.239 it is 10.0.0.0/25 with minimum 0, and 10.0.0.0/26 with minimum 26.
 pub record IsLargestSubnetAt (family : Family) (start end min_prefix_len : ℕ) (n : Network) : Type 0 where
   pub candidate : StartsAt family start end min_prefix_len n

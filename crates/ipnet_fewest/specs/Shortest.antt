@@ -1,5 +1,4 @@
--- Tables that route alike, and those with the fewest routes (Draves, King, Venkatachary, Zill: "Constructing optimal IP
--- routing tables", INFOCOM 1999).
+-- Tables that route alike, and those with the fewest routes.
 -- `IsSame` says which values are the same. It is an equivalence, such as `AreEqualBy`.
 -- In the examples, the table is 10.0.0.0/8 with 1, 10.0.0.0/10 with 2, 10.64.0.0/10 with 2, 10.128.0.0/9 with 2.
 use Rattle.std.specs.Prelude.{◌≡◌, ◌≤◌, ◌↔◌, List, length, All}
@@ -28,8 +27,9 @@ abbrev pub RouteAlike : {V : Type 0} → (V → V → Type 0) → List (Route V)
 RouteAlike {V} IsSame routes others =
     (x : Address) (v : V) → HasValue IsSame routes x v ↔ HasValue IsSame others x v
 
--- Each address has the same value in both lists, or no value in both. No list of routes of which this is true has fewer
--- routes.
+-- Each address has the same value in both lists, or no value in both. No list of routes of valid networks of which this
+-- is true has fewer routes. The definition does not say that the networks of the list are valid. The networks of a
+-- `RouteTable` are.
 -- Example: the shortest list for the table is 10.0.0.0/8 with 2.
 pub record IsShortest {V : Type 0} (IsSame : V → V → Type 0) (given shortest : List (Route V)) : Type 0 where
   pub alike : RouteAlike IsSame given shortest

@@ -24,8 +24,10 @@ HasNoMatch routes x = (r : Route ℕ) → Contains routes r → InBlock r.0 x �
 abbrev pub IsRouted : List (Route ℕ) → ℕ → Address → ℕ → Type 0
 IsRouted routes other x v = HasValue IsSameNumber routes x v ⊎ (HasNoMatch routes x × (other ≡ v))
 
--- Each value that the first routes give an address of the block is given by the wanted routes too. An address without
--- a match has the value beside the list.
+-- A router with the first table forwards each packet for an address of the block as one with the wanted table does. An
+-- address without a match has the value beside its table: the next hop of a default route, or 0 for none.
+-- Example: in 10.0.0.0/8, the table 10.0.0.0/9 with 2, and 1 for all else, routes as the table 10.128.0.0/9 with 1, and
+-- 2 for all else.
 abbrev pub RoutesAs : Network → List (Route ℕ) → ℕ → List (Route ℕ) → ℕ → Type 0
 RoutesAs block routes other wanted value = (x : Address) → InBlock block x → (v : ℕ) → IsRouted routes other x v
     → IsRouted wanted value x v

@@ -97,8 +97,9 @@ pub record HasPayloadsOf (bytes : List ℕ) (vrps : List Payload) : Type 0 where
   pub image_of : IsOriginImageOf bytes stored
   pub same : IsPermutation stored vrps
 
--- The error is the reason why the bytes are not the image of a table. The reasons are tried in this order, so each
--- error occurs exactly if its condition holds and none before it does. Memory runs out only for an image.
+-- The error is the reason why the bytes give no table. If they are not an image, it is the first of the reasons before
+-- `Memory` whose condition holds. If they are an image, it is `Memory`; when memory runs out is not specified.
+-- Example: `Magic` for 56 bytes of 0.
 abbrev pub IsOriginRefusal : OriginImageError → List ℕ → Type 0
 IsOriginRefusal TooShort bytes = ¬ (HasOriginsRoom bytes)
 IsOriginRefusal Magic bytes = HasOriginsRoom bytes × ¬ (HasOriginsMagic bytes)

@@ -1,7 +1,8 @@
--- Validation of the origin of a route by validated ROA payloads (VRPs): RFC 6811, section 2; RFC 6483, section 4;
--- RFC 7607. A route has a network and an origin, the AS number that announced it. If the path is empty, or ends with a
--- segment of a confederation, the origin is the speaker's own AS number. The origin `None` is the value "NONE" of RFC
--- 6811: the path ends with a set of AS numbers, so no single AS is the origin.
+-- Validation of the origin of a route by validated ROA payloads (VRPs): RFC 6811, section 2; RFC 6483, section 4; and
+-- what follows from RFC 7607: no VRP matches a route of AS 0. A route has a network and an origin, the AS number that
+-- announced it. If the path is empty, or ends with a segment of a confederation, the origin is the speaker's own AS
+-- number. The origin `None` is the value "NONE" of RFC 6811: the path ends with a set of AS numbers, so no single AS is
+-- the origin.
 use Rattle.std.specs.Prelude.{◌≡◌, ◌≢◌, ◌⊎◌, ℕ, ◌<◌, ◌≤◌, Option, Some, List, ◌++◌, All, Any, AllPairs, IsPermutation}
 use Rattle.ipnet_base.specs.Network.{Network, InBlock}
 use Rattle.ipnet.specs.NetworkOf.{ip_network}

@@ -1,4 +1,5 @@
--- The free addresses of a pool, as its private steps see them. Only private contracts cite these.
+-- The free addresses of a pool, as its private steps see them. `PoolOf` uses `IsIn`. Only private contracts use the
+-- others.
 use Rattle.std.specs.Prelude.{◌↔◌, ◌⊎◌}
 use Rattle.ipnet_base.specs.Address.{Address}
 use Rattle.ipnet_base.specs.Network.{Network, InBlock}
@@ -7,7 +8,7 @@ use Rattle.ipnet_pools.specs.BlocksOf.{blocks_of}
 use Rattle.ipnet_pools.specs.Fits.{Without}
 use Rattle.ipnet_pools.specs.declared.free.FreeBlocks.{FreeBlocks}
 
--- the address is free
+-- The address is free: it lies in one of the free blocks. Example: 10.0.0.9 lies in the free block 10.0.0.0/26.
 abbrev pub IsIn : FreeBlocks → Address → Type 0
 IsIn free = IsCoveredBy (blocks_of free.blocks)
 

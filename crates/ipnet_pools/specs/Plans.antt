@@ -6,18 +6,19 @@ use Rattle.ipnet_base.specs.Blocks.{IsInside, ArePairwiseDisjoint}
 use Rattle.ipnet_pools.specs.Fits.{WithoutAll}
 use Rattle.ipnet_pools.specs.Placements.{Request, request_of, CanPlace}
 
--- a request of the family for each of the prefix lengths
+-- A request of the family for each of the prefix lengths. Example: a /26 and a /25 of IPv4 for the lengths 26 and 25.
 abbrev pub requests_of : Family → List ℕ → List Request
 requests_of family lengths = map (λ p. (family, p)) lengths
 
--- networks of the family in the set, one for each prefix length and in the order of the lengths
+-- Networks of the family in the set, one for each prefix length and in the order of the lengths.
+-- Example: 10.0.0.0/26, 10.0.0.128/25, 10.0.0.64/27 for the lengths 26, 25 and 27 in 10.0.0.0/24.
 pub record IsPlan (InSet : Address → Type 0) (family : Family) (lengths : List ℕ) (networks : List Network)
     : Type 0 where
-  -- each network has its prefix length
+  -- Each network has its prefix length.
   pub requested : map request_of networks ≡ requests_of family lengths
-  -- each network lies in the set, and has no host bits
+  -- Each network lies in the set, and has no host bits.
   pub inside : All (IsInside InSet 0) networks
-  -- no two of the networks share an address
+  -- No two of the networks share an address.
   pub disjoint : ArePairwiseDisjoint networks
 
 -- The networks keep room: whatever further requests can be placed in the set together with the lengths can still be

@@ -16,7 +16,8 @@ Route V = Network × V
 abbrev pub ip_route : {V : Type 0} → Bor (IpNet × V) → Route V
 ip_route r = (ip_network r.now.0, r.now.1)
 
--- The networks of the routes.
+-- The networks of the routes: the first part of each pair.
+-- Example: 10.0.0.0/8, 10.1.0.0/16 for 10.0.0.0/8 with 1, 10.1.0.0/16 with 2.
 abbrev pub networks_of : {V : Type 0} → List (Route V) → List Network
 networks_of routes = map (λ r. r.0) routes
 
@@ -56,7 +57,9 @@ pub record IsLongestMatch {V : Type 0} (routes : List (Route V)) (x : Address) (
   pub longest : (other : Route V) → Contains routes other → InBlock other.0 x
       → other.0.prefix_len ≤ route.0.prefix_len
 
--- the route of the longest network that contains the block of n
+-- The route with the longest prefix among the routes whose network contains all addresses of `n`.
+-- Example: among 0.0.0.0/0, 10.0.0.0/8 and 10.1.0.0/16 it is 10.1.0.0/16 for 10.1.0.0/16 and 10.1.2.0/24. It is
+-- 10.0.0.0/8 for 10.0.0.0/15, which has addresses outside 10.1.0.0/16.
 pub record IsLongestHolder {V : Type 0} (routes : List (Route V)) (n : Network) (route : Route V) : Type 0 where
   pub member : Contains routes route
   pub holds : IsSubnetOf n route.0

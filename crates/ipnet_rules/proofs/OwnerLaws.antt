@@ -10,7 +10,7 @@ use Rattle.ipnet_rules.specs.declared.cells.Piece.{Piece}
 use Rattle.ipnet_rules.specs.declared.rules.Rule.{Rule}
 use Rattle.ipnet_rules.specs.UnreachedRules.{MatchesAt, Decides, IsUnreached, AreDeciders}
 use Rattle.ipnet_rules.specs.Cells.{ArePieces, IsInCell, AreCutsOf, AreCuts, IsCutIn, ArePainted}
-use Rattle.ipnet_rules.specs.Cells.{AreOwnersBefore, AreCells, HasOwnersAdded}
+use Rattle.ipnet_rules.specs.Cells.{AreOwnersBefore, AreCells, AreInOrder, HasOwnersAdded}
 use Rattle.ipnet_rules.proofs.UnreachedLaws.{matches_at}
 
 -- a bit is not both
@@ -186,6 +186,10 @@ decider_of_cell f rules cells place d pieces h never are cell earlier within a i
             decides,
           )
     ]
+
+-- the cells of rules are in order
+pub in_order : (f : Family) (rules : List Rule) (cells : Cells) → AreCells f rules cells → AreInOrder cells
+in_order f rules cells h = record { cuts = h.cuts.ascending; owners = h.count; nexts = h.nexts }
 
 -- the deciders of an unreached rule are the owners of the cells in its pieces
 pub deciders_from_owners : (rules : List Rule) (ipv4 ipv6 : Cells) (place : ℕ) (d : Rule) (pieces more : List Piece)

@@ -125,6 +125,12 @@ pub record AreNexts (owners nexts : List ℕ) : Type 0 where
   pub same : (cell other : ℕ) → cell < length owners → cell ≤ other → other < slice_index nexts cell
       → slice_index owners other ≡ slice_index owners cell
 
+-- the cuts ascend, each cell has an owner, and its later cell is known
+pub record AreInOrder (cells : Cells) : Type 0 where
+  pub cuts : IsStrictlyIncreasing cells.cuts.items
+  pub owners : length cells.owners.items ≡ length cells.cuts.items
+  pub nexts : AreNexts cells.owners.items cells.nexts.items
+
 -- the cells of all rules
 pub record AreCells (f : Family) (rules : List Rule) (cells : Cells) : Type 0 where
   pub cuts : AreCuts f rules cells.cuts.items

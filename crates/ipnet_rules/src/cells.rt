@@ -6,7 +6,7 @@ ghost use Rattle.ipnet_base.specs.RangeOf.{ip_range};
 ghost use Rattle.ipnet_sets.specs.SetRanges.{IsInRange};
 ghost use Rattle.ipnet_rules.specs.Cells.{family_of, IsInPiece, ArePieces, HasPieceAdded, HasEndsAdded, AreCuts};
 ghost use Rattle.ipnet_rules.specs.Cells.{IsSpanOf, IsFreePainting, AreSkips, IsInSpan, IsCutIn, ArePainted};
-ghost use Rattle.ipnet_rules.specs.Cells.{AreCells, AreNexts, HasSpanAdded, HasOwnersAdded};
+ghost use Rattle.ipnet_rules.specs.Cells.{AreCells, AreNexts, AreInOrder, HasSpanAdded, HasOwnersAdded};
 
 use crate::rules::{Addresses, Rule};
 use ipnet::{IpAddr, IpAddrRange};
@@ -121,8 +121,7 @@ pub(crate) fn cuts_of(
 
 /// Returns the cells whose numbers lie in the piece, which begin and end there.
 pub(crate) fn span_of(cuts: &[u128], piece: &Piece) -> Span
-    requires { IsStrictlyIncreasing cuts.now }
-    ensures { IsSpanOf cuts.now piece.now result }
+    ensures { IsStrictlyIncreasing cuts.now → IsSpanOf cuts.now piece.now result }
 {
     let first = piece.first;
     let last = piece.last;
@@ -236,17 +235,24 @@ pub(crate) fn cells_of(alloc: Global, rules: &[Rule], family: Family) -> Result<
     })
 }
 
-/// Adds the owners of the cells of the span, of neighbours with one owner only the first.
+/// Adds the owners of the cells of the span, of neighbours with one owner only the first. Adds nothing if there are no
+/// such cells, and ends at a cell that has no later one.
 fn push_span(found: &mut Vec<usize>, cells: &Cells, span: Span) -> Result<(), AllocError>
-    requires within { span.end ≤ length cells.now.owners.items }
-    requires nexts { AreNexts cells.now.owners.items cells.now.nexts.items }
-    ensures { OnOk result
+    ensures { span.end ≤ length cells.now.owners.items → AreNexts cells.now.owners.items cells.now.nexts.items
+        → OnOk result
         (HasSpanAdded cells.now.owners.items span.start span.end found.old.items found.new.items) }
 {
+    if span.end > cells.owners.len() || span.end > cells.nexts.len() {
+        return Ok(());
+    }
     let mut cell = span.start;
     while cell < span.end {
+        let next = cells.nexts[cell];
+        if next <= cell {
+            return Ok(());
+        }
         found.push(cells.owners[cell])?;
-        cell = cells.nexts[cell];
+        cell = next;
     }
     Ok(())
 }
@@ -257,10 +263,8 @@ pub(crate) fn push_owners(
     cells: &Cells,
     pieces: &[Piece],
 ) -> Result<(), AllocError>
-    requires cuts { IsStrictlyIncreasing cells.now.cuts.items }
-    requires owners { length cells.now.owners.items ≡ length cells.now.cuts.items }
-    requires nexts { AreNexts cells.now.owners.items cells.now.nexts.items }
-    ensures { OnOk result (HasOwnersAdded cells.now pieces.now found.old.items found.new.items) }
+    ensures { AreInOrder cells.now
+        → OnOk result (HasOwnersAdded cells.now pieces.now found.old.items found.new.items) }
 {
     for piece in pieces {
         let span = span_of(cells.cuts.as_slice(), piece);

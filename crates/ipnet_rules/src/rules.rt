@@ -33,6 +33,8 @@ pub enum Addresses {
     Range(IpAddr, IpAddr),
     /// The addresses of the set.
     Set(IpSet),
+    /// Every address, of both families.
+    Any,
 }
 
 /// An action, and the addresses that it is for.
@@ -81,6 +83,7 @@ impl Addresses {
             Addresses::Network(network) => network.contains(ip),
             Addresses::Range(first, last) => is_from_to(first, last, ip),
             Addresses::Set(set) => set.contains(ip),
+            Addresses::Any => fits_family(ip),
         }
     }
 
@@ -96,6 +99,7 @@ impl Addresses {
             Addresses::Network(network) => block_set(alloc, network),
             Addresses::Range(first, last) => IpSet::from_range(alloc, *first, *last),
             Addresses::Set(set) => set.clone(),
+            Addresses::Any => IpSet::new(alloc).complement(alloc),
         }
     }
 }
@@ -112,6 +116,16 @@ fn is_from_to(first: &IpAddr, last: &IpAddr, ip: &IpAddr) -> bool
             first.to_bits() <= ip.to_bits() && ip.to_bits() <= last.to_bits()
         }
         _ => false,
+    }
+}
+
+/// Returns whether the number of the address fits its family, which is always so.
+fn fits_family(ip: &IpAddr) -> bool
+    ensures { IsTrue result ↔ IsAddress (ip_address ip.now) }
+{
+    match ip {
+        IpAddr::V4(ip) => ip.to_bits() <= u32::MAX,
+        IpAddr::V6(ip) => ip.to_bits() <= u128::MAX,
     }
 }
 

@@ -1,5 +1,5 @@
 //! Rules that decide on no address, because earlier rules match all of theirs.
-ghost use Rattle.std.specs.Prelude.{◌⊎◌, ◌↔◌, ℕ, Contains, IsTrue, IfOk, IfSome, IfNone};
+ghost use Rattle.std.specs.Prelude.{◌⊎◌, ◌↔◌, ◌<◌, ℕ, length, Contains, IsTrue, IfOk, IfSome, IfNone};
 ghost use Rattle.std.specs.List.Sorted.{IsNonDecreasing};
 ghost use Rattle.ipnet_base.specs.Address.{IPv4, IPv6};
 ghost use Rattle.ipnet_rules.specs.Cells.{AreCells};
@@ -54,13 +54,13 @@ fn reached_rules(alloc: Global, ipv4: &Cells, ipv6: &Cells) -> Result<Vec<usize>
 
 /// Returns whether the list, which ascends, has the place.
 fn has_place(reached: &[usize], place: usize) -> bool
-    requires { IsNonDecreasing reached.now }
-    ensures { IsTrue result ↔ Contains reached.now place }
+    ensures { IsNonDecreasing reached.now → IsTrue result ↔ Contains reached.now place }
 {
     reached.binary_search(&place).is_ok()
 }
 
-/// Returns the indexes of the earlier rules that decide on addresses of the rule at the place, which decides on none.
+/// Returns the indexes of the earlier rules that decide on addresses of the rule at the place, if it decides on none
+/// and the cells were made from the rules.
 fn deciders(
     alloc: Global,
     rules: &[Rule],
@@ -68,10 +68,9 @@ fn deciders(
     ipv4: &Cells,
     ipv6: &Cells,
 ) -> Result<Vec<usize>, AllocError>
-    requires unreached { IsUnreached rules.now place }
-    requires ipv4 { AreCells IPv4 rules.now ipv4.now }
-    requires ipv6 { AreCells IPv6 rules.now ipv6.now }
-    ensures { IfOk result (λ list. AreDeciders rules.now place list.items) }
+    requires { place < length rules.now }
+    ensures { IsUnreached rules.now place → AreCells IPv4 rules.now ipv4.now → AreCells IPv6 rules.now ipv6.now
+        → IfOk result (λ list. AreDeciders rules.now place list.items) }
 {
     let addresses = &rules[place].addresses;
     let ipv4_pieces = cells::pieces_of(alloc, addresses, Family::Ipv4)?;
@@ -105,8 +104,9 @@ impl Decisions {
     }
 
     /// Returns the rule at the place, with the earlier rules that decide in its place, if it decides on no address.
-    /// Returns `None` if it decides on an address, or if there is no such rule. `rules` are the rules that these
-    /// decisions were made from. Fails only if memory runs out.
+    /// Returns `None` if it decides on an address, or if there is no such rule. Fails only if memory runs out.
+    ///
+    /// `rules` are the rules that these decisions were made from. With other rules, the result means nothing.
     ///
     /// ```text
     /// of deny 10.0.0.0/9, permit 10.128.0.0/9, permit 10.0.0.0/8: 2 is decided by 0 and 1, and None at 1 and 3
@@ -117,9 +117,10 @@ impl Decisions {
         rules: &[Rule],
         place: usize,
     ) -> Result<Option<Unreached>, AllocError>
-        requires { AreDecisions rules.now self.now }
-        ensures some { IfOk result (λ found. IfSome found (IsUnreachedAt rules.now place)) }
-        ensures none { IfOk result (λ found. IfNone found (¬ (IsUnreached rules.now place))) }
+        ensures some { AreDecisions rules.now self.now
+            → IfOk result (λ found. IfSome found (IsUnreachedAt rules.now place)) }
+        ensures none { AreDecisions rules.now self.now
+            → IfOk result (λ found. IfNone found (¬ (IsUnreached rules.now place))) }
     {
         if place >= rules.len() {
             return Ok(None);

@@ -24,7 +24,8 @@ boundaries_of s = by_family (map (λ n. n) s.ipv4.items) (map (λ n. n) s.ipv6.i
 abbrev pub is_member : IpSet → Address → Bool
 is_member s x = is_inside (boundaries_of s x.family) x.number
 
--- The set contains the address, which is valid. Example: the set a contains 10.0.0.5, and not 10.0.0.6.
+-- The set contains the address, and the number of the address fits in its family. Example: the set a contains
+-- 10.0.0.5, and not 10.0.0.6. No set contains the number 2^32 of IPv4, which is above 255.255.255.255.
 pub record IsMember (s : IpSet) (x : Address) : Type 0 where
   pub fits : IsAddress x
   pub inside : is_member s x ≡ true
@@ -38,7 +39,8 @@ HaveSameAddresses s t = (x : Address) → IsMember s x ↔ IsMember t x
 abbrev pub HasNoAddress : IpSet → Type 0
 HasNoAddress s = (x : Address) → ¬ (IsMember s x)
 
--- The set `a` is a subset of `b`. Example: 10.0.0.3 to 10.0.0.5 is a subset of both sets a and b.
+-- Each address of the set `a` is in the set `b`. Example: 10.0.0.3 to 10.0.0.5 is a subset of 10.0.0.0 to 10.0.0.5, and
+-- 10.0.0.0 to 10.0.0.5 is not a subset of 10.0.0.3 to 10.0.0.9. The empty set is a subset of every set.
 abbrev pub IsSubset : IpSet → IpSet → Type 0
 IsSubset a b = (x : Address) → IsMember a x → IsMember b x
 
@@ -70,8 +72,9 @@ IsCombined SymmetricDifference first second = (first × ¬ second) ⊎ (second �
 abbrev pub IsResultOf : Operation → IpSet → IpSet → IpSet → Type 0
 IsResultOf operation s a b = (x : Address) → IsMember s x ↔ IsCombined operation (IsMember a x) (IsMember b x)
 
--- `s` is all addresses of both families that are not in `a`. Example: 0.0.0.0 to 9.255.255.255, 10.0.0.6 to
--- 255.255.255.255 and all IPv6 addresses.
+-- `s` is all addresses of both families that are not in `a`. Read: if the number of x fits in its family, then x is in
+-- `s` if and only if it is not in `a`. The number 2^32 of IPv4 does not fit, and is in neither set.
+-- Example: 0.0.0.0 to 9.255.255.255, 10.0.0.6 to 255.255.255.255 and all IPv6 addresses.
 abbrev pub IsComplement : IpSet → IpSet → Type 0
 IsComplement s a = (x : Address) → IsAddress x → IsMember s x ↔ ¬ (IsMember a x)
 

@@ -29,7 +29,8 @@ IsAdded InSet networks x = IsCoveredBy networks x × ¬ (InSet x)
 
 -- A cover within the limit, such that no cover within the limit adds fewer addresses, and none that adds as few has
 -- fewer networks.
--- Example: with the limit 2 it is 10.0.0.0/30, 10.0.0.8/32, which adds two addresses; 10.0.0.0/32, 10.0.0.0/28 adds 13.
+-- Example: with the limit 2 it is 10.0.0.0/30, 10.0.0.8/32, which adds two addresses. Any /28 or larger network of a
+-- cover adds at least 13.
 pub record IsBestCover (limit : ℕ) (InSet IsForbidden : Address → Type 0) (networks : List Network) : Type 0 where
   pub cover : IsCoverWithin limit InSet IsForbidden networks
   -- the number of addresses that it adds
@@ -68,7 +69,7 @@ pub record IsFewestCover (spare : ℕ) (InSet IsForbidden : Address → Type 0) 
 
 -- Some list covers the set and adds at most `spare` addresses. The networks of the set add none, so they are such a
 -- list unless an address of the set is forbidden.
--- Example: with the spare 0, 10.0.0.0/32, 10.0.0.3/32, 10.0.0.8/32; with no spare if 10.0.0.3 is forbidden.
+-- Example: with the spare 0, 10.0.0.0/32, 10.0.0.3/32, 10.0.0.8/32. If 10.0.0.3 is forbidden, no spare suffices.
 abbrev pub HasCoverAdding : ℕ → (Address → Type 0) → (Address → Type 0) → Type 0
 HasCoverAdding spare InSet IsForbidden =
     (networks : List Network) × (added : ℕ) × IsCoverAdding spare InSet IsForbidden networks added

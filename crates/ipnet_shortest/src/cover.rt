@@ -120,8 +120,8 @@ fn fewest_of_family(
 /// The networks are in ascending order, share no address, and have no host bits.
 ///
 /// The result is `None` if and only if there is no such list. There is none if an IPv4 address of the set is in
-/// `never`. Fails only if memory runs out. If the set has at most `limit` networks, they are the list. Else the call
-/// takes O(n · limit) time and memory, for n networks of the set.
+/// `never`. Fails only if memory runs out. If the set has at most `limit` networks and none of its addresses is in
+/// `never`, its networks are the list. Else the call takes O(n · limit) time and memory, for n networks of the set.
 ///
 /// ```text
 /// of 10.0.0.0/32, 10.0.0.3/32, 10.0.0.8/32 with limit 2: 10.0.0.0/30, 10.0.0.8/32; with limit 1: 10.0.0.0/28
@@ -168,8 +168,9 @@ pub fn shortest_ipv6_cover(
 /// most `spare` other addresses. No list of as few networks contains fewer addresses.
 /// The networks are in ascending order, share no address, and have no host bits.
 ///
-/// The result is `None` if and only if an IPv4 address of the set is in `never`. Fails only if memory runs out. The
-/// call takes O(n²) time, and memory for at most n numbers for each prefix length, for n networks of the set.
+/// The result is `None` if and only if there is no such list: an IPv4 address of the set is in `never`. Fails only if
+/// memory runs out. The call takes O(n²) time, and memory for at most n numbers for each prefix length, for n networks
+/// of the set.
 ///
 /// ```text
 /// of 10.0.0.0/32, 10.0.0.3/32, 10.0.0.8/32 with spare 1: the three networks; with spare 2: 10.0.0.0/30, 10.0.0.8/32

@@ -30,7 +30,8 @@ IsLimited None None (Some percent) = Unit {0}
 IsLimited None (Some ipv6) percent = Unit {0}
 IsLimited (Some ipv4) ipv6 percent = Unit {0}
 
--- These are the limits that a command line names. A family without one keeps its addresses: its percentage is 0.
+-- These are the limits that a command line names. If it has no `--spare`, the percentage is 0: then a family without a
+-- limit gets no other address. The program refuses `--spare` beside a limit.
 pub record IsFitRequest (matches : ArgMatches) (request : FitRequest) : Type 0 where
   pub ipv4 : Option ℕ
   pub ipv4_given : IsNumberGiven matches (codes "ipv4-limit") ipv4

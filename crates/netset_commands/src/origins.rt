@@ -5,10 +5,11 @@ ghost use Rattle.netset_commands.specs.Words.{IsOnly};
 use crate::arguments::{FIRST_LIST, OTHER_LIST, SHARED, flags_of, is_set, two_or_report};
 use crate::table::{ARGUMENT, Argument, Form, Subcommand};
 use clap::ArgMatches;
-use ipnet_origins::Validity;
-use netset_files::{Reports, Writers, bytes_of, whole_of};
+use ipnet::Grammar;
+use ipnet_origins::{Payload, Validity};
+use netset_files::{Writers, bytes_of, whole_of};
 use netset_lib::run_text;
-use netset_origins::{OriginsCommand, OriginsRequest, has_vrp_lines};
+use netset_origins::{OriginsCommand, OriginsRequest, vrps_or_report};
 
 /// The name of the command.
 pub const ORIGINS: &str = "origins";
@@ -74,17 +75,29 @@ fn only_of(matches: &ArgMatches) -> Option<Validity>
     }
 }
 
-/// Returns the bytes of the VRPs and of the routes, whose lists have these names. If a list cannot be read, or has
-/// nothing and that is to be refused, it is reported, and the error is the exit status.
+/// Returns the VRPs, and the bytes of the routes, whose lists have these names. If a list cannot be read, the VRPs are
+/// refused, or a list has nothing and that is to be refused, it is reported, and the error is the exit status.
 fn read_both(
     rt: &HostRuntime,
     names: &[&str; 2],
-    reports: Reports,
-) -> Result<(Vec<u8>, Vec<u8>), u8>
+    grammar: Grammar,
+    writers: &mut Writers<'_>,
+) -> Result<(Vec<Payload>, Vec<u8>), u8>
     ensures { IfErr result (λ status. status ≡ 2) }
 {
-    let vrps = whole_of(rt, names[0], reports)?;
-    let allowed = has_vrp_lines(vrps.as_slice()) || reports.report_empty(rt, names[0], "VRPs");
+    let reports = writers.reports;
+    let bytes = whole_of(rt, names[0], reports)?;
+    let vrps = match vrps_or_report(
+        rt.alloc(),
+        bytes.as_slice(),
+        grammar,
+        names[0],
+        &mut writers.faults,
+    ) {
+        Ok(vrps) => vrps,
+        Err(ended) => return Err(ended.status),
+    };
+    let allowed = !vrps.is_empty() || reports.report_empty(rt, names[0], "VRPs");
     let routes = bytes_of(rt, names[1], "routes", reports)?;
     if allowed { Ok((vrps, routes)) } else { Err(2) }
 }
@@ -98,18 +111,18 @@ pub fn validate_origins(rt: &HostRuntime, matches: &ArgMatches, writers: &mut Wr
         Ok(names) => names.in_order(),
         Err(status) => return status,
     };
-    let (vrps, routes) = match read_both(rt, &names, writers.reports) {
-        Ok(lists) => lists,
-        Err(status) => return status,
-    };
     let request = OriginsRequest {
         grammar: flags_of(matches).grammar(),
         why: is_set(matches, WHY),
         only: only_of(matches),
     };
+    let (vrps, routes) = match read_both(rt, &names, request.grammar, writers) {
+        Ok(lists) => lists,
+        Err(status) => return status,
+    };
     let command = OriginsCommand {
         alloc: rt.alloc(),
-        vrps: vrps.as_slice(),
+        vrps,
         routes: routes.as_slice(),
         request,
     };

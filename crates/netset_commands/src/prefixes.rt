@@ -1,16 +1,21 @@
 //! The command `prefix-list`: its arguments, and its run.
-ghost use Rattle.std.specs.Prelude.{◌≤◌};
+ghost use Rattle.std.specs.Prelude.{◌≡◌, ◌≤◌, codes};
+ghost use Rattle.clap.specs.Matches.{first_value, found_of};
+ghost use Rattle.netset_lib.specs.PrefixEntryOf.{lent_text};
 
 use crate::arguments::{FIRST_LIST, OTHER_LIST, SHARED, flags_of, two_or_report};
 use crate::entry_options::ENTRY_OR_OTHER;
 use crate::reading::two_bytes;
-use crate::table::{Argument, Form, Subcommand};
+use crate::table::{ARGUMENT, Argument, Form, Subcommand};
 use clap::ArgMatches;
 use netset_files::Writers;
 use netset_lib::{PrefixListCommand, run_text};
 
 /// The name of the command.
 pub const PREFIX_LIST: &str = "prefix-list";
+
+/// The option for the name of the prefix list that is meant.
+const NAME: &str = "name";
 
 /// The command `prefix-list`.
 pub const PREFIX_COMMAND: Subcommand = Subcommand {
@@ -19,6 +24,12 @@ pub const PREFIX_COMMAND: Subcommand = Subcommand {
     arguments: &[
         SHARED,
         &[
+            Argument {
+                id: NAME,
+                form: Form::Value(NAME, "NAME"),
+                help: "The prefix list that is meant, if the lines of PREFIXES name several",
+                ..ARGUMENT
+            },
             Argument {
                 form: Form::Word("PREFIXES"),
                 help: "The prefix list, - for standard input",
@@ -33,6 +44,16 @@ pub const PREFIX_COMMAND: Subcommand = Subcommand {
         ],
     ],
 };
+
+/// Returns the name of the prefix list that is meant, if it is given.
+fn name_of<'a>(matches: &'a ArgMatches) -> Option<&'a [u8]>
+    ensures { lent_text result ≡ first_value (found_of matches.now) (codes "name") }
+{
+    match matches.get_str(NAME) {
+        Some(name) => Some(name.as_bytes()),
+        None => None,
+    }
+}
 
 /// Reads the arguments and both lists, prints the verdicts, and returns the exit status.
 #[inline(never)]
@@ -50,6 +71,7 @@ pub fn judge_networks(rt: &HostRuntime, matches: &ArgMatches, writers: &mut Writ
     let command = PrefixListCommand {
         alloc: rt.alloc(),
         prefixes: prefixes.as_slice(),
+        name: name_of(matches),
         networks: networks.as_slice(),
         grammar: flags_of(matches).grammar(),
     };

@@ -9,7 +9,7 @@ use clap::ArgMatches;
 use ipnet_rules::Action;
 use netset_files::{Reports, Writers, read_rules, report_unread};
 use netset_forms::PermittedCommand;
-use netset_lib::{RuleList, UnreachedCommand, run, run_text};
+use netset_lib::{RuleList, UnreachedCommand, run};
 
 /// The names of the two commands.
 pub const PERMITTED: &str = "permitted";
@@ -113,7 +113,7 @@ pub fn print_unreached(rt: &HostRuntime, matches: &ArgMatches, writers: &mut Wri
         Ok(list) => {
             let (out, faults) = (&mut writers.answer, &mut writers.faults);
             let names = [name_of_list(matches, FIRST)];
-            run_text(UnreachedCommand { list }, &names, out, faults)
+            run(UnreachedCommand { list }, &names, out, faults)
         }
         Err(status) => status,
     }

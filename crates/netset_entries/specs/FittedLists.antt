@@ -119,7 +119,8 @@ IsFitReason c Memory = ⊤
 abbrev pub IsFitText : FitCommand → List ℕ → Type 0
 IsFitText c text = (report : List ℕ) × IsFitAnswer c text report
 
--- The text was written, and a front of the report of what the networks add; if `IsSure`, all of it.
+-- All of the text was written to `out`, and to `faults` a front of the report that says what the networks add. If
+-- `IsSure`, all of that report was written. Example: `10.0.0.0/30\n`, and `netset: added: IPv4 2, IPv6 0`.
 pub record IsFitOutput (c : FitCommand) (out out_after faults faults_after : Option (List ℕ)) (IsSure : Type 0) : Type 0
   where
     pub text : List ℕ

@@ -18,6 +18,7 @@ pub mod AnsweringLaws
 pub mod ListLaws
 pub mod StreamLaws
 pub mod StreamParts
+pub mod RuleAddressLaws
 pub mod RuleLaws
 pub mod RuleAnswerLaws
 pub mod RuleWritingLaws
@@ -30,6 +31,7 @@ pub mod ScriptLaws
 pub mod ChangeTexts
 pub mod AppliedLaws
 pub mod PrefixLaws
+pub mod PrefixChoiceLaws
 pub mod TextLaws
 pub mod TextAnswerLaws
 pub mod TextLineLaws

@@ -35,8 +35,8 @@ use Rattle.ipnet_lists.specs.Words.{leading_word, after_word}
 
 -- ---- numbers
 
-pub decimal_utf8 : (text : List ℕ) (n : ℕ) → IsDecimal Strict 3 128 text n → IsUtf8 text
-decimal_utf8 text n h =
+pub decimal_utf8 : (most greatest : ℕ) (text : List ℕ) (n : ℕ) → IsDecimal Strict most greatest text n → IsUtf8 text
+decimal_utf8 most greatest text n h =
     IsUtf8-from_ascii text
     (IsAscii-from_all text
     (All-weaker IsAddressByte (λ b. b < 128) (λ b is. is.ascii) text (decimal_bytes text h.digits.1)))
@@ -96,6 +96,9 @@ module _ (grammar : Grammar) (text word after entry bounds : List ℕ) (action :
   line_cause (Ok rule) h writes = tt
   line_cause (Err Causes.UnknownWord) h writes = absurd h
   line_cause (Err (Causes.NoNetwork cause)) h writes = absurd h
+  line_cause (Err Causes.NoName) h writes = absurd h
+  line_cause (Err Causes.NoNumber) h writes = absurd h
+  line_cause (Err Causes.OtherFamily) h writes = absurd h
   line_cause (Err Causes.BadBounds) h writes =
       (has_word, subst (λ z. (ge le : Option ℕ) → ¬ (IsBoundsText z ge le)) bounds_is h)
   line_cause (Err (Causes.RefusedBounds error)) (ge, le, writes_bounds, refused) writes = (

@@ -1,7 +1,7 @@
 -- The lines of unreached rules, written one rule after the other.
-use Rattle.std.proofs.Common.{◌≡◌, ℕ, ◌+◌, ◌-◌, ◌<◌, ◌≤◌, zero, suc, Bool, true, false, List, [], ◌∷◌, ◌++◌, length}
+use Rattle.std.proofs.Common.{◌≡◌, ℕ, ◌+◌, ◌-◌, ◌<◌, ◌≤◌, zero, suc, Bool, true, false, not, List, [], ◌∷◌, ◌++◌}
+use Rattle.std.proofs.Common.{length}
 use Rattle.std.proofs.Common.{Option, refl, sym, ap, subst, ◌∙◌, arith, inl, inr, append_assoc, append-nil}
-use Rattle.std.specs.Int.{from_bool}
 use Rattle.std.specs.Io.{StartsWith}
 use Rattle.std.specs.Io.KnownBytes.{Appends}
 use Rattle.std.proofs.KnownBytes.{Appends-nil, Appends-trans}
@@ -17,9 +17,9 @@ use Rattle.ipnet_text.proofs.WritingLaws.{front_written, all_written}
 use Rattle.ipnet_lists.specs.ContentLines.{ContentLine}
 use Rattle.netset_lib.specs.declared.rule_list.RuleList.{RuleList}
 use Rattle.netset_lib.specs.declared.rule_writing.Prepared.{Prepared}
-use Rattle.netset_lib.specs.RuleAnswers.{unreached_lines, AreUnreachedLines, IsUnreachedText, AreReached}
+use Rattle.netset_lib.specs.RuleAnswers.{unreached_lines, AreUnreachedLines, AreReached}
 use Rattle.netset_lib.specs.RuleContentsOf.{contents_of}
-use Rattle.netset_lib.specs.RuleWriting.{IsAnswered, AreAnswered, IsPrepared, rule_lines, contents_in}
+use Rattle.netset_lib.specs.RuleWriting.{IsAnswered, AreAnswered, IsPrepared, rule_lines}
 use Rattle.netset_lib.proofs.RuleLaws.{all_rules}
 
 -- ---- what is known of the rules below a place
@@ -190,32 +190,14 @@ whole_out rules lines place a b c piece h all written = record {
   written = all_written a b c piece (unreached_lines lines h.found) h.pieces written;
 }
 
--- ---- the answer of a list that was read
+-- ---- the outcome of a list that was read
 
-answer_of_list : (list : RuleList) (p : Prepared) (text : List ℕ) → list.refused.count ≡ 0
-    → IsPrepared (contents_of list) p → AreUnreachedLines (contents_in p) text → IsUnreachedText list text
-answer_of_list list p text none h right = λ grammar bytes read. record {
-  contents = contents_of list;
-  read = all_rules grammar bytes list read none;
-  right = subst (λ z. AreUnreachedLines z text) h.of_contents right;
-}
-
-pub written_of_list : (list : RuleList) (p : Prepared) (a b : Option (List ℕ)) → list.refused.count ≡ 0
-    → IsPrepared (contents_of list) p → IsWritten (AreUnreachedLines (contents_in p)) a b
-    → IsWritten (IsUnreachedText list) a b
-written_of_list list p a b none h w = record {
-  text = w.text;
-  right = answer_of_list list p w.text none h w.right;
-  written = w.written;
-}
-
--- the status 0 says that each rule decides on an address
-pub all_reached_at : (list : RuleList) (p : Prepared) → list.refused.count ≡ 0 → IsPrepared (contents_of list) p
-    → (status : ℕ) → status ≡ from_bool p.has_unreached → status ≡ 0 → AreReached list true
-all_reached_at list p none h status is zero_is = of p.has_unreached refl
+-- whether each rule decides on an address
+pub outcome_of_list : (list : RuleList) (p : Prepared) → list.refused.count ≡ 0 → IsPrepared (contents_of list) p
+    → AreReached list (not p.has_unreached)
+outcome_of_list list p none h = of p.has_unreached refl
   where
-    of : (some : Bool) → p.has_unreached ≡ some → AreReached list true
-    of true e = absurd (let wrong : ⊥ = omega (arith, zero_is, is, ap from_bool e) in wrong)
+    of : (some : Bool) → p.has_unreached ≡ some → AreReached list (not some)
     of false e = λ grammar bytes read. record {
       contents = contents_of list;
       read = all_rules grammar bytes list read none;
@@ -223,14 +205,6 @@ all_reached_at list p none h status is zero_is = of p.has_unreached refl
           let here = subst (λ z. IsUnreached z.rules index) (sym h.of_contents) never in
           h.answered.none e index here.within here;
     }
-
--- the status 1 says that one does not
-pub one_unreached_at : (list : RuleList) (p : Prepared) → list.refused.count ≡ 0 → IsPrepared (contents_of list) p
-    → (status : ℕ) → status ≡ from_bool p.has_unreached → status ≡ 1 → AreReached list false
-one_unreached_at list p none h status is one_is = of p.has_unreached refl
-  where
-    of : (some : Bool) → p.has_unreached ≡ some → AreReached list false
-    of false e = absurd (let wrong : ⊥ = omega (arith, one_is, is, ap from_bool e) in wrong)
     of true e = λ grammar bytes read.
         let found = h.answered.found e in record {
           contents = contents_of list;

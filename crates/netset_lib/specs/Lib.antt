@@ -23,6 +23,7 @@ pub mod Runs
 pub mod Commands
 pub mod SetReaders
 pub mod Streams
+pub mod RuleAddresses
 pub mod RuleLines
 pub mod RuleContentsOf
 pub mod RuleSteps
@@ -34,6 +35,8 @@ pub mod ChangeLists
 pub mod ApplySteps
 pub mod Scripts
 pub mod PrefixLines
+pub mod PrefixEntries
+pub mod PrefixEntryOf
 pub mod PrefixSteps
 pub mod PrefixAnswers
 pub mod PrefixReading

@@ -6,7 +6,7 @@ use Rattle.ipnet_lists.specs.Reports.{ExplainsEntry, OfNew, IsReport, IsReportBe
 use Rattle.ipnet_lists.specs.declared.content_line.ListFailure.{ListFailure}
 use Rattle.ipnet_lists.specs.declared.content_line.ListFailure.TheVariants as Lists
 use Rattle.netset_lib.specs.Reasons.{Explains, prefix_reason, network_reason, no_network, no_prefix_rule}
-use Rattle.netset_lib.specs.Reports.{memory_line}
+use Rattle.netset_lib.specs.Reports.{choice_words, memory_line, words_line}
 use Rattle.netset_lib.specs.TextReasons.{ExplainsTextLine}
 use Rattle.netset_lib.specs.declared.network_entry.NetworkCause.{NetworkCause}
 use Rattle.netset_lib.specs.declared.prefix_answer.PrefixFailure.{PrefixFailure}
@@ -51,6 +51,7 @@ ExplainsNetwork = Explains no_network network_reason
 abbrev pub IsVerdictText : (List (RefusalFor PrefixCause) → ℕ → List ℕ → Type 0)
     → (List (RefusalFor NetworkCause) → ℕ → List ℕ → Type 0) → PrefixFailure → List ℕ → Type 0
 IsVerdictText IsFirst IsSecond (Prefixes.Prefixes lines) text = OfNew IsFirst lines 0 0 text
+IsVerdictText IsFirst IsSecond (Prefixes.Choice fault) text = text ≡ words_line (choice_words fault)
 IsVerdictText IsFirst IsSecond (Prefixes.Networks lines) text = OfNew IsSecond lines 0 0 text
 IsVerdictText IsFirst IsSecond Prefixes.Memory text = text ≡ memory_line
 

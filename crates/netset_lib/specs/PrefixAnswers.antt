@@ -1,5 +1,5 @@
 -- The verdicts of a prefix list on the networks of a list.
-use Rattle.std.specs.Prelude.{◌≡◌, ◌≢◌, ◌↔◌, ℕ, List, [], ◌∷◌, ◌++◌, codes, Any, Bool, IsTrue, Some}
+use Rattle.std.specs.Prelude.{◌≡◌, ◌≢◌, ◌↔◌, ℕ, List, [], ◌∷◌, ◌++◌, codes, Any, Bool, Option, IsTrue, Some}
 use Rattle.ipnet_base.specs.Network.{Network}
 use Rattle.ipnet.specs.declared.parser.Grammar.{Grammar}
 use Rattle.ipnet_rules.specs.declared.rules.Action.{Action}
@@ -13,7 +13,7 @@ use Rattle.ipnet_lists.specs.declared.cause.Cause.TheVariants.{CarriageReturn}
 use Rattle.ipnet_lists.specs.ContentLines.{IsItemList, OrBroken}
 use Rattle.ipnet_lists.specs.Lists.{RefusalFor}
 use Rattle.netset_lib.specs.NetworkEntries.{IsNetworkWord, IsNoNetworkWord, IsNetworkCause}
-use Rattle.netset_lib.specs.PrefixLines.{IsPrefixList}
+use Rattle.netset_lib.specs.PrefixEntries.{PrefixEntry, ArePrefixEntries, AreRulesOf}
 use Rattle.netset_lib.specs.RuleLines.{word_of}
 
 -- A network of a list, and its text.
@@ -56,12 +56,15 @@ AreVerdicts rules (n ∷ networks) text = (action : Action) × (rest : List ℕ)
 abbrev pub IsOneDenied : List PrefixRule → List ListNetwork → Type 0
 IsOneDenied rules networks = Any (λ n. IsRouteVerdict rules n.network Deny) networks
 
--- No line of the prefix list and of the list of networks is refused, and the text is the verdicts. `denied` says
--- whether a network is denied.
-pub record IsVerdictAnswer (grammar : Grammar) (prefixes bytes : List ℕ) (denied : Bool) (text : List ℕ) : Type 0 where
+-- No line of the prefix list and of the list of networks is refused, and the text is the verdicts of the list with the
+-- name, or of the only one. `denied` says whether a network is denied.
+pub record IsVerdictAnswer (grammar : Grammar) (prefixes : List ℕ) (name : Option (List ℕ)) (bytes : List ℕ)
+    (denied : Bool) (text : List ℕ) : Type 0 where
+  pub entries : List PrefixEntry
   pub rules : List PrefixRule
   pub networks : List ListNetwork
-  pub prefix_list : IsPrefixList grammar prefixes rules []
+  pub prefix_list : ArePrefixEntries grammar prefixes entries []
+  pub of_list : AreRulesOf name entries rules
   pub list : IsNetworkList grammar bytes networks []
   pub right : AreVerdicts rules networks text
   pub is_denied : IsTrue denied ↔ IsOneDenied rules networks
@@ -69,8 +72,8 @@ pub record IsVerdictAnswer (grammar : Grammar) (prefixes bytes : List ℕ) (deni
 -- Some lines of the prefix list are refused, and these are all of them.
 pub record HasRefusedPrefixes (grammar : Grammar) (prefixes : List ℕ) (refused : List (RefusalFor PrefixCause))
     : Type 0 where
-  pub rules : List PrefixRule
-  pub read : IsPrefixList grammar prefixes rules refused
+  pub entries : List PrefixEntry
+  pub read : ArePrefixEntries grammar prefixes entries refused
   pub some : refused ≢ []
 
 -- Some lines of the list of networks are refused, and these are all of them.

@@ -11,11 +11,7 @@ use Rattle.ipnet_rules.specs.declared.prefix_list.PrefixRuleError.TheVariants as
 use Rattle.ipnet_rules.specs.PrefixLists.{IsBound, IsAbove}
 use Rattle.netset_lib.specs.declared.prefix_line.PrefixCause.{PrefixCause}
 use Rattle.netset_lib.specs.declared.prefix_line.PrefixCause.TheVariants.{UnknownWord, NoNetwork, BadBounds}
-use Rattle.netset_lib.specs.declared.prefix_line.PrefixCause.TheVariants.{RefusedBounds}
-use Rattle.netset_lib.specs.declared.network_entry.NetworkCause.TheVariants.{NoEntry}
-use Rattle.ipnet_lists.specs.declared.cause.Cause.TheVariants.{CarriageReturn}
-use Rattle.ipnet_lists.specs.ContentLines.{IsItemList, OrBroken}
-use Rattle.ipnet_lists.specs.Lists.{RefusalFor}
+use Rattle.netset_lib.specs.declared.prefix_line.PrefixCause.TheVariants.{RefusedBounds, NoName, NoNumber, OtherFamily}
 use Rattle.netset_lib.specs.NetworkEntries.{IsNetworkWord, IsNoNetworkWord, IsNetworkCause}
 use Rattle.netset_lib.specs.RuleLines.{word_of, HasRuleWord}
 use Rattle.ipnet_lists.specs.Words.{leading_word, after_word}
@@ -71,7 +67,7 @@ pub record HasRefusedBounds (grammar : Grammar) (text : List ℕ) (error : Prefi
   pub refused : IsBoundsError network ge le error
 
 -- Why a text is not a rule of a prefix list: its first word is not an action; its second word is not a network; what
--- follows is not bounds; the bounds are refused.
+-- follows is not bounds; the bounds are refused. The other causes are of the words before a rule.
 -- Example: `allow 10.0.0.0/8`; `permit any`; `permit 10.0.0.0/8 ge`; `permit 10.0.0.0/8 ge 24 le 16`.
 abbrev pub IsPrefixCause : Grammar → List ℕ → PrefixCause → Type 0
 IsPrefixCause grammar text UnknownWord = ¬ (HasRuleWord text)
@@ -80,14 +76,6 @@ IsPrefixCause grammar text (NoNetwork cause) = HasRuleWord text × IsNoNetworkWo
 IsPrefixCause grammar text BadBounds =
     HasRuleWord text × ((ge le : Option ℕ) → ¬ (IsBoundsText (bounds_text text) ge le))
 IsPrefixCause grammar text (RefusedBounds error) = HasRuleWord text × HasRefusedBounds grammar text error
-
--- Why a line of a prefix list is refused: it has a carriage return in it, or it is not a rule.
--- Example: `permit 10.0.0.0/8 # ours\rdeny ::/0`; `permit any`.
-abbrev pub IsPrefixLineCause : Grammar → List ℕ → PrefixCause → Type 0
-IsPrefixLineCause grammar = OrBroken (NoNetwork (NoEntry (Some CarriageReturn))) (IsPrefixCause grammar)
-
--- The bytes are a prefix list: each line is a rule or is refused. Blanks, comments and a byte order mark are as in
--- lists of entries.
--- Example: `permit 10.0.0.0/8 le 24 # ours\n\ndeny any\n` has a rule on line 1, and line 3 is refused.
-abbrev pub IsPrefixList : Grammar → List ℕ → List PrefixRule → List (RefusalFor PrefixCause) → Type 0
-IsPrefixList grammar = IsItemList (λ line. IsPrefixText grammar line.text) (IsPrefixLineCause grammar)
+IsPrefixCause grammar text NoName = ⊥
+IsPrefixCause grammar text NoNumber = ⊥
+IsPrefixCause grammar text OtherFamily = ⊥

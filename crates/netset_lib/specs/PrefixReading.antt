@@ -1,6 +1,6 @@
 -- The private steps of the verdicts of a prefix list.
 -- Only private contracts use these, except `IsPrefixFailure`.
-use Rattle.std.specs.Prelude.{◌≡◌, ◌↔◌, ◌⊎◌, ℕ, List, ◌++◌, IsTrue}
+use Rattle.std.specs.Prelude.{◌≡◌, ◌↔◌, ◌⊎◌, ℕ, List, [], ◌++◌, map, Option, IsTrue}
 use Rattle.ipnet.specs.declared.parser.Grammar.{Grammar}
 use Rattle.ipnet_rules.specs.declared.rules.Action.{Action}
 use Rattle.ipnet_rules.specs.declared.rules.Action.TheVariants.{Deny}
@@ -17,12 +17,13 @@ use Rattle.netset_lib.specs.declared.network_entry.NetworkCause.{NetworkCause}
 use Rattle.netset_lib.specs.declared.prefix_line.PrefixCause.{PrefixCause}
 use Rattle.netset_lib.specs.PrefixAnswers.{ListNetwork, IsNetworkList, verdict_line, AreVerdicts, IsOneDenied}
 use Rattle.netset_lib.specs.PrefixAnswers.{HasRefusedPrefixes, HasRefusedNetworks}
-use Rattle.netset_lib.specs.PrefixLines.{IsPrefixList}
+use Rattle.netset_lib.specs.PrefixEntries.{PrefixEntry, ArePrefixEntries, IsChoiceFault}
+use Rattle.netset_lib.specs.PrefixEntryOf.{entry_of}
 
--- The rules and the refused lines of the bytes.
+-- The entries and the refused lines of the bytes.
 abbrev pub ArePrefixesRead : Grammar → List ℕ → PrefixLines → Type 0
 ArePrefixesRead grammar bytes lines = (refusals : List (RefusalFor PrefixCause))
-    × IsPrefixList grammar bytes lines.rules.items refusals × AreRefused lines.refused refusals
+    × ArePrefixEntries grammar bytes (map entry_of lines.entries.items) refusals × AreRefused lines.refused refusals
 
 -- These are the verdicts of the rules on the networks.
 pub record AreVerdictsOn (rules : List PrefixRule) (verdicts : Verdicts) (networks : List ListNetwork) : Type 0 where
@@ -42,12 +43,14 @@ pub record AddsVerdict (rules : List PrefixRule) (n : ListNetwork) (old new : Ve
   pub line : new.text.items ≡ old.text.items ++ verdict_line action n
   pub denied : IsTrue new.denied ↔ (IsTrue old.denied ⊎ (action ≡ Deny))
 
--- Why there are no verdicts: refused lines of the prefix list; refused lines of the list of networks; or out of memory.
--- When memory runs out is not specified.
-abbrev pub IsPrefixFailure : Grammar → (prefixes bytes : List ℕ) → PrefixFailure → Type 0
-IsPrefixFailure grammar prefixes bytes (Failures.Prefixes lines) =
+-- Why there are no verdicts: refused lines of the prefix list; entries that are not one list; refused lines of the list
+-- of networks; or out of memory. When memory runs out is not specified.
+abbrev pub IsPrefixFailure : Grammar → (prefixes : List ℕ) → Option (List ℕ) → (bytes : List ℕ) → PrefixFailure → Type 0
+IsPrefixFailure grammar prefixes name bytes (Failures.Choice fault) = (entries : List PrefixEntry)
+    × ArePrefixEntries grammar prefixes entries [] × IsChoiceFault name entries fault
+IsPrefixFailure grammar prefixes name bytes (Failures.Prefixes lines) =
     (refusals : List (RefusalFor PrefixCause)) × HasRefusedPrefixes grammar prefixes refusals
     × AreRefused lines refusals
-IsPrefixFailure grammar prefixes bytes (Failures.Networks lines) =
+IsPrefixFailure grammar prefixes name bytes (Failures.Networks lines) =
     (refusals : List (RefusalFor NetworkCause)) × HasRefusedNetworks grammar bytes refusals × AreRefused lines refusals
-IsPrefixFailure grammar prefixes bytes Failures.Memory = Unit {0}
+IsPrefixFailure grammar prefixes name bytes Failures.Memory = Unit {0}

@@ -8,7 +8,7 @@ use Rattle.ipnet_rules.specs.declared.prefix_list.PrefixRule.{PrefixRule}
 use Rattle.ipnet_rules.specs.PrefixLists.{IsBound, IsAbove}
 use Rattle.netset_lib.specs.declared.prefix_line.PrefixCause.{PrefixCause}
 use Rattle.netset_lib.specs.declared.prefix_line.PrefixCause.TheVariants.{UnknownWord, NoNetwork, BadBounds}
-use Rattle.netset_lib.specs.declared.prefix_line.PrefixCause.TheVariants.{RefusedBounds}
+use Rattle.netset_lib.specs.declared.prefix_line.PrefixCause.TheVariants.{RefusedBounds, NoName, NoNumber, OtherFamily}
 use Rattle.netset_lib.specs.PrefixLines.{HasBound, IsBoundsText, IsBoundsError}
 
 -- The text is the first keyword and a number, and then the second keyword and a number, or nothing.
@@ -29,6 +29,9 @@ pub record IsRuleOf (action : Action) (k : Network) (text : List ℕ) (rule : Pr
 abbrev pub IsBoundsCause : Network → List ℕ → PrefixCause → Type 0
 IsBoundsCause k text UnknownWord = ⊥
 IsBoundsCause k text (NoNetwork cause) = ⊥
+IsBoundsCause k text NoName = ⊥
+IsBoundsCause k text NoNumber = ⊥
+IsBoundsCause k text OtherFamily = ⊥
 IsBoundsCause k text BadBounds = (ge le : Option ℕ) → ¬ (IsBoundsText text ge le)
 IsBoundsCause k text (RefusedBounds error) =
     (ge le : Option ℕ) × IsBoundsText text ge le × IsBoundsError k ge le error

@@ -39,6 +39,10 @@ rule_reason Rules.UnknownWord = codes "a rule begins with permit or deny"
 rule_reason Rules.NoEntry = codes "no network, address or range follows"
 rule_reason Rules.TwoEntries = codes "more than one word follows"
 rule_reason (Rules.BadEntry cause) = entry_reason cause
+rule_reason Rules.NoHost = codes "after host: one address"
+rule_reason Rules.Netmask = codes "a netmask: write it after /, or a wildcard mask such as 0.0.0.255"
+rule_reason Rules.EitherMask = codes "0.0.0.0 and 255.255.255.255 have two meanings: write host and the address, or any"
+rule_reason Rules.NoMask = codes "the second address is not a contiguous wildcard mask"
 
 -- Why the bounds of a rule of a prefix list are refused.
 abbrev pub bounds_reason : PrefixRuleError → List ℕ
@@ -52,6 +56,9 @@ prefix_reason Prefixes.UnknownWord = codes "a rule begins with permit or deny"
 prefix_reason (Prefixes.NoNetwork cause) = network_reason cause
 prefix_reason Prefixes.BadBounds = codes "after the network: ge or le and a number, each at most once"
 prefix_reason (Prefixes.RefusedBounds error) = bounds_reason error
+prefix_reason Prefixes.NoName = codes "after prefix-list: a name"
+prefix_reason Prefixes.NoNumber = codes "after seq: a number up to 4294967295"
+prefix_reason Prefixes.OtherFamily = codes "ip is for IPv4 networks, and ipv6 for IPv6 networks"
 
 -- The words for a line that is not a network.
 abbrev pub no_network : List ℕ

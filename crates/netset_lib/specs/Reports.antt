@@ -3,6 +3,10 @@ use Rattle.std.specs.Prelude.{ℕ, List, [], ◌∷◌, ◌++◌, codes, decimal
 use Rattle.std.specs.List.{concat}
 use Rattle.netset_lib.specs.declared.failure.Failure.{Failure}
 use Rattle.netset_lib.specs.declared.failure.Failure.TheVariants as Failures
+use Rattle.netset_lib.specs.declared.prefix_choice.ChoiceFault.{ChoiceFault}
+use Rattle.netset_lib.specs.declared.prefix_choice.ChoiceFault.TheVariants as Choices
+use Rattle.netset_lib.specs.declared.write.PieceFailure.{PieceFailure}
+use Rattle.netset_lib.specs.declared.write.PieceFailure.TheVariants as Pieces
 
 -- The line that reports these words. Example: `netset: out of memory`, and a line feed (10).
 abbrev pub words_line : List ℕ → List ℕ
@@ -24,3 +28,15 @@ memory_line = words_line (codes "out of memory")
 abbrev pub failure_words : Failure → List ℕ
 failure_words Failures.NoFamily = codes "the list has no entries: choose --ipv4 or --ipv6, or both"
 failure_words Failures.Memory = codes "out of memory"
+
+-- The words for an answer of which only a front was written.
+abbrev pub piece_words : PieceFailure → List ℕ
+piece_words Pieces.Memory = codes "out of memory"
+piece_words Pieces.Unwritable = unwritable
+
+-- The words for entries that are not one prefix list.
+abbrev pub choice_words : ChoiceFault → List ℕ
+choice_words Choices.SeveralNames = codes "the rules are of several prefix lists: choose one with --name"
+choice_words Choices.OtherNames = codes "no rule is of the prefix list that --name names"
+choice_words Choices.SomeNumbers = codes "some rules have a sequence number, and others have none"
+choice_words (Choices.SameNumber number) = codes "two rules have the sequence number " ++ decimal number

@@ -1,21 +1,21 @@
 -- Lists of rules as people keep them: a rule on each line, which is a word and an entry.
-use Rattle.std.specs.Prelude.{◌≡◌, ◌≢◌, ◌↔◌, ℕ, List, [], codes, map, Some}
-use Rattle.ipnet_base.specs.Address.{Address}
+use Rattle.std.specs.Prelude.{◌≡◌, ◌≢◌, ℕ, List, [], codes, map, Some}
 use Rattle.ipnet_base.specs.Ranges.{AddressRange}
 use Rattle.ipnet.specs.declared.parser.Grammar.{Grammar}
 use Rattle.ipnet_rules.specs.declared.rules.Action.{Action}
 use Rattle.ipnet_rules.specs.declared.rules.Action.TheVariants.{Permit, Deny}
 use Rattle.ipnet_rules.specs.declared.rules.Rule.{Rule}
 use Rattle.ipnet_rules.specs.Rules.{Matches}
-use Rattle.ipnet_sets.specs.SetRanges.{IsInRange}
 use Rattle.netset_lib.specs.declared.rule_line.RuleCause.{RuleCause}
 use Rattle.netset_lib.specs.declared.rule_line.RuleCause.TheVariants.{UnknownWord, NoEntry, TwoEntries, BadEntry}
-use Rattle.ipnet_lists.specs.Causes.{IsReportedCause}
-use Rattle.ipnet_lists.specs.Entries.{IsEntryText, IsNoEntry}
+use Rattle.netset_lib.specs.declared.rule_line.RuleCause.TheVariants.{NoHost, Netmask, EitherMask, NoMask}
+use Rattle.ipnet_lists.specs.Causes.{IsNetmaskNumber, IsReportedCause}
+use Rattle.ipnet_lists.specs.Entries.{IsNoEntry}
 use Rattle.ipnet_lists.specs.declared.cause.Cause.TheVariants.{CarriageReturn}
 use Rattle.ipnet_lists.specs.ContentLines.{ContentLine, IsItemList, OrBroken}
 use Rattle.ipnet_lists.specs.Lists.{RefusalFor}
 use Rattle.ipnet_lists.specs.Words.{leading_word, after_word}
+use Rattle.netset_lib.specs.RuleAddresses.{NamesAddresses, IsHostText, HasSecondAddress, IsEitherMask}
 
 -- The word of an action at the start of a rule.
 abbrev pub word_of : Action → List ℕ
@@ -26,13 +26,11 @@ word_of Deny = codes "deny"
 abbrev pub HasRuleWord : List ℕ → Type 0
 HasRuleWord text = (action : Action) × (leading_word text ≡ word_of action)
 
--- The text is a rule: the word of its action, and an entry. The rule matches the addresses of the entry.
--- Example: `deny 10.0.0.9-10.0.0.12` denies the addresses from 10.0.0.9 to 10.0.0.12.
+-- The text is a rule: the word of its action, and what names its addresses.
+-- Example: `deny 10.0.0.9-10.0.0.12` denies the addresses from 10.0.0.9 to 10.0.0.12, and `deny any` all addresses.
 pub record IsRuleText (grammar : Grammar) (text : List ℕ) (rule : Rule) : Type 0 where
   pub word : leading_word text ≡ word_of rule.action
-  pub range : AddressRange
-  pub entry : IsEntryText grammar (after_word text) range
-  pub matched : (x : Address) → Matches rule x ↔ IsInRange range x
+  pub addresses : NamesAddresses grammar (after_word text) (Matches rule)
 
 -- The text is not a rule. Example: `allow 10.0.0.0/8`, `permit`, `permit 10.0.0.0/8 10.1.0.0/16`, `deny 10.0.0.0/33`.
 abbrev pub IsNoRule : Grammar → List ℕ → Type 0
@@ -40,6 +38,8 @@ IsNoRule grammar text = (rule : Rule) → ¬ (IsRuleText grammar text rule)
 
 -- Why a text is not a rule. The causes of the four examples above are: no action has the first word; nothing follows
 -- it; more than one word follows it; the word that follows it is not an entry, and the prefix length is above 32.
+-- The others: `host` follows, without one address; of two IPv4 addresses, the second is a netmask (`255.0.0.0`), or can
+-- be a netmask and a wildcard mask (`0.0.0.0`, `255.255.255.255`), or is not a netmask (`0.0.255.0`).
 abbrev pub IsRuleCause : Grammar → List ℕ → RuleCause → Type 0
 IsRuleCause grammar text UnknownWord = ¬ (HasRuleWord text)
 IsRuleCause grammar text NoEntry = HasRuleWord text × (after_word text ≡ [])
@@ -47,6 +47,12 @@ IsRuleCause grammar text TwoEntries = HasRuleWord text × (leading_word (after_w
 IsRuleCause grammar text (BadEntry cause) = HasRuleWord text × (after_word text ≢ [])
     × (leading_word (after_word text) ≡ after_word text) × IsNoEntry grammar (after_word text)
     × IsReportedCause grammar (after_word text) cause
+IsRuleCause grammar text NoHost = HasRuleWord text × (leading_word (after_word text) ≡ codes "host")
+    × ((range : AddressRange) → ¬ (IsHostText grammar (after_word text) range))
+IsRuleCause grammar text Netmask = HasRuleWord text × HasSecondAddress grammar (after_word text) IsNetmaskNumber
+IsRuleCause grammar text EitherMask = HasRuleWord text × HasSecondAddress grammar (after_word text) IsEitherMask
+IsRuleCause grammar text NoMask =
+    HasRuleWord text × HasSecondAddress grammar (after_word text) (λ number. ¬ (IsNetmaskNumber number))
 
 -- The text is not a rule, for this cause.
 pub record IsRefusedRule (grammar : Grammar) (text : List ℕ) (cause : RuleCause) : Type 0 where

@@ -4,7 +4,8 @@ ghost use Rattle.ipnet_lists.specs.declared.cause.Cause.TheVariants.{CarriageRet
 ghost use Rattle.ipnet.specs.NetworkOf.{ip_network};
 ghost use Rattle.ipnet_rules.specs.CompiledListOf.{rules_of};
 ghost use Rattle.netset_lib.specs.PrefixAnswers.{IsListNetwork, IsNoListNetwork, IsVerdictAnswer};
-ghost use Rattle.netset_lib.specs.PrefixLines.{IsPrefixText, IsPrefixCause};
+ghost use Rattle.netset_lib.specs.PrefixEntries.{IsPrefixEntry, IsEntryCause};
+ghost use Rattle.netset_lib.specs.PrefixEntryOf.{entry_of, lent_text};
 ghost use Rattle.netset_lib.specs.PrefixReading.{ArePrefixesRead, AreJudged, IsPrefixFailure, AddsVerdict};
 ghost use Rattle.netset_lib.specs.RuleLines as lines;
 ghost use Rattle.netset_lib.specs.declared.network_entry.NetworkCause.TheVariants.{NoEntry};
@@ -12,7 +13,9 @@ ghost use Rattle.netset_lib.specs.declared.prefix_line.PrefixCause.TheVariants.{
 ghost use Rattle.netset_lib.specs.declared.prefix_answer.PrefixFailure.TheVariants.{Memory};
 
 use crate::network_entry::{NetworkCause, read_network_entry};
-use crate::prefix_line::{PrefixCause, read_prefix_rule};
+use crate::prefix_choice::{ChoiceFault, rules_of_list};
+use crate::prefix_entry::{NamedRule, read_prefix_entry};
+use crate::prefix_line::PrefixCause;
 use ipnet::{Grammar, IpNet};
 use ipnet_lists::{Cause, ContentLine, LineHandler, Refusals, read_lines};
 use ipnet_rules::{Action, CompiledPrefixList, PrefixList, PrefixRule};
@@ -23,6 +26,8 @@ use std::alloc::{AllocError, Global};
 pub enum PrefixFailure {
     /// These lines of the prefix list are not rules.
     Prefixes(Refusals<PrefixCause>),
+    /// The lines of the prefix list are not one list.
+    Choice(ChoiceFault),
     /// These lines of the list are not networks.
     Networks(Refusals<NetworkCause>),
     /// Memory ran out.
@@ -48,37 +53,39 @@ pub struct Verdicts {
 
 /// A prefix list that was read, and its refused lines.
 #[derive(Drop)]
-struct PrefixLines {
-    rules: Vec<PrefixRule>,
+struct PrefixLines<'a> {
+    entries: Vec<NamedRule<'a>>,
     refused: Refusals<PrefixCause>,
 }
 
-/// Takes the rules of a prefix list.
+/// Takes the entries of a prefix list.
 #[derive(Drop)]
 struct PrefixReader {
     grammar: Grammar,
 }
 
-impl<'a> LineHandler<'a, Vec<PrefixRule>, PrefixCause> for PrefixReader {
-    ghost takes = { λ h line old new. (rule : _) × IsPrefixText h.grammar line.text rule
-        × (new.items ≡ old.items ++ rule ∷ []) };
+impl<'a> LineHandler<'a, Vec<NamedRule<'a>>, PrefixCause> for PrefixReader {
+    ghost takes = { λ h line old new. (entry : _) × IsPrefixEntry h.grammar line.text (entry_of entry)
+        × (new.items ≡ old.items ++ entry ∷ []) };
 
-    ghost is_cause = { λ h. IsPrefixCause h.grammar };
+    ghost is_cause = { λ h. IsEntryCause h.grammar };
 
     ghost broken = { λ h. NoNetwork (NoEntry (Some CarriageReturn)) };
 
-    fn refuse_broken(&self) -> PrefixCause {
+    fn refuse_broken(&self) -> PrefixCause
+        ensures { result ≡ NoNetwork (NoEntry (Some CarriageReturn)) }
+    {
         PrefixCause::NoNetwork(NetworkCause::NoEntry(Some(Cause::CarriageReturn)))
     }
 
     fn take(
         &self,
-        made: &mut Vec<PrefixRule>,
+        made: &mut Vec<NamedRule<'a>>,
         line: ContentLine<'a>,
     ) -> Result<Result<(), PrefixCause>, AllocError> {
-        match read_prefix_rule(line.text, self.grammar) {
-            Ok(rule) => {
-                made.push(rule)?;
+        match read_prefix_entry(line.text, self.grammar) {
+            Ok(entry) => {
+                made.push(entry)?;
                 Ok(Ok(()))
             }
             Err(cause) => Ok(Err(cause)),
@@ -87,12 +94,16 @@ impl<'a> LineHandler<'a, Vec<PrefixRule>, PrefixCause> for PrefixReader {
 }
 
 /// Reads the prefix list. Fails if memory runs out.
-fn read_prefixes(alloc: Global, bytes: &[u8], grammar: Grammar) -> Result<PrefixLines, AllocError>
+fn read_prefixes<'a>(
+    alloc: Global,
+    bytes: &'a [u8],
+    grammar: Grammar,
+) -> Result<PrefixLines<'a>, AllocError>
     ensures { IfOk result (ArePrefixesRead grammar bytes.now) }
 {
-    let mut rules = Vec::new(alloc);
-    let refused = read_lines(alloc, bytes, &PrefixReader { grammar }, &mut rules)?;
-    Ok(PrefixLines { rules, refused })
+    let mut entries = Vec::new(alloc);
+    let refused = read_lines(alloc, bytes, &PrefixReader { grammar }, &mut entries)?;
+    Ok(PrefixLines { entries, refused })
 }
 
 /// The word of the action.
@@ -187,8 +198,12 @@ fn judge_networks(
 /// `deny` and the network as it is written. Both are one line after another, with blanks and comments as in lists of
 /// entries. A network of the list may be an address, and its host bits do not matter.
 ///
-/// The error is `Prefixes` if lines of the prefix list are not rules, `Networks` if lines of the list are not networks,
-/// and `Memory` if memory runs out.
+/// A line of the prefix list can begin as routers write it, with `ip prefix-list NAME` or `ipv6 prefix-list NAME`, and
+/// `seq` and a number. If the lines have several names, `name` says which list is meant. Rules with sequence numbers
+/// are asked in the order of these numbers.
+///
+/// The error is `Prefixes` if lines of the prefix list are not rules, `Choice` if they are not one list, `Networks` if
+/// lines of the list are not networks, and `Memory` if memory runs out.
 ///
 /// ```text
 /// "permit 10.0.0.0/8 ge 16 le 24\n" on "10.1.0.0/16\n10.0.0.0/8\n":
@@ -197,17 +212,22 @@ fn judge_networks(
 pub fn prefix_verdicts(
     alloc: Global,
     prefixes: &[u8],
+    name: Option<&[u8]>,
     networks: &[u8],
     grammar: Grammar,
 ) -> Result<Verdicts, PrefixFailure>
     ensures verdicts { IfOk result (λ v.
-        IsVerdictAnswer grammar prefixes.now networks.now v.denied v.text.items) }
-    ensures failure { IfErr result (IsPrefixFailure grammar prefixes.now networks.now) }
+        IsVerdictAnswer grammar prefixes.now (lent_text name.entry) networks.now v.denied v.text.items) }
+    ensures failure { IfErr result (IsPrefixFailure grammar prefixes.now (lent_text name.entry) networks.now) }
 {
-    let PrefixLines { rules, refused } = read_prefixes(alloc, prefixes, grammar)?;
+    let PrefixLines { entries, refused } = read_prefixes(alloc, prefixes, grammar)?;
     if refused.count != 0 {
         return Err(PrefixFailure::Prefixes(refused));
     }
+    let rules = match rules_of_list(alloc, entries, name)? {
+        Ok(rules) => rules,
+        Err(fault) => return Err(PrefixFailure::Choice(fault)),
+    };
     let JudgedNetworks { verdicts, refused } = judge_networks(alloc, rules, networks, grammar)?;
     if refused.count != 0 {
         return Err(PrefixFailure::Networks(refused));

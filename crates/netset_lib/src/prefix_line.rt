@@ -23,10 +23,14 @@ use std::str;
 /// permit 10.0.0.0/8 ge 8            RefusedBounds(GeOutOfRange)
 /// permit 10.0.0.0/8 le 33           RefusedBounds(LeOutOfRange)
 /// permit 10.0.0.0/8 ge 24 le 16     RefusedBounds(GeAboveLe)
+/// ip prefix-list                    NoName
+/// ip prefix-list a seq permit ::/0  NoNumber
+/// ip prefix-list a permit ::/0      OtherFamily
 /// ```
 #[derive(Clone, Debug, PartialEq, Eq, Drop)]
 pub enum PrefixCause {
-    /// The first word is neither `permit` nor `deny`.
+    /// The first word is neither `permit` nor `deny`. In the line of a router, this is the first word after the name
+    /// and the sequence number.
     UnknownWord,
     /// The second word is not a network.
     NoNetwork(NetworkCause),
@@ -34,6 +38,12 @@ pub enum PrefixCause {
     BadBounds,
     /// The bounds are refused for the network.
     RefusedBounds(PrefixRuleError),
+    /// No name follows `prefix-list`.
+    NoName,
+    /// No number from 0 to 4294967295 without leading zeros follows `seq`.
+    NoNumber,
+    /// The network is IPv6 after `ip prefix-list`, or IPv4 after `ipv6 prefix-list`.
+    OtherFamily,
 }
 
 /// Returns the number from 0 to 128 that the bytes are, in decimal without leading zeros.

@@ -3,6 +3,7 @@ ghost use Rattle.std.specs.Prelude.{◌≡◌, not, List, ℕ};
 ghost use Rattle.ipnet_text.specs.Outputs.{IsWritten, IsFrontWritten};
 ghost use Rattle.netset_lib.specs.ListReports.{IsVerdictReport, IsVerdictBegun};
 ghost use Rattle.netset_lib.specs.PrefixAnswers.{IsVerdictAnswer};
+ghost use Rattle.netset_lib.specs.PrefixEntryOf.{lent_text};
 ghost use Rattle.netset_lib.specs.PrefixReading.{IsPrefixFailure};
 
 use crate::prefix_answer::{PrefixFailure, prefix_verdicts};
@@ -21,6 +22,7 @@ use std::io::Write;
 /// | Status | On `faults` | When |
 /// |---|---|---|
 /// | 2 | `NAME:LINE: not a rule of a prefix list: TEXT (CAUSE)`, ten at most | as `PrefixFailure::Prefixes` says |
+/// | 2 | `netset: ` and the words of the `ChoiceFault` | as `PrefixFailure::Choice` says |
 /// | 2 | `NAME:LINE: not a network: TEXT (CAUSE)`, ten at most | as `PrefixFailure::Networks` says |
 /// | 2 | `netset: out of memory` | memory runs out |
 /// | 2 | `netset: output cannot be written` | a write fails, or the flush after it; the answer may be out in part |
@@ -37,6 +39,8 @@ pub struct PrefixListCommand<'a> {
     pub alloc: Global,
     /// The prefix list.
     pub prefixes: &'a [u8],
+    /// The name of the list that is meant, if the lines have several.
+    pub name: Option<&'a [u8]>,
     /// The networks.
     pub networks: &'a [u8],
     /// The grammar of the networks in both.
@@ -48,15 +52,23 @@ impl<'a> TextCommand for PrefixListCommand<'a> {
 
     type Failure = PrefixFailure;
 
-    ghost is_answer = { λ c text. (denied : _) × IsVerdictAnswer c.grammar c.prefixes.now c.networks.now denied text };
+    ghost is_answer = { λ c text. (denied : _)
+        × IsVerdictAnswer c.grammar c.prefixes.now (lent_text c.name) c.networks.now denied text };
 
     ghost is_outcome = { λ c permitted. (denied : _) × (permitted ≡ not denied)
-        × ((text : List ℕ) × IsVerdictAnswer c.grammar c.prefixes.now c.networks.now denied text) };
+        × ((text : List ℕ) × IsVerdictAnswer c.grammar c.prefixes.now (lent_text c.name) c.networks.now denied text) };
 
-    ghost is_failure = { λ c. IsPrefixFailure c.grammar c.prefixes.now c.networks.now };
+    ghost is_failure = { λ c. IsPrefixFailure c.grammar c.prefixes.now (lent_text c.name) c.networks.now };
 
     fn answer(self) -> Result<(Vec<u8>, bool), PrefixFailure> {
-        let verdicts = prefix_verdicts(self.alloc, self.prefixes, self.networks, self.grammar)?;
+        let PrefixListCommand {
+            alloc,
+            prefixes,
+            name,
+            networks,
+            grammar,
+        } = self;
+        let verdicts = prefix_verdicts(alloc, prefixes, name, networks, grammar)?;
         Ok((verdicts.text, !verdicts.denied))
     }
 }
@@ -76,6 +88,7 @@ impl Report for PrefixFailure {
         match self {
             PrefixFailure::Memory => report_words(faults, OUT_OF_MEMORY),
             PrefixFailure::Prefixes(lines) => report_refused(faults, names, 0, lines),
+            PrefixFailure::Choice(fault) => report_words(faults, fault.to_words().as_str()),
             PrefixFailure::Networks(lines) => report_refused(faults, names, 1, lines),
         }
     }

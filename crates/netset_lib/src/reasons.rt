@@ -54,6 +54,12 @@ fn rule_reason(cause: RuleCause) -> &'static str
         RuleCause::NoEntry => "no network, address or range follows",
         RuleCause::TwoEntries => "more than one word follows",
         RuleCause::BadEntry(cause) => entry_reason(cause),
+        RuleCause::NoHost => "after host: one address",
+        RuleCause::Netmask => "a netmask: write it after /, or a wildcard mask such as 0.0.0.255",
+        RuleCause::EitherMask => {
+            "0.0.0.0 and 255.255.255.255 have two meanings: write host and the address, or any"
+        }
+        RuleCause::NoMask => "the second address is not a contiguous wildcard mask",
     }
 }
 
@@ -81,6 +87,9 @@ fn prefix_reason(cause: &PrefixCause) -> &'static str
         PrefixCause::NoNetwork(cause) => network_reason(*cause),
         PrefixCause::BadBounds => "after the network: ge or le and a number, each at most once",
         PrefixCause::RefusedBounds(error) => bounds_reason(error),
+        PrefixCause::NoName => "after prefix-list: a name",
+        PrefixCause::NoNumber => "after seq: a number up to 4294967295",
+        PrefixCause::OtherFamily => "ip is for IPv4 networks, and ipv6 for IPv6 networks",
     }
 }
 

@@ -1,18 +1,16 @@
-//! A line of a list of rules: `permit` or `deny`, and an entry.
+//! A line of a list of rules: `permit` or `deny`, and what names its addresses.
 ghost use Rattle.std.specs.Prelude.{◌≡◌, ◌↔◌, IfOk, IfErr, Some};
 ghost use Rattle.ipnet_base.specs.Address.{Address};
 ghost use Rattle.ipnet_rules.specs.declared.rules.Action.{Action};
 ghost use Rattle.ipnet_rules.specs.Rules.{Matches};
 ghost use Rattle.ipnet_sets.specs.SetRanges.{IsInRange};
-ghost use Rattle.ipnet_lists.specs.Causes.{IsReportedCause};
-ghost use Rattle.ipnet_lists.specs.Entries.{IsNoEntry};
 ghost use Rattle.ipnet_lists.specs.EntryOf.{entry_range};
 ghost use Rattle.netset_lib.specs.RuleLines.{word_of, IsRuleText, IsNoRule, IsRuleCause};
-ghost use Rattle.netset_lib.specs.RuleSteps.{IsEntryCause};
 
+use crate::rule_addresses::{addresses_cause, addresses_of, read_addresses};
 use ipnet::Grammar;
-use ipnet_lists::{Cause, Entry, cause_of, cut_word, first_blank, read_text};
-use ipnet_rules::{Action, Addresses, Rule};
+use ipnet_lists::{Cause, Entry, cut_word};
+use ipnet_rules::{Action, Rule};
 
 /// Why a line is not a rule.
 ///
@@ -22,6 +20,10 @@ use ipnet_rules::{Action, Addresses, Rule};
 /// permit 10.0.0.0/8 10.1.0.0/16   TwoEntries
 /// deny 10.0.0.0/33                BadEntry(Some(LengthAbove32))
 /// deny 10.0.0.0/x                 BadEntry(None)
+/// permit host 10.0.0.0/8          NoHost
+/// permit 10.0.0.0 255.0.0.0       Netmask
+/// permit 10.0.0.0 0.0.0.0         EitherMask
+/// permit 10.0.0.0 0.0.255.0       NoMask
 /// ```
 #[derive(Clone, Copy, Debug, PartialEq, Eq, Drop)]
 pub enum RuleCause {
@@ -33,6 +35,14 @@ pub enum RuleCause {
     TwoEntries,
     /// The word that follows is not an entry. Has the cause, if one can be named.
     BadEntry(Option<Cause>),
+    /// `host` follows, and not exactly one address after it.
+    NoHost,
+    /// An IPv4 address and a netmask follow.
+    Netmask,
+    /// An IPv4 address follows, and a mask that can be a netmask or a wildcard mask: 0.0.0.0 or 255.255.255.255.
+    EitherMask,
+    /// Two IPv4 addresses follow, of which the second is not a contiguous mask.
+    NoMask,
 }
 
 /// Returns the action of this word, or `None` if it has none.
@@ -57,25 +67,10 @@ pub fn rule_for(action: Action, entry: Entry) -> Rule
     ensures action { result.action ≡ action }
     ensures matched { (x : Address) → Matches result x ↔ IsInRange (entry_range entry) x }
 {
-    let (first, last) = entry.ends();
     Rule {
         action,
-        addresses: Addresses::Range(first, last),
+        addresses: addresses_of(entry),
     }
-}
-
-/// Returns why the text after the word is not an entry.
-fn entry_cause(text: &[u8], grammar: Grammar) -> RuleCause
-    requires { IsNoEntry grammar text.now }
-    ensures { IsEntryCause grammar text.now result }
-{
-    if text.is_empty() {
-        return RuleCause::NoEntry;
-    }
-    if first_blank(text) < text.len() {
-        return RuleCause::TwoEntries;
-    }
-    RuleCause::BadEntry(cause_of(text, grammar))
 }
 
 /// Returns the rule that the text is, or why it is not one.
@@ -88,8 +83,8 @@ pub(crate) fn read_rule(text: &[u8], grammar: Grammar) -> Result<Rule, RuleCause
     let Some(action) = action_of(word) else {
         return Err(RuleCause::UnknownWord);
     };
-    match read_text(rest, grammar) {
-        Some(found) => Ok(rule_for(action, found.entry)),
-        None => Err(entry_cause(rest, grammar)),
+    match read_addresses(rest, grammar) {
+        Some(addresses) => Ok(Rule { action, addresses }),
+        None => Err(addresses_cause(rest, grammar)),
     }
 }

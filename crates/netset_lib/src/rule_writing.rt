@@ -1,6 +1,6 @@
 //! The rules that decide on no address, found and written one after the other, so that an answer of any length takes
 //! little memory.
-ghost use Rattle.std.specs.Prelude.{◌≡◌, ◌++◌, ℕ, List, length, map, IsTrue, IfOk, IfErr};
+ghost use Rattle.std.specs.Prelude.{◌≡◌, ◌++◌, ℕ, List, length, map, IfOk, IfErr, OnOk};
 ghost use Rattle.std.specs.Io.{StartsWith};
 ghost use Rattle.std.specs.Io.KnownBytes.{Appends};
 ghost use Rattle.ipnet_rules.specs.Decisions.{AreDecisions};
@@ -13,7 +13,7 @@ ghost use Rattle.netset_lib.specs.RuleWriting.{AreAnswered, IsPrepared, rule_lin
 use crate::rule_answer::push_rule;
 use crate::rule_line::RuleCause;
 use crate::rule_list::{RuleLine, RuleList};
-use crate::write::{write_and_flush, write_if_long};
+use crate::write::{PieceFailure, write_and_flush, write_if_long};
 use ipnet_lists::ListFailure;
 use ipnet_rules::{Decisions, Rule, Unreached};
 use std::alloc::{AllocError, Global};
@@ -80,46 +80,46 @@ pub(crate) fn prepare(list: RuleList) -> Result<Prepared, ListFailure<RuleCause>
     }
 }
 
-/// Appends the lines of the unreached rule to the piece, and writes a piece that is long. Returns whether that
-/// succeeded.
+/// Appends the lines of the unreached rule to the piece, and writes a piece that is long.
 fn put_rule<W: Write>(
     out: &mut W,
     piece: &mut Vec<u8>,
     lines: &[RuleLine],
     unreached: &Unreached,
-) -> bool
-    ensures whole { let text = rule_lines (map line_of_rule lines.now) unreached.now in IsTrue result
-        → IsInPieces (W.contents out.old) (W.contents out.new) piece.new.items (piece.old.items ++ text) }
+) -> Result<(), PieceFailure>
+    ensures whole { let text = rule_lines (map line_of_rule lines.now) unreached.now in OnOk result
+        (IsInPieces (W.contents out.old) (W.contents out.new) piece.new.items (piece.old.items ++ text)) }
     ensures front { let text = rule_lines (map line_of_rule lines.now) unreached.now in
         (front : List ℕ) × StartsWith (piece.old.items ++ text) front
         × Appends (W.contents out.old) (W.contents out.new) front }
 {
-    match push_rule(piece, lines, unreached) {
-        Ok(()) => write_if_long(out, piece).is_ok(),
-        Err(_) => false,
-    }
+    push_rule(piece, lines, unreached)?;
+    write_if_long(out, piece)?;
+    Ok(())
 }
 
-/// Writes the lines of the unreached rules and flushes the writer, and returns whether that succeeded. If not, a front
-/// of the lines may be written.
-pub(crate) fn write_unreached<W: Write>(out: &mut W, prepared: &Prepared) -> bool
+/// Writes the lines of the unreached rules, and flushes the writer. If that fails, a front of the lines may be written.
+pub(crate) fn write_unreached<W: Write>(
+    out: &mut W,
+    prepared: &Prepared,
+) -> Result<(), PieceFailure>
     requires { IsPrepared (contents_in prepared.now) prepared.now }
-    ensures whole { IsTrue result
-        → IsWritten (AreUnreachedLines (contents_in prepared.now)) (W.contents out.old) (W.contents out.new) }
+    ensures whole { OnOk result
+        (IsWritten (AreUnreachedLines (contents_in prepared.now)) (W.contents out.old) (W.contents out.new)) }
     ensures front { IsFrontWritten (AreUnreachedLines (contents_in prepared.now))
         (W.contents out.old) (W.contents out.new) }
 {
     let rules = prepared.rules.as_slice();
     let mut piece = Vec::new(prepared.alloc);
     for place in 0..rules.len() {
-        let Ok(found) = prepared.decisions.unreached(prepared.alloc, rules, place) else {
-            return false;
-        };
+        let found = prepared.decisions.unreached(prepared.alloc, rules, place)?;
         if let Some(unreached) = found {
-            if !put_rule(out, &mut piece, prepared.lines.as_slice(), &unreached) {
-                return false;
-            }
+            put_rule(out, &mut piece, prepared.lines.as_slice(), &unreached)?;
         }
     }
-    write_and_flush(out, piece.as_slice())
+    if write_and_flush(out, piece.as_slice()) {
+        Ok(())
+    } else {
+        Err(PieceFailure::Unwritable)
+    }
 }

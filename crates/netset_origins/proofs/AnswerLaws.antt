@@ -1,8 +1,8 @@
 -- The answers of VRPs to the routes of a list.
 use Rattle.std.proofs.Common.{◌≡◌, ◌↔◌, ◌⊎◌, ℕ, ◌+◌, ◌<◌, Bool, true, false, IsTrue, List, [], ◌∷◌, ◌++◌, Contains}
-use Rattle.std.proofs.Common.{length, take, get_or, Option, Result, Ok, Err, OnOk}
+use Rattle.std.proofs.Common.{◌≢◌, ◌≤◌, arith, drop, length, length-drop, get_or, Option, Result, Ok, Err, OnOk}
 use Rattle.std.proofs.Common.{refl, sym, ap, ◌∙◌, subst, inl, inr, append_assoc, append-nil, IsPermutation}
-use Rattle.std.proofs.lemmas.List.{take_more}
+use Rattle.std.proofs.lemmas.List.{drop_more}
 use Rattle.std.proofs.lemmas.List.Sorted.{Contains-permutation, IsPermutation-sym, IsPermutation-trans}
 use Rattle.ipnet_base.specs.Network.{Network}
 use Rattle.ipnet_sets.proofs.JoinLaws.{any_push}
@@ -11,7 +11,8 @@ use Rattle.ipnet_origins.specs.Origins.{IsValidity}
 use Rattle.ipnet_origins.specs.declared.origins.Validity.{Validity}
 use Rattle.ipnet_origins.specs.declared.origins.Validity.TheVariants.{Invalid}
 use Rattle.ipnet_origins.specs.declared.payload.Payload.{Payload}
-use Rattle.netset_origins.specs.OriginAnswers.{vrp_part, why_part, IsWhyPart, IsRouteLine, AreRouteLines, IsOneInvalid}
+use Rattle.netset_origins.specs.OriginAnswers.{vrp_part, IsWhyPart, IsWhyText, IsRouteLine, AreRouteLines}
+use Rattle.netset_origins.specs.OriginAnswers.{IsOneInvalid}
 use Rattle.netset_origins.specs.OriginSteps.{AddsRoute, AreAnswersBy}
 use Rattle.netset_origins.specs.RouteLines.{ListRoute}
 use Rattle.netset_origins.specs.declared.answer.OriginAnswers.{OriginAnswers}
@@ -19,20 +20,52 @@ use Rattle.netset_origins.specs.declared.answer.OriginsRequest.{OriginsRequest}
 
 -- ---- the VRPs after a route
 
-why_push : (vrps : List Payload) (vrp : Payload) → why_part (vrps ++ vrp ∷ []) ≡ why_part vrps ++ vrp_part vrp
-why_push [] vrp = append-nil (vrp_part vrp)
-why_push (first ∷ vrps) vrp =
-    ap (λ z. vrp_part first ++ z) (why_push vrps vrp)
-    ∙ sym (append_assoc (vrp_part first) (why_part vrps) (vrp_part vrp))
+-- the VRPs before the index are written, and `last` is the text of the last one
+pub record IsWhySoFar (vrps : List Payload) (i : ℕ) (old text last : List ℕ) : Type 0 where
+  pub done : List ℕ
+  pub is : text ≡ old ++ done
+  pub whole : (rest : List ℕ) → IsWhyText last (drop i vrps) rest → IsWhyText [] vrps (done ++ rest)
 
-pub vrp_more : (vrps : List Payload) (i : ℕ) (vrp : Payload) (old text new : List ℕ) → i < length vrps
-    → vrp ≡ get_or vrps i vrp → text ≡ old ++ why_part (take i vrps) → new ≡ text ++ vrp_part vrp
-    → new ≡ old ++ why_part (take (i + 1) vrps)
-vrp_more vrps i vrp old text new less is so_far pushed =
-    pushed ∙ ap (λ z. z ++ vrp_part vrp) so_far ∙ append_assoc old (why_part (take i vrps)) (vrp_part vrp)
-    ∙ ap (λ z. old ++ z)
-    (sym (ap why_part (take_more vrps i vrp less ∙ ap (λ z. take i vrps ++ z ∷ []) (sym is))
-    ∙ why_push (take i vrps) vrp))
+pub why_start : (vrps : List Payload) (old : List ℕ) → IsWhySoFar vrps 0 old old []
+why_start vrps old = record { done = []; is = sym (append-nil old); whole = λ rest h. h }
+
+module _ (vrps : List Payload) (i : ℕ) (vrp : Payload) (old text last : List ℕ) (less : i < length vrps)
+    (at : vrp ≡ get_or vrps i vrp) (h : IsWhySoFar vrps i old text last) where
+  first_left : (rest : List ℕ) → IsWhyText last (vrp ∷ drop (i + 1) vrps) rest → IsWhyText last (drop i vrps) rest
+  first_left rest k =
+      subst (λ z. IsWhyText last z rest) (sym (drop_more vrps i vrp less))
+      (subst (λ z. IsWhyText last (z ∷ drop (i + 1) vrps) rest) at k)
+
+  pub why_repeated : vrp_part vrp ≡ last → IsWhySoFar vrps (i + 1) old text last
+  why_repeated same = record {
+    done = h.done;
+    is = h.is;
+    whole = λ rest k. h.whole rest (first_left rest (inl (same, k)));
+  }
+
+  pub why_more : (new : List ℕ) → vrp_part vrp ≢ last → new ≡ text ++ vrp_part vrp
+      → IsWhySoFar vrps (i + 1) old new (vrp_part vrp)
+  why_more new other pushed = record {
+    done = h.done ++ vrp_part vrp;
+    is = pushed ∙ ap (λ z. z ++ vrp_part vrp) h.is ∙ append_assoc old h.done (vrp_part vrp);
+    whole = λ rest k.
+        subst (IsWhyText [] vrps) (sym (append_assoc h.done (vrp_part vrp) rest))
+        (h.whole (vrp_part vrp ++ rest) (first_left (vrp_part vrp ++ rest) (inr (other, rest, refl, k))));
+  }
+
+none_left : (vrps : List Payload) → length vrps ≡ 0 → vrps ≡ []
+none_left [] none = refl
+none_left (vrp ∷ vrps) none = absurd (omega (arith, none))
+
+pub why_end : (vrps : List Payload) (i : ℕ) (old text last : List ℕ) → length vrps ≤ i
+    → IsWhySoFar vrps i old text last → (part : List ℕ) × IsWhyText [] vrps part × (text ≡ old ++ part)
+why_end vrps i old text last past h =
+    let none = none_left (drop i vrps) (omega (arith, past, length-drop i vrps)) in (
+      h.done,
+      subst (IsWhyText [] vrps) (append-nil h.done)
+          (h.whole [] (subst (λ z. IsWhyText last z []) (sym none) refl)),
+      h.is,
+    )
 
 -- ---- the lines
 

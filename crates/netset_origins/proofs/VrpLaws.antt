@@ -1,6 +1,6 @@
 -- The VRPs of lines and of JSON.
 use Rattle.std.proofs.Common.{◌≡◌, ◌≢◌, ◌↔◌, ◌≤◌, ℕ, [], ◌∷◌, ◌++◌, List, Option, Some, None, Result, Ok, Err}
-use Rattle.std.proofs.Common.{Any, Bool, true, false, IfOk, IfErr, inl, inr, option_map, option_and_then}
+use Rattle.std.proofs.Common.{Bool, true, false, IfOk, IfErr, option_map, option_and_then}
 use Rattle.std.proofs.Common.{ap, sym, ◌∙◌, subst, append_assoc, append-nil, refl, codes, length, get_or, arith}
 use Rattle.serde_json.specs.Data.{Data, Items, array}
 use Rattle.serde_json.specs.Find.{get, as_array}
@@ -9,29 +9,15 @@ use Rattle.ipnet_base.specs.Network.{Network}
 use Rattle.ipnet.specs.declared.parser.Grammar.{Grammar}
 use Rattle.ipnet_lists.specs.Causes.{Has}
 use Rattle.ipnet_lists.specs.Entries.{IsNetworkOrMasked}
-use Rattle.ipnet_lists.specs.Lists.{IsContents}
-use Rattle.ipnet_lists.proofs.OneReading.{one_contents}
-use Rattle.ipnet_sets.proofs.SetRangeLaws.{any_cases, any_there}
 use Rattle.ipnet_origins.specs.declared.payload.Payload.{Payload}
 use Rattle.netset_origins.specs.Fields.{first_field, after_field, IsNumber, IsAsn}
 use Rattle.netset_origins.specs.VrpJson.{text_at, IsAsnFrom, IsAsnAt, IsMaxLenAt, IsVrpData, IsDataCause, AreVrpItems}
 use Rattle.netset_origins.specs.VrpLines.{network_field, length_field, last_fields, all_added, IsVrpOf, IsVrpText}
-use Rattle.netset_origins.specs.VrpLines.{IsLengthCause, IsOtherLine, IsVrpCause, IsVrpContents}
+use Rattle.netset_origins.specs.VrpLines.{IsLengthCause, IsVrpCause}
 use Rattle.netset_origins.specs.declared.vrp_line.VrpCause.{VrpCause}
 use Rattle.netset_origins.specs.declared.vrp_line.VrpCause.TheVariants as Causes
 
 -- ---- lines
-
--- an empty line, or a header
-pub skip_other : (line text : List ℕ) (lines : List (List ℕ)) → IsContents line text → ¬ (IsVrpContents text)
-    → Any IsOtherLine (line ∷ lines) ↔ Any IsOtherLine lines
-skip_other line text lines is none = (
-  λ any. elim (any_cases IsOtherLine line lines any) [
-    | inl (other, also, some) ↦ absurd (none (subst IsVrpContents (one_contents line other text also is) some))
-    | inr later ↦ later
-  ],
-  any_there IsOtherLine line lines,
-)
 
 -- the VRPs of one line more
 pub added_last : (lines : List (List Payload)) (added : List Payload)

@@ -2,6 +2,7 @@
 pub mod Fields
 pub mod VrpLines
 pub mod VrpJson
+pub mod VrpLists
 pub mod RouteLines
 pub mod RouteSteps
 pub mod OriginAnswers

@@ -7,18 +7,15 @@ use Rattle.ipnet.specs.NetworkOf.{ip_network}
 use Rattle.ipnet.specs.declared.parser.Grammar.{Grammar}
 use Rattle.ipnet_lists.specs.Lists.{RefusalFor}
 use Rattle.ipnet_lists.specs.RefusedLines.{AreRefused}
+use Rattle.ipnet_lists.specs.declared.content_line.ListFailure.{ListFailure}
+use Rattle.ipnet_lists.specs.declared.content_line.ListFailure.TheVariants as Failures
 use Rattle.ipnet_origins.specs.Origins.{IsValidity, AreCovering}
 use Rattle.ipnet_origins.specs.declared.origins.Validity.{Validity}
 use Rattle.ipnet_origins.specs.declared.origins.Validity.TheVariants.{Valid, Invalid, NotFound}
 use Rattle.ipnet_origins.specs.declared.payload.Payload.{Payload}
 use Rattle.netset_origins.specs.RouteLines.{ListRoute, IsRouteList}
-use Rattle.netset_origins.specs.VrpJson.{BeginsObject, IsVrpJson, IsJsonFault}
-use Rattle.netset_origins.specs.VrpLines.{IsVrpList}
-use Rattle.netset_origins.specs.declared.answer.OriginsFailure.{OriginsFailure}
-use Rattle.netset_origins.specs.declared.answer.OriginsFailure.TheVariants as Failures
 use Rattle.netset_origins.specs.declared.answer.OriginsRequest.{OriginsRequest}
 use Rattle.netset_origins.specs.declared.route_line.RouteCause.{RouteCause}
-use Rattle.netset_origins.specs.declared.vrp_line.VrpCause.{VrpCause}
 
 -- The word of a validity. Example: `not-found`.
 abbrev pub validity_word : Validity → List ℕ
@@ -32,16 +29,19 @@ abbrev pub vrp_part : Payload → List ℕ
 vrp_part vrp = 9 ∷ canonical_text (ip_network vrp.network) ++ codes "-" ++ decimal vrp.max_len ++ codes " AS"
     ++ decimal vrp.asn
 
--- The VRPs, each after a TAB. Example: TAB, `192.0.2.0/24-25 AS64496`.
-abbrev pub why_part : List Payload → List ℕ
-why_part [] = []
-why_part (vrp ∷ vrps) = vrp_part vrp ++ why_part vrps
+-- The text has the VRPs in order, each after a TAB. One that is written like the one before it is left out; `last` is
+-- the text of the one before the first, or empty.
+-- Example: for two VRPs 192.0.2.0/24 with 25 and AS 64496, TAB and `192.0.2.0/24-25 AS64496`, once.
+abbrev pub IsWhyText : List ℕ → List Payload → List ℕ → Type 0
+IsWhyText last [] part = part ≡ []
+IsWhyText last (vrp ∷ vrps) part = ((vrp_part vrp ≡ last) × IsWhyText last vrps part)
+    ⊎ ((vrp_part vrp ≢ last) × (rest : List ℕ) × (part ≡ vrp_part vrp ++ rest) × IsWhyText (vrp_part vrp) vrps rest)
 
--- The text after the validity of a route: if `why`, the VRPs that cover it, the longest networks first, and VRPs of one
--- network by AS number and greatest length; else nothing.
+-- The text after the validity of a route: if `why`, the VRPs that cover it, each once, the longest networks first, and
+-- VRPs of one network by AS number and greatest length; else nothing.
 -- Example: TAB, `192.0.2.0/24-25 AS64496`, TAB, `192.0.0.0/16-16 AS64497`.
 abbrev pub IsWhyPart : List Payload → Bool → Network → List ℕ → Type 0
-IsWhyPart vrps true n part = (covering : List Payload) × AreCovering vrps n covering × (part ≡ why_part covering)
+IsWhyPart vrps true n part = (covering : List Payload) × AreCovering vrps n covering × IsWhyText [] covering part
 IsWhyPart vrps false n part = part ≡ []
 
 -- A route of this validity is printed: any route, or only one of the wanted validity. Example: with `--only invalid`,
@@ -70,60 +70,26 @@ AreRouteLines vrps request (r ∷ routes) text = (line : List ℕ) × (rest : Li
 abbrev pub IsOneInvalid : List Payload → List ListRoute → Type 0
 IsOneInvalid vrps routes = Any (λ r. IsValidity vrps r.network r.origin Invalid) routes
 
--- The bytes are these VRPs, as JSON or as lines of which none is refused.
--- Example: no VRPs for `{"roas": []}`, and for `ASN,IP Prefix,Max Length,Trust Anchor`.
-abbrev pub AreVrpsOf : Grammar → List ℕ → List Payload → Type 0
-AreVrpsOf grammar bytes vrps = (BeginsObject bytes × IsVrpJson grammar bytes vrps)
-    ⊎ ((¬ (BeginsObject bytes)) × IsVrpList grammar bytes vrps [])
-
--- The VRPs are read, no line of the routes is refused, and the text has the lines of the routes. `invalid` says whether
--- a route is invalid, printed or not.
--- Example: for `AS64496,192.0.2.0/24,24` and `192.0.2.0/25 64496`, the text is `192.0.2.0/25 64496`, TAB, `invalid`.
--- A route is invalid.
-pub record IsOriginAnswer (request : OriginsRequest) (vrp_bytes route_bytes : List ℕ) (invalid : Bool) (text : List ℕ)
-    : Type 0 where
-  pub vrps : List Payload
+-- No line of the routes is refused, and the text has the lines of the routes, by these VRPs. `invalid` says whether a
+-- route is invalid, printed or not.
+-- Example: for 192.0.2.0/24 with 24 and AS 64496, and `192.0.2.0/25 64496`, the text is `192.0.2.0/25 64496`, TAB,
+-- `invalid`. A route is invalid.
+pub record IsOriginAnswer (request : OriginsRequest) (vrps : List Payload) (route_bytes : List ℕ) (invalid : Bool)
+    (text : List ℕ) : Type 0 where
   pub routes : List ListRoute
-  pub vrp_list : AreVrpsOf request.grammar vrp_bytes vrps
   pub route_list : IsRouteList request.grammar route_bytes routes []
   pub right : AreRouteLines vrps request routes text
   pub is_invalid : IsTrue invalid ↔ IsOneInvalid vrps routes
 
--- The VRPs are not JSON. Some of their lines are refused, and these are all of them.
-pub record HasRefusedVrps (grammar : Grammar) (vrp_bytes : List ℕ) (refused : List (RefusalFor VrpCause)) : Type 0
+-- Some lines of the routes are refused, and these are all of them.
+pub record HasRefusedRoutes (grammar : Grammar) (bytes : List ℕ) (refused : List (RefusalFor RouteCause)) : Type 0
   where
-    pub vrps : List Payload
-    pub lines : ¬ (BeginsObject vrp_bytes)
-    pub read : IsVrpList grammar vrp_bytes vrps refused
+    pub routes : List ListRoute
+    pub read : IsRouteList grammar bytes routes refused
     pub some : refused ≢ []
 
--- Some lines of the routes are refused, and these are all of them.
-pub record HasRefusedRoutes (request : OriginsRequest) (route_bytes : List ℕ) (refused : List (RefusalFor RouteCause))
-    : Type 0 where
-  pub routes : List ListRoute
-  pub read : IsRouteList request.grammar route_bytes routes refused
-  pub some : refused ≢ []
-
--- Why there are no VRPs: refused lines; JSON that is not a list of VRPs; or out of memory. When memory runs out is not
--- specified.
-abbrev pub IsVrpsFailure : Grammar → List ℕ → OriginsFailure → Type 0
-IsVrpsFailure grammar bytes (Failures.Vrps lines) =
-    (refusals : List (RefusalFor VrpCause)) × HasRefusedVrps grammar bytes refusals × AreRefused lines refusals
-IsVrpsFailure grammar bytes (Failures.Json fault) = BeginsObject bytes × IsJsonFault grammar bytes fault
-IsVrpsFailure grammar bytes (Failures.Routes lines) = ⊥
-IsVrpsFailure grammar bytes Failures.Memory = Unit {0}
-
--- The bytes are VRPs.
-abbrev pub HasVrps : Grammar → List ℕ → Type 0
-HasVrps grammar bytes = (vrps : List Payload) × AreVrpsOf grammar bytes vrps
-
--- Why there is no answer: why there are no VRPs; or if there are, refused lines of the routes.
-abbrev pub IsOriginsFailure : OriginsRequest → (vrp_bytes route_bytes : List ℕ) → OriginsFailure → Type 0
-IsOriginsFailure request vrp_bytes route_bytes (Failures.Vrps lines) =
-    IsVrpsFailure request.grammar vrp_bytes (Failures.Vrps lines)
-IsOriginsFailure request vrp_bytes route_bytes (Failures.Json fault) =
-    IsVrpsFailure request.grammar vrp_bytes (Failures.Json fault)
-IsOriginsFailure request vrp_bytes route_bytes (Failures.Routes lines) =
-    HasVrps request.grammar vrp_bytes × ((refusals : List (RefusalFor RouteCause))
-    × HasRefusedRoutes request route_bytes refusals × AreRefused lines refusals)
-IsOriginsFailure request vrp_bytes route_bytes Failures.Memory = Unit {0}
+-- Why there is no answer: refused lines of the routes, or out of memory. When memory runs out is not specified.
+abbrev pub IsRoutesFailure : Grammar → List ℕ → ListFailure RouteCause → Type 0
+IsRoutesFailure grammar bytes (Failures.Refused lines) =
+    (refusals : List (RefusalFor RouteCause)) × HasRefusedRoutes grammar bytes refusals × AreRefused lines refusals
+IsRoutesFailure grammar bytes Failures.Memory = Unit {0}

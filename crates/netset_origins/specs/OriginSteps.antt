@@ -15,7 +15,7 @@ use Rattle.netset_origins.specs.VrpLines.{IsVrpList}
 use Rattle.netset_origins.specs.declared.answer.JudgedRoutes.{JudgedRoutes}
 use Rattle.netset_origins.specs.declared.answer.OriginAnswers.{OriginAnswers}
 use Rattle.netset_origins.specs.declared.answer.OriginsRequest.{OriginsRequest}
-use Rattle.netset_origins.specs.declared.answer.VrpList.{VrpList}
+use Rattle.netset_origins.specs.declared.vrp_list.VrpList.{VrpList}
 use Rattle.netset_origins.specs.declared.route_line.RouteCause.{RouteCause}
 use Rattle.netset_origins.specs.declared.vrp_line.VrpCause.{VrpCause}
 

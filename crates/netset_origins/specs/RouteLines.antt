@@ -1,5 +1,5 @@
--- Lists of routes: on each line a network and its origin, with blanks or a comma between. The origin is the AS number
--- that announced the network, or a set of AS numbers in braces.
+-- Lists of routes: on each line a network and its origin, with blanks between, or a comma and no blank. The origin is
+-- the AS number that announced the network, or a set of AS numbers in braces.
 use Rattle.std.specs.Prelude.{◌≡◌, ◌||◌, ◌==◌, ℕ, Bool, true, List, [], ◌∷◌, ◌++◌, codes, Option, Some, None}
 use Rattle.std.specs.Char.{is_ascii_digit, is_ascii_whitespace}
 use Rattle.std.specs.List.{list_all, list_any}

@@ -16,8 +16,6 @@ use Rattle.ipnet_origins.specs.declared.payload.Payload.{Payload}
 use Rattle.netset_lib.specs.NetworkEntries.{IsArgumentCause}
 use Rattle.netset_origins.specs.Fields.{IsAsn}
 use Rattle.netset_origins.specs.VrpLines.{IsLengthCause}
-use Rattle.netset_origins.specs.declared.vrp_json.JsonFailure.{JsonFailure}
-use Rattle.netset_origins.specs.declared.vrp_json.JsonFailure.TheVariants as Failures
 use Rattle.netset_origins.specs.declared.vrp_json.JsonFault.{JsonFault}
 use Rattle.netset_origins.specs.declared.vrp_json.JsonFault.TheVariants.{NotJson, NoRoas, NotVrp}
 use Rattle.netset_origins.specs.declared.vrp_line.VrpCause.{VrpCause}
@@ -112,8 +110,3 @@ IsJsonFault grammar bytes NoRoas = (d : Data) × (read (after_mark bytes) ≡ So
     × ((items : List Data) → get (codes "roas") d ≢ Some (array (items_of items)))
 IsJsonFault grammar bytes (NotVrp index cause) =
     (items : List Data) × HasRoas bytes items × IsItemFault grammar items (NotVrp index cause)
-
--- Why there are no VRPs. When memory runs out is not specified.
-abbrev pub IsJsonFailure : Grammar → List ℕ → JsonFailure → Type 0
-IsJsonFailure grammar bytes (Failures.Fault fault) = IsJsonFault grammar bytes fault
-IsJsonFailure grammar bytes Failures.Memory = Unit {0}

@@ -1,6 +1,6 @@
 -- Lists of validated ROA payloads (VRPs), as validators write them: on each line an AS number, a network and the
 -- greatest prefix length, with a comma between. A trust anchor and a time may follow; they decide nothing.
-use Rattle.std.specs.Prelude.{◌≡◌, ◌≢◌, ◌⊎◌, ◌<◌, ℕ, List, [], ◌∷◌, ◌++◌, codes, Some}
+use Rattle.std.specs.Prelude.{◌≡◌, ◌⊎◌, ◌<◌, ℕ, List, [], ◌∷◌, ◌++◌, codes, Some}
 use Rattle.ipnet_base.specs.Address.{width}
 use Rattle.ipnet_base.specs.Network.{Network, truncation}
 use Rattle.ipnet.specs.NetworkOf.{ip_network}
@@ -10,7 +10,7 @@ use Rattle.ipnet_lists.specs.declared.cause.Cause.TheVariants.{CarriageReturn}
 use Rattle.ipnet_lists.specs.ContentLines.{IsItemList, OrBroken}
 use Rattle.netset_lib.specs.declared.network_entry.ArgumentCause.TheVariants.{NoEntry}
 use Rattle.ipnet_lists.specs.Entries.{IsNetworkOrMasked}
-use Rattle.ipnet_lists.specs.Lists.{IsContents, RefusalFor}
+use Rattle.ipnet_lists.specs.Lists.{RefusalFor}
 use Rattle.ipnet_origins.specs.declared.payload.Payload.{Payload}
 use Rattle.ipnet_origins.specs.declared.payload.PayloadError.{PayloadError}
 use Rattle.ipnet_origins.specs.declared.payload.PayloadError.TheVariants.{MaxLenBelowPrefixLen, MaxLenAboveWidth}
@@ -36,14 +36,6 @@ last_fields text = after_field (after_field (after_field (after_field text)))
 abbrev pub IsHeader : List ℕ → Type 0
 IsHeader text = (text ≡ codes "ASN,IP Prefix,Max Length,Trust Anchor")
     ⊎ (text ≡ codes "ASN,IP Prefix,Max Length,Trust Anchor,Expires")
-
--- The contents of a line are neither empty nor a header. Example: `AS64496,192.0.2.0/24,24`.
-abbrev pub IsVrpContents : List ℕ → Type 0
-IsVrpContents text = (text ≢ []) × ¬ (IsHeader text)
-
--- The line has such contents. Example: `x # ours`; not `# ours` or `ASN,IP Prefix,Max Length,Trust Anchor`.
-abbrev pub IsOtherLine : List ℕ → Type 0
-IsOtherLine line = (text : List ℕ) × IsContents line text × IsVrpContents text
 
 -- The VRP has this AS number, and this network without host bits. Only private contracts use this.
 pub record IsVrpOf (asn : ℕ) (n : Network) (vrp : Payload) : Type 0 where

@@ -1,26 +1,21 @@
-//! The validity of the routes of a list, by a list of validated ROA payloads (VRPs).
-ghost use Rattle.std.specs.Prelude.{◌≡◌, ◌⊎◌, ◌++◌, ◌↔◌, IsTrue, IfOk, IfErr, OnOk, List, Some};
+//! The validity of the routes of a list, by validated ROA payloads (VRPs).
+ghost use Rattle.std.specs.Prelude.{◌≡◌, ◌⊎◌, ◌++◌, ◌↔◌, [], ℕ, IsTrue, IfOk, IfErr, OnOk, List, Some};
 ghost use Rattle.ipnet_origins.specs.declared.origins.Validity.TheVariants.{Invalid};
 ghost use Rattle.ipnet.specs.NetworkOf.{ip_network};
 ghost use Rattle.ipnet_origins.specs.OriginsOf.{payloads_of};
 ghost use Rattle.ipnet_origins.specs.declared.payload.Payload.{Payload};
-ghost use Rattle.netset_origins.specs.OriginAnswers.{validity_word, vrp_part, why_part, IsShown, IsOriginAnswer};
-ghost use Rattle.netset_origins.specs.OriginAnswers.{AreVrpsOf, IsVrpsFailure, IsOriginsFailure};
-ghost use Rattle.netset_origins.specs.OriginSteps.{AreVrpsRead, AreJudged, AddsRoute, AddsWhy, AddsLine};
+ghost use Rattle.netset_origins.specs.OriginAnswers.{validity_word, vrp_part, IsShown, IsOriginAnswer, IsWhyText};
+ghost use Rattle.netset_origins.specs.OriginAnswers.{IsRoutesFailure};
+ghost use Rattle.netset_origins.specs.OriginSteps.{AreJudged, AddsRoute, AddsWhy, AddsLine};
 ghost use Rattle.netset_origins.specs.RouteLines.{IsRouteText, IsRouteCause};
 ghost use Rattle.netset_origins.specs.RouteSteps.{route_in};
-ghost use Rattle.netset_origins.specs.VrpLines.{IsVrpLine, IsNoVrpLine};
 ghost use Rattle.ipnet_lists.specs.declared.cause.Cause.TheVariants.{CarriageReturn};
 ghost use Rattle.netset_lib.specs.declared.network_entry.ArgumentCause.TheVariants.{NoEntry};
 ghost use Rattle.netset_origins.specs.declared.route_line.RouteCause.TheVariants as Routes;
-ghost use Rattle.netset_origins.specs.declared.vrp_line.VrpCause.TheVariants as Vrps;
-ghost use Rattle.netset_origins.specs.declared.answer.OriginsFailure.TheVariants.{Memory};
 
 use crate::route_line::{RouteCause, RouteLine, read_route};
-use crate::vrp_json::{JsonFailure, JsonFault, begins_object, read_json};
-use crate::vrp_line::{VrpCause, is_header, read_vrp};
 use ipnet::{Grammar, IpNet};
-use ipnet_lists::{Cause, ContentLine, LineHandler, Refusals, read_lines};
+use ipnet_lists::{Cause, ContentLine, LineHandler, ListFailure, Refusals, read_lines};
 use ipnet_origins::{OriginTable, Payload, Validity};
 use itoa::Buffer;
 use netset_lib::ArgumentCause;
@@ -29,33 +24,12 @@ use std::alloc::{AllocError, Global};
 /// A question about a list of routes.
 #[derive(Clone, Copy, Debug, PartialEq, Eq)]
 pub struct OriginsRequest {
-    /// The grammar of the networks in both lists.
+    /// The grammar of the networks of the routes.
     pub grammar: Grammar,
     /// Whether the VRPs that cover a route follow it.
     pub why: bool,
     /// The validity of the routes that are printed, or `None` if all are.
     pub only: Option<Validity>,
-}
-
-/// Why there is no answer.
-#[derive(Debug, Drop)]
-pub enum OriginsFailure {
-    /// These lines of the list of VRPs are refused.
-    Vrps(Refusals<VrpCause>),
-    /// The list of VRPs begins like JSON, and is not a list of VRPs in JSON.
-    Json(JsonFault),
-    /// These lines of the list of routes are refused.
-    Routes(Refusals<RouteCause>),
-    /// Memory ran out.
-    Memory,
-}
-
-impl From<AllocError> for OriginsFailure {
-    ghost from_gives = { λ _ result. result ≡ Memory };
-
-    fn from(_: AllocError) -> OriginsFailure {
-        OriginsFailure::Memory
-    }
 }
 
 /// The validity of the routes of a list.
@@ -65,58 +39,6 @@ pub struct OriginAnswers {
     pub text: Vec<u8>,
     /// Whether a route is invalid.
     pub invalid: bool,
-}
-
-/// A list of VRPs that was read, and its refused lines.
-#[derive(Drop)]
-struct VrpList {
-    vrps: Vec<Payload>,
-    refused: Refusals<VrpCause>,
-}
-
-/// Takes the VRPs of a list.
-#[derive(Drop)]
-struct VrpReader {
-    grammar: Grammar,
-}
-
-impl<'a> LineHandler<'a, Vec<Payload>, VrpCause> for VrpReader {
-    ghost takes = { λ h line old new. (added : List Payload) × IsVrpLine h.grammar line.text added
-        × (new.items ≡ old.items ++ added) };
-
-    ghost is_cause = { λ h. IsNoVrpLine h.grammar };
-
-    ghost broken = { λ h. Vrps.NoNetwork (NoEntry (Some CarriageReturn)) };
-
-    fn refuse_broken(&self) -> VrpCause {
-        VrpCause::NoNetwork(ArgumentCause::NoEntry(Some(Cause::CarriageReturn)))
-    }
-
-    fn take(
-        &self,
-        made: &mut Vec<Payload>,
-        line: ContentLine<'a>,
-    ) -> Result<Result<(), VrpCause>, AllocError> {
-        if is_header(line.text) {
-            return Ok(Ok(()));
-        }
-        match read_vrp(line.text, self.grammar) {
-            Ok(vrp) => {
-                made.push(vrp)?;
-                Ok(Ok(()))
-            }
-            Err(cause) => Ok(Err(cause)),
-        }
-    }
-}
-
-/// Reads the list of VRPs. Fails if memory runs out.
-fn read_vrps(alloc: Global, bytes: &[u8], grammar: Grammar) -> Result<VrpList, AllocError>
-    ensures { IfOk result (AreVrpsRead grammar bytes.now) }
-{
-    let mut vrps = Vec::new(alloc);
-    let refused = read_lines(alloc, bytes, &VrpReader { grammar }, &mut vrps)?;
-    Ok(VrpList { vrps, refused })
 }
 
 /// The word of the validity.
@@ -159,12 +81,27 @@ fn push_vrp(text: &mut Vec<u8>, vrp: &Payload) -> Result<(), AllocError>
     text.extend_from_slice(Buffer::new().format(vrp.asn()).as_bytes())
 }
 
-/// Appends the VRPs. Fails if memory runs out.
-fn push_vrps(text: &mut Vec<u8>, vrps: &[Payload]) -> Result<(), AllocError>
-    ensures { OnOk result (text.new.items ≡ text.old.items ++ why_part vrps.now) }
+/// Returns the text of a VRP, after a TAB. Fails if memory runs out.
+fn vrp_text(alloc: Global, vrp: &Payload) -> Result<Vec<u8>, AllocError>
+    ensures { IfOk result (λ text. text.items ≡ vrp_part vrp.now) }
 {
+    let mut text = Vec::new(alloc);
+    push_vrp(&mut text, vrp)?;
+    Ok(text)
+}
+
+/// Appends the VRPs, without those that are written like the one before them. Fails if memory runs out.
+fn push_vrps(alloc: Global, text: &mut Vec<u8>, vrps: &[Payload]) -> Result<(), AllocError>
+    ensures { OnOk result ((part : List ℕ) × IsWhyText [] vrps.now part × (text.new.items ≡ text.old.items ++ part)) }
+{
+    let mut last = Vec::new(alloc);
     for vrp in vrps {
-        push_vrp(text, vrp)?;
+        let part = vrp_text(alloc, vrp)?;
+        if part.as_slice() == last.as_slice() {
+            continue;
+        }
+        text.extend_from_slice(part.as_slice())?;
+        last = part;
     }
     Ok(())
 }
@@ -187,7 +124,7 @@ impl Judge {
             return Ok(());
         }
         let covering = self.table.covering(self.alloc, network)?;
-        push_vrps(text, covering.as_slice())
+        push_vrps(self.alloc, text, covering.as_slice())
     }
 
     /// Appends the line of a route with this text, network and validity. Fails if memory runs out.
@@ -284,61 +221,34 @@ fn judge_routes(
     Ok(JudgedRoutes { answers, refused })
 }
 
-/// Returns the VRPs of the list, which is lines or JSON, or why it has none.
-fn vrps_of(alloc: Global, bytes: &[u8], grammar: Grammar) -> Result<Vec<Payload>, OriginsFailure>
-    ensures vrps { IfOk result (λ vrps. AreVrpsOf grammar bytes.now vrps.items) }
-    ensures failure { IfErr result (IsVrpsFailure grammar bytes.now) }
-{
-    if begins_object(bytes) {
-        return match read_json(alloc, bytes, grammar) {
-            Ok(vrps) => Ok(vrps),
-            Err(JsonFailure::Fault(fault)) => Err(OriginsFailure::Json(fault)),
-            Err(JsonFailure::Memory) => Err(OriginsFailure::Memory),
-        };
-    }
-    let VrpList { vrps, refused } = read_vrps(alloc, bytes, grammar)?;
-    if refused.count != 0 {
-        return Err(OriginsFailure::Vrps(refused));
-    }
-    Ok(vrps)
-}
-
-/// Returns the validity of the routes of a list, by a list of VRPs: a line for each route, in order, with the route as
-/// it is written, a TAB and `valid`, `invalid` or `not-found`.
+/// Returns the validity of the routes of a list, by these VRPs: a line for each route, in order, with the route as it
+/// is written, a TAB and `valid`, `invalid` or `not-found`.
 ///
-/// A line of the VRPs has the fields AS number, network and greatest prefix length, with a comma between, and perhaps a
-/// trust anchor and a time, which decide nothing. A header line is skipped. If the first byte is `{`, the VRPs are
-/// JSON: an object whose member `roas` is an array of objects with `asn`, `prefix` and `maxLength`. A line of the
-/// routes has a network, blanks or a comma, and an AS number, or a set of AS numbers in braces. Comments are as in
-/// lists of entries.
+/// A line of the routes has a network, blanks or a comma, and an AS number, or a set of AS numbers in braces. Comments
+/// are as in lists of entries.
 ///
 /// With `why`, each VRP that covers the route follows after a TAB, the longest networks first. With `only`, the other
 /// routes are left out.
 ///
-/// The error is `Vrps` if lines of the VRPs are refused, and `Json` if JSON is not a list of VRPs. If neither is true,
-/// the error is `Routes` if lines of the routes are refused. It is `Memory` if memory runs out.
+/// The error is `Refused` if lines of the routes are refused, and `Memory` if memory runs out.
 ///
 /// ```text
-/// "AS64496,192.0.2.0/24,25,x\n" and "192.0.2.0/25 64496\n192.0.2.0/26 64496\n198.51.100.0/24 64496\n":
+/// the VRP 192.0.2.0/24 with 25 and AS 64496, and "192.0.2.0/25 64496\n192.0.2.0/26 64496\n198.51.100.0/24 64496\n":
 ///     "192.0.2.0/25 64496\tvalid\n192.0.2.0/26 64496\tinvalid\n198.51.100.0/24 64496\tnot-found\n", and a route is
 ///     invalid
 /// ```
 pub fn origin_answers(
     alloc: Global,
-    vrps: &[u8],
+    vrps: Vec<Payload>,
     routes: &[u8],
     request: OriginsRequest,
-) -> Result<OriginAnswers, OriginsFailure>
-    ensures answers { IfOk result (λ a. IsOriginAnswer request vrps.now routes.now a.invalid a.text.items) }
-    ensures failure { IfErr result (IsOriginsFailure request vrps.now routes.now) }
+) -> Result<OriginAnswers, ListFailure<RouteCause>>
+    ensures answers { IfOk result (λ a. IsOriginAnswer request vrps.items routes.now a.invalid a.text.items) }
+    ensures failure { IfErr result (IsRoutesFailure request.grammar routes.now) }
 {
-    let vrps = match vrps_of(alloc, vrps, request.grammar) {
-        Ok(vrps) => vrps,
-        Err(failure) => return Err(failure),
-    };
     let JudgedRoutes { answers, refused } = judge_routes(alloc, vrps, routes, request)?;
     if refused.count != 0 {
-        return Err(OriginsFailure::Routes(refused));
+        return Err(ListFailure::Refused(refused));
     }
     Ok(answers)
 }

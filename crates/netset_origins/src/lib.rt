@@ -8,9 +8,11 @@ mod reasons;
 pub mod route_line;
 pub mod vrp_json;
 pub mod vrp_line;
+pub mod vrp_list;
 
-pub use answer::{OriginAnswers, OriginsFailure, OriginsRequest, origin_answers};
+pub use answer::{OriginAnswers, OriginsRequest, origin_answers};
 pub use origins_program::OriginsCommand;
 pub use route_line::RouteCause;
 pub use vrp_json::JsonFault;
-pub use vrp_line::{VrpCause, has_vrp_lines};
+pub use vrp_line::VrpCause;
+pub use vrp_list::{VrpsFailure, vrps_or_report};

@@ -37,9 +37,9 @@ pub(crate) fn vrp_reason(cause: &VrpCause) -> &'static str
 {
     match cause {
         VrpCause::TooManyFields => "more than five fields",
-        VrpCause::NoAsn => "the first field is not an AS number",
+        VrpCause::NoAsn => "the AS number is missing or wrong",
         VrpCause::NoNetwork(cause) => network_reason(*cause),
-        VrpCause::NoMaxLen => "the third field is not a prefix length",
+        VrpCause::NoMaxLen => "the greatest length is missing or wrong",
         VrpCause::RefusedMaxLen(error) => length_reason(error),
     }
 }
@@ -50,7 +50,7 @@ fn route_reason(cause: RouteCause) -> &'static str
 {
     match cause {
         RouteCause::NoNetwork(cause) => network_reason(cause),
-        RouteCause::NoOrigin => "no AS number follows the network",
+        RouteCause::NoOrigin => "no single AS number follows the network",
     }
 }
 

@@ -4,8 +4,6 @@ ghost use Rattle.serde_json.specs.Find.{get, as_array};
 ghost use Rattle.serde_json.specs.View.{view, items_view};
 ghost use Rattle.netset_origins.specs.VrpJson.{BeginsObject, text_at, number_at, IsAsnAt, IsVrpData, IsDataCause};
 ghost use Rattle.netset_origins.specs.VrpJson.{AreVrpItems, IsItemFault, IsVrpJson, IsJsonFault};
-ghost use Rattle.netset_origins.specs.VrpJson.{IsJsonFailure};
-ghost use Rattle.netset_origins.specs.declared.vrp_json.JsonFailure.TheVariants.{Memory};
 
 use crate::field::{asn_of, network_of};
 use crate::vrp_line::{VrpCause, vrp_with};
@@ -30,23 +28,6 @@ pub enum JsonFault {
     NoRoas,
     /// The first item of `roas` that is not a VRP has this index, from 0, and this cause.
     NotVrp(usize, VrpCause),
-}
-
-/// Why there are no VRPs.
-#[derive(Debug, Drop)]
-pub(crate) enum JsonFailure {
-    /// The bytes are not a list of VRPs.
-    Fault(JsonFault),
-    /// Memory ran out.
-    Memory,
-}
-
-impl From<AllocError> for JsonFailure {
-    ghost from_gives = { λ _ result. result ≡ Memory };
-
-    fn from(_: AllocError) -> JsonFailure {
-        JsonFailure::Memory
-    }
 }
 
 /// Whether the first byte of the list that is not a blank is the brace that begins an object.
@@ -134,29 +115,29 @@ fn vrps_in(
     Ok(Ok(vrps))
 }
 
-/// Returns the VRPs of the list, or why it has none.
+/// Returns the VRPs of the list, or why it is not a list of VRPs. Fails if memory runs out.
 pub(crate) fn read_json(
     alloc: Global,
     bytes: &[u8],
     grammar: Grammar,
-) -> Result<Vec<Payload>, JsonFailure>
-    ensures vrps { IfOk result (λ vrps. IsVrpJson grammar bytes.now vrps.items) }
-    ensures failure { IfErr result (IsJsonFailure grammar bytes.now) }
+) -> Result<Result<Vec<Payload>, JsonFault>, AllocError>
+    ensures vrps { IfOk result (λ read. IfOk read (λ vrps. IsVrpJson grammar bytes.now vrps.items)) }
+    ensures fault { IfOk result (λ read. IfErr read (IsJsonFault grammar bytes.now)) }
 {
     let value = match Value::from_slice(alloc, skip_mark(bytes)) {
         Ok(value) => value,
         Err(error) => {
             if error.is_memory() {
-                return Err(JsonFailure::Memory);
+                return Err(AllocError);
             }
-            return Err(JsonFailure::Fault(JsonFault::NotJson));
+            return Ok(Err(JsonFault::NotJson));
         }
     };
     let Some(items) = items_in(&value, "roas") else {
-        return Err(JsonFailure::Fault(JsonFault::NoRoas));
+        return Ok(Err(JsonFault::NoRoas));
     };
     match vrps_in(alloc, items.as_slice(), grammar)? {
-        Ok(vrps) => Ok(vrps),
-        Err(fault) => Err(JsonFailure::Fault(fault)),
+        Ok(vrps) => Ok(Ok(vrps)),
+        Err(fault) => Ok(Err(fault)),
     }
 }

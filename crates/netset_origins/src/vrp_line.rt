@@ -1,16 +1,12 @@
 //! A line of a list of validated ROA payloads (VRPs): an AS number, a network and the greatest prefix length.
-ghost use Rattle.std.specs.Prelude.{◌≡◌, ◌⊎◌, ◌↔◌, Any, Some, IsTrue, IfOk, IfErr};
-ghost use Rattle.ipnet.specs.Lines.{lines_of};
-ghost use Rattle.ipnet_lists.specs.Lists.{after_mark};
+ghost use Rattle.std.specs.Prelude.{◌≡◌, ◌↔◌, Some, IsTrue, IfOk, IfErr};
 ghost use Rattle.ipnet.specs.NetworkOf.{ip_network};
 ghost use Rattle.netset_origins.specs.VrpLines.{IsHeader, IsVrpOf, IsLengthError, IsVrpText, IsVrpCause};
-ghost use Rattle.netset_origins.specs.VrpLines.{IsLengthCause, IsOtherLine, IsVrpContents};
-ghost use Rattle.netset_origins.specs.VrpJson.{BeginsObject};
+ghost use Rattle.netset_origins.specs.VrpLines.{IsLengthCause};
 
 use crate::field::{asn_of, cut_field, network_of, number_of};
-use crate::vrp_json::begins_object;
 use ipnet::{Grammar, IpNet};
-use ipnet_lists::{contents_of, first_line_of_bytes, has_byte, skip_mark};
+use ipnet_lists::has_byte;
 use ipnet_origins::{Payload, PayloadError};
 use netset_lib::ArgumentCause;
 
@@ -45,39 +41,6 @@ pub(crate) fn is_header(text: &[u8]) -> bool
 {
     text == b"ASN,IP Prefix,Max Length,Trust Anchor".as_slice()
         || text == b"ASN,IP Prefix,Max Length,Trust Anchor,Expires".as_slice()
-}
-
-/// Whether the contents of a line are neither empty nor a header.
-fn is_vrp_text(text: &[u8]) -> bool
-    ensures { IsTrue result ↔ IsVrpContents text.now }
-{
-    !text.is_empty() && !is_header(text)
-}
-
-/// Returns whether the bytes are more than empty lines and headers: they begin like JSON, or a line has other contents.
-///
-/// ```text
-/// "ASN,IP Prefix,Max Length,Trust Anchor\n# none\n": false; "x\n" and "{}": true
-/// ```
-pub fn has_vrp_lines(bytes: &[u8]) -> bool
-    ensures { IsTrue result ↔ (BeginsObject bytes.now ⊎ Any IsOtherLine (lines_of (after_mark bytes.now))) }
-{
-    begins_object(bytes) || has_other_lines(bytes)
-}
-
-/// Whether a line has contents that are not a header.
-fn has_other_lines(bytes: &[u8]) -> bool
-    ensures { IsTrue result ↔ Any IsOtherLine (lines_of (after_mark bytes.now)) }
-{
-    let mut rest = skip_mark(bytes);
-    'lines: while !rest.is_empty() {
-        let (line, after) = first_line_of_bytes(rest);
-        if is_vrp_text(contents_of(line)) {
-            return true;
-        }
-        rest = after;
-    }
-    false
 }
 
 /// Returns the VRP of this AS number, network and greatest prefix length.

@@ -1,10 +1,10 @@
--- Each entry in a log has a "." or a ":".
-use Rattle.std.proofs.Common.{◌≡◌, ℕ, ◌||◌, ◌==◌, Bool, true, false, List, [], ◌∷◌, ◌++◌, All, refl, ◌∙◌}
-use Rattle.std.proofs.Common.{subst}
-use Rattle.std.proofs.Common.{length, append_assoc, drop, inl, inr, take, arith, ◌-◌, ◌+◌, if◌then◌else◌}
+-- Each address has three "." or two ":".
+use Rattle.std.proofs.Common.{◌≡◌, ◌≤◌, ℕ, ◌||◌, ◌==◌, ◌-◌, ◌+◌, Bool, true, false, cond, List, [], ◌∷◌, ◌++◌, length}
+use Rattle.std.proofs.Common.{refl, append_assoc, ap, sym, ◌∙◌, subst, arith, drop, inl, inr, take, if◌then◌else◌}
 use Rattle.std.specs.Char.{is_ascii_whitespace}
-use Rattle.std.specs.List.{after_first, before_first, list_any, position_or_len, suffix_len}
-use Rattle.std.proofs.lemmas.List.Elements.{All-nil, All-cons, All-head, All-tail, All-take, All-drop}
+use Rattle.std.specs.List.{after_first, before_first, count_by, list_any, position_or_len, suffix_len}
+use Rattle.std.proofs.lemmas.List.{take-append-drop}
+use Rattle.std.proofs.lemmas.List.Sums.{sum_by-append}
 use Rattle.ipnet_base.specs.Address.{Address}
 use Rattle.ipnet_base.specs.Network.{Network}
 use Rattle.ipnet_base.specs.Ranges.{AddressRange}
@@ -12,81 +12,132 @@ use Rattle.ipnet.specs.declared.parser.Grammar.{Grammar}
 use Rattle.ipnet.specs.AddressTexts.{IsIpv4AddressText, IsIpv6AddressText, IsGroups, EndsInIpv4}
 use Rattle.ipnet.proofs.Ipv4Texts.{Dots-from}
 use Rattle.ipnet_lists.specs.Entries.{IsAddressText, IsEntryText, IsNetworkOrMasked, before_blanks}
-use Rattle.ipnet_lists.proofs.AddressBytes.{cut_at, middle}
 use Rattle.ipnet_lists.specs.Causes.{IsCutAt}
-use Rattle.netset_words.specs.Places.{HasNoPlace, IsAtColon, IsAtSlash, IsAtUser, IsBefore, IsBeforeLastPort, IsHost}
-use Rattle.netset_words.specs.Places.{IsInside}
-use Rattle.netset_words.specs.Places.{IsOnlyAddress, IsOnlyIpv4, before_sign, ends_in_colon, is_end, trimmed}
+use Rattle.netset_words.specs.Places.{AreLastParts, HasNoPlace, IsAtColon, IsAtSlash, IsAtUser, IsBefore}
+use Rattle.netset_words.specs.Places.{IsBeforeLastPort, IsHost, IsInside, IsOnlyAddress, IsOnlyIpv4, IsSomeAddress}
+use Rattle.netset_words.specs.Places.{before_sign, ends_in_colon, is_end, trimmed}
+use Rattle.netset_words.specs.PlaceSteps.{HasFewSigns}
 use Rattle.netset_words.specs.Words.{Word}
 
--- the byte is "." or ":"
-abbrev pub is_separator : ℕ → Bool
-is_separator b = (b == 46) || (b == 58)
+abbrev dot : ℕ → ℕ
+dot b = cond (b == 46) 1 0
 
--- another byte
-abbrev IsOther : ℕ → Type 0
-IsOther b = is_separator b ≡ false
+abbrev colon : ℕ → ℕ
+colon b = cond (b == 58) 1 0
 
+abbrev dots : List ℕ → ℕ
+dots text = count_by (λ b. b == 46) text
+
+abbrev colons : List ℕ → ℕ
+colons text = count_by (λ b. b == 58) text
+
+dots_at : (front back : List ℕ) → dots (front ++ 46 ∷ back) ≡ dots front + (1 + dots back)
+dots_at front back =
+    sum_by-append dot front (46 ∷ back) ∙ ap (λ n. dots front + n) (sum_by-append dot (46 ∷ []) back)
+
+colons_at : (front back : List ℕ) → colons (front ++ 58 ∷ back) ≡ colons front + (1 + colons back)
+colons_at front back =
+    sum_by-append colon front (58 ∷ back) ∙ ap (λ n. colons front + n) (sum_by-append colon (58 ∷ []) back)
+
+-- no sign at all
 neither : (p : Bool) (q : Bool) → (p || q) ≡ false → (p ≡ false) × (q ≡ false)
 neither true q e = absurd cc
 neither false q e = (refl, e)
 
-others : (text : List ℕ) → list_any is_separator text ≡ false → All IsOther text
-others [] e = All-nil IsOther
-others (b ∷ text) e =
-    let both = neither (is_separator b) (list_any is_separator text) e in
-    All-cons IsOther b text both.0 (others text both.1)
+none_counted : (text : List ℕ) → list_any (λ b. (b == 46) || (b == 58)) text ≡ false
+    → (dots text ≡ 0) × (colons text ≡ 0)
+none_counted [] e = (refl, refl)
+none_counted (b ∷ text) e =
+    let both = neither ((b == 46) || (b == 58)) (list_any (λ c. (c == 46) || (c == 58)) text) e in
+    let each = neither (b == 46) (b == 58) both.0 in
+    let rest = none_counted text both.1 in
+    let no_dot : dots (b ∷ []) ≡ 0 = ap (λ t. 0 + cond t 1 0) each.0 in
+    let no_colon : colons (b ∷ []) ≡ 0 = ap (λ t. 0 + cond t 1 0) each.1 in
+    let dot_count : dots (b ∷ text) ≡ dots (b ∷ []) + dots text = sum_by-append dot (b ∷ []) text in
+    let colon_count : colons (b ∷ text) ≡ colons (b ∷ []) + colons text = sum_by-append colon (b ∷ []) text in
+    (omega (arith, dot_count, no_dot, rest.0), omega (arith, colon_count, no_colon, rest.1))
 
-front_all : (front back : List ℕ) → All IsOther (front ++ back) → All IsOther front
-front_all [] back h = All-nil IsOther
-front_all (b ∷ front) back h =
-    All-cons IsOther b front (All-head IsOther b (front ++ back) h)
-    (front_all front back (All-tail IsOther b (front ++ back) h))
+pub few_none : (text : List ℕ) → list_any (λ b. (b == 46) || (b == 58)) text ≡ false → HasFewSigns text
+few_none text e = let none = none_counted text e in (omega (arith, none.0), omega (arith, none.1))
 
--- no text with a separator
-no_dot : (text front back : List ℕ) → All IsOther text → text ≡ front ++ 46 ∷ back → ⊥
-no_dot text front back h e =
-    let clash : true ≡ false = middle IsOther front 46 back (subst (All IsOther) e h) in absurd cc
+few_front : (front back : List ℕ) → HasFewSigns (front ++ back) → HasFewSigns front
+few_front front back h = (
+  let count : dots (front ++ back) ≡ dots front + dots back = sum_by-append dot front back in
+      omega (arith, count, h.0),
+  let count : colons (front ++ back) ≡ colons front + colons back = sum_by-append colon front back in
+      omega (arith, count, h.1),
+)
 
-no_colon : (text front back : List ℕ) → All IsOther text → text ≡ front ++ 58 ∷ back → ⊥
-no_colon text front back h e =
-    let clash : true ≡ false = middle IsOther front 58 back (subst (All IsOther) e h) in absurd cc
+few_back : (front back : List ℕ) → HasFewSigns (front ++ back) → HasFewSigns back
+few_back front back h = (
+  let count : dots (front ++ back) ≡ dots front + dots back = sum_by-append dot front back in
+      omega (arith, count, h.0),
+  let count : colons (front ++ back) ≡ colons front + colons back = sum_by-append colon front back in
+      omega (arith, count, h.1),
+)
 
-no_ipv4 : (grammar : Grammar) (text octets : List ℕ) → All IsOther text → IsIpv4AddressText grammar text octets → ⊥
+few_take : (n : ℕ) (text : List ℕ) → HasFewSigns text → HasFewSigns (take n text)
+few_take n text h = few_front (take n text) (drop n text) (subst HasFewSigns (sym (take-append-drop n text)) h)
+
+few_drop : (n : ℕ) (text : List ℕ) → HasFewSigns text → HasFewSigns (drop n text)
+few_drop n text h = few_back (take n text) (drop n text) (subst HasFewSigns (sym (take-append-drop n text)) h)
+
+-- no address has so few signs
+no_ipv4 : (grammar : Grammar) (text octets : List ℕ) → HasFewSigns text → IsIpv4AddressText grammar text octets → ⊥
 no_ipv4 grammar text octets h is =
-    let dots = Dots-from grammar text octets is in no_dot text dots.t₁ _ h dots.spelled
+    let d = Dots-from grammar text octets is in
+    let one = dots_at d.t₁ (d.t₂ ++ (46 ∷ (d.t₃ ++ (46 ∷ d.t₄)))) in
+    let two = dots_at d.t₂ (d.t₃ ++ (46 ∷ d.t₄)) in
+    let three = dots_at d.t₃ d.t₄ in
+    let all : dots text ≡ dots (d.t₁ ++ (46 ∷ (d.t₂ ++ (46 ∷ (d.t₃ ++ (46 ∷ d.t₄)))))) = ap dots d.spelled in
+    omega (arith, h.0, all, one, two, three)
 
-no_groups : (text groups : List ℕ) → All IsOther text → length groups ≡ 8 → IsGroups text groups → ⊥
+two_colons : (text first rest next last : List ℕ) → HasFewSigns text → text ≡ first ++ (58 ∷ []) ++ rest
+    → rest ≡ next ++ (58 ∷ []) ++ last → ⊥
+two_colons text first rest next last h is also =
+    let all : colons text ≡ colons (first ++ 58 ∷ rest) = ap colons (is ∙ append_assoc first (58 ∷ []) rest) in
+    let more : colons rest ≡ colons (next ++ 58 ∷ last) = ap colons (also ∙ append_assoc next (58 ∷ []) last) in
+    let one = colons_at first rest in
+    let two = colons_at next last in
+    omega (arith, h.1, all, more, one, two)
+
+no_groups : (text groups : List ℕ) → HasFewSigns text → length groups ≡ 8 → IsGroups text groups → ⊥
 no_groups text [] h eight is = absurd (omega (arith, eight))
 no_groups text (g ∷ []) h eight is = absurd (omega (arith, eight))
-no_groups text (g ∷ i ∷ groups) h eight is =
-    no_colon text is.0 is.1 h (is.2 ∙ append_assoc is.0 (58 ∷ []) is.1)
+no_groups text (g ∷ i ∷ []) h eight is = absurd (omega (arith, eight))
+no_groups text (g ∷ i ∷ j ∷ groups) h eight (first, rest, spelled, group, (next, last, also, other, more)) =
+    two_colons text first rest next last h spelled also
 
-no_mixed : (grammar : Grammar) (text groups : List ℕ) → All IsOther text → length groups ≡ 8
+no_mixed : (grammar : Grammar) (text groups : List ℕ) → HasFewSigns text → length groups ≡ 8
     → EndsInIpv4 grammar text groups → ⊥
 no_mixed grammar text [] h eight is = absurd is
 no_mixed grammar text (g ∷ []) h eight is = absurd is
 no_mixed grammar text (g ∷ i ∷ []) h eight is = absurd (omega (arith, eight))
-no_mixed grammar text (g ∷ i ∷ j ∷ groups) h eight is =
-    no_colon text is.0 is.1 h (is.2 ∙ append_assoc is.0 (58 ∷ []) is.1)
+no_mixed grammar text (g ∷ i ∷ j ∷ []) h eight is = absurd (omega (arith, eight))
+no_mixed grammar text (g ∷ i ∷ j ∷ k ∷ groups) h eight (first, rest, spelled, group, (next, last, also, other, more)) =
+    two_colons text first rest next last h spelled also
 
-no_ipv6 : (grammar : Grammar) (text groups : List ℕ) → All IsOther text → IsIpv6AddressText grammar text groups → ⊥
+no_ipv6 : (grammar : Grammar) (text groups : List ℕ) → HasFewSigns text → IsIpv6AddressText grammar text groups → ⊥
 no_ipv6 grammar text groups h (inl is) = no_groups text groups h is.0 is.1
 no_ipv6 grammar text groups h (inr (inl is)) = no_mixed grammar text groups h is.0 is.1
 no_ipv6 grammar text groups h (inr (inr is)) =
-    no_colon text is.head_text (58 ∷ is.tail_text) h
-    (is.spelled ∙ append_assoc is.head_text (58 ∷ 58 ∷ []) is.tail_text)
+    let all : colons text ≡ colons (is.head_text ++ 58 ∷ 58 ∷ is.tail_text) =
+    ap colons (is.spelled ∙ append_assoc is.head_text (58 ∷ 58 ∷ []) is.tail_text) in
+    let one = colons_at is.head_text (58 ∷ is.tail_text) in
+    let two : colons (58 ∷ is.tail_text) ≡ 1 + colons is.tail_text = sum_by-append colon (58 ∷ []) is.tail_text in
+    omega (arith, h.1, all, one, two)
 
-no_address : (grammar : Grammar) (text : List ℕ) (x : Address) → All IsOther text → IsAddressText grammar text x → ⊥
+pub no_address : (grammar : Grammar) (text : List ℕ) (x : Address) → HasFewSigns text → IsAddressText grammar text x
+    → ⊥
 no_address grammar text x h (inl is) = no_ipv4 grammar text is.octets h is.writes
 no_address grammar text x h (inr is) = no_ipv6 grammar text is.groups h is.writes
 
 -- the part before a slash
-before_slash : (text front back : List ℕ) → All IsOther text → text ≡ front ++ (47 ∷ []) ++ back → All IsOther front
+before_slash : (text front back : List ℕ) → HasFewSigns text → text ≡ front ++ (47 ∷ []) ++ back → HasFewSigns front
 before_slash text front back h e =
-    front_all front (47 ∷ back) (subst (All IsOther) (e ∙ append_assoc front (47 ∷ []) back) h)
+    few_front front (47 ∷ back) (subst HasFewSigns (e ∙ append_assoc front (47 ∷ []) back) h)
 
-no_network : (grammar : Grammar) (text : List ℕ) (n : Network) → All IsOther text → IsNetworkOrMasked grammar text n
+no_network : (grammar : Grammar) (text : List ℕ) (n : Network) → HasFewSigns text → IsNetworkOrMasked grammar text n
     → ⊥
 no_network grammar text n h (inl (inl is)) =
     no_ipv4 grammar is.address_text is.octets (before_slash text is.address_text is.length_text h is.spelled)
@@ -98,101 +149,112 @@ no_network grammar text n h (inr is) =
     no_address grammar is.address_text is.parts.address
     (before_slash text is.address_text is.mask_text h is.spelled) is.parts.writes_address
 
-no_entry : (grammar : Grammar) (text : List ℕ) (range : AddressRange) → All IsOther text
+no_entry : (grammar : Grammar) (text : List ℕ) (range : AddressRange) → HasFewSigns text
     → IsEntryText grammar text range → ⊥
 no_entry grammar text range h (inl (inl is)) = no_network grammar text is.network h is.writes
 no_entry grammar text range h (inl (inr is)) = no_address grammar text is.address h is.writes
 no_entry grammar text range h (inr is) =
     no_address grammar (before_blanks is.first_text) is.ends.first
-    (All-take IsOther (length is.first_text - suffix_len is_ascii_whitespace is.first_text) is.first_text
-    (front_all is.first_text (45 ∷ is.last_text)
-    (subst (All IsOther) (is.spelled ∙ append_assoc is.first_text (45 ∷ []) is.last_text) h)))
+    (few_take (length is.first_text - suffix_len is_ascii_whitespace is.first_text) is.first_text
+    (few_front is.first_text (45 ∷ is.last_text)
+    (subst HasFewSigns (is.spelled ∙ append_assoc is.first_text (45 ∷ []) is.last_text) h)))
     is.ends.writes_first
 
--- a text without one is not an entry
-pub no_entry_without : (grammar : Grammar) (text : List ℕ) (range : AddressRange)
-    → list_any is_separator text ≡ false → IsEntryText grammar text range → ⊥
-no_entry_without grammar text range none = no_entry grammar text range (others text none)
+-- a text with so few is not an entry
+pub no_entry_without : (grammar : Grammar) (text : List ℕ) (range : AddressRange) → HasFewSigns text
+    → IsEntryText grammar text range → ⊥
+no_entry_without = no_entry
 
 -- ---- nor has it a place
 
-lone_address : (grammar : Grammar) (text place : List ℕ) → All IsOther text → IsOnlyAddress grammar text place → ⊥
+lone_address : (grammar : Grammar) (text place : List ℕ) → HasFewSigns text → IsOnlyAddress grammar text place → ⊥
 lone_address grammar text place h is = no_address grammar text is.1.0 h is.1.1
 
-lone_ipv4 : (grammar : Grammar) (text place : List ℕ) → All IsOther text → IsOnlyIpv4 grammar text place → ⊥
+lone_ipv4 : (grammar : Grammar) (text place : List ℕ) → HasFewSigns text → IsOnlyIpv4 grammar text place → ⊥
 lone_ipv4 grammar text place h is = no_address grammar text is.1.0 h (inl is.1.1)
 
-colon_cut : (Parts : List ℕ → List ℕ → Type 0) (text : List ℕ) → All IsOther text → IsCutAt 58 Parts text → ⊥
-colon_cut Parts text h is = no_colon text _ _ h (cut_at 58 text is.0)
+front_of_cut : (sign : ℕ) (text : List ℕ) → HasFewSigns text → HasFewSigns (before_first (λ c. c == sign) text)
+front_of_cut sign text h = few_take (position_or_len (λ c. c == sign) text) text h
 
-front_of_cut : (sign : ℕ) (text : List ℕ) → All IsOther text → All IsOther (before_first (λ c. c == sign) text)
-front_of_cut sign text h = All-take IsOther (position_or_len (λ c. c == sign) text) text h
+back_of_cut : (sign : ℕ) (text : List ℕ) → HasFewSigns text → HasFewSigns (after_first (λ c. c == sign) text)
+back_of_cut sign text h = few_drop (position_or_len (λ c. c == sign) text + 1) text h
 
-back_of_cut : (sign : ℕ) (text : List ℕ) → All IsOther text → All IsOther (after_first (λ c. c == sign) text)
-back_of_cut sign text h = All-drop IsOther (position_or_len (λ c. c == sign) text + 1) text h
+no_front : (grammar : Grammar) (text place : List ℕ) → HasFewSigns text → IsCutAt 58 (IsBefore grammar place) text → ⊥
+no_front grammar text place h is =
+    lone_ipv4 grammar (before_first (λ c. c == 58) text) place (front_of_cut 58 text h) is.1
 
-no_last_port : (grammar : Grammar) (text place : List ℕ) → All IsOther text → IsBeforeLastPort grammar text place → ⊥
-no_last_port grammar text place h is = no_colon text place is.port h is.parts.spelled
+no_part : (grammar : Grammar) (sign : ℕ) (text front back : List ℕ) → HasFewSigns text
+    → AreLastParts sign text front back → IsSomeAddress grammar front → ⊥
+no_part grammar sign text front back h parts is =
+    no_address grammar front is.0 (few_front front (sign ∷ back) (subst HasFewSigns parts.spelled h)) is.1
 
-no_host : (grammar : Grammar) (text place : List ℕ) → All IsOther text → IsHost grammar text place → ⊥
+no_last_port : (grammar : Grammar) (text place : List ℕ) → HasFewSigns text → IsBeforeLastPort grammar text place → ⊥
+no_last_port grammar text place h is = no_part grammar 58 text place is.port h is.parts is.address
+
+no_host : (grammar : Grammar) (text place : List ℕ) → HasFewSigns text → IsHost grammar text place → ⊥
 no_host grammar text place h (inl is) = lone_address grammar text place h is
-no_host grammar text place h (inr (no_address, inl is)) =
+no_host grammar text place h (inr (not_whole, inl is)) =
     lone_ipv4 grammar (before_sign text) place
-    (All-take IsOther (position_or_len (λ b. (b == 58) || (b == 47)) text) text h) is
-no_host grammar text place h (inr (no_address, inr (inl is))) =
+    (few_take (position_or_len (λ b. (b == 58) || (b == 47)) text) text h) is
+no_host grammar text place h (inr (not_whole, inr (inl is))) =
     lone_address grammar (before_first (λ c. c == 47) text) place (front_of_cut 47 text h) is.1.0
-no_host grammar text place h (inr (no_address, inr (inr is))) = no_last_port grammar text place h is
+no_host grammar text place h (inr (not_whole, inr (inr is))) = no_last_port grammar text place h is
 
-no_user : (grammar : Grammar) (text place : List ℕ) → All IsOther text → IsCutAt 64 (IsAtUser grammar place) text → ⊥
+no_user : (grammar : Grammar) (text place : List ℕ) → HasFewSigns text → IsCutAt 64 (IsAtUser grammar place) text → ⊥
 no_user grammar text place h (within, inl is) =
     no_host grammar (after_first (λ c. c == 64) text) place (back_of_cut 64 text h) is
 no_user grammar text place h (within, inr is) =
     lone_address grammar (before_first (λ c. c == 64) text) place (front_of_cut 64 text h) is.0
 
-no_slash : (grammar : Grammar) (w : Word) (text place : List ℕ) → All IsOther text
+no_slash : (grammar : Grammar) (w : Word) (text place : List ℕ) → HasFewSigns text
     → IsCutAt 47 (IsAtSlash grammar w place) text → ⊥
 no_slash grammar w text place h (within, inl is) =
     lone_address grammar (before_first (λ c. c == 47) text) place (front_of_cut 47 text h) is.0
 no_slash grammar w text place h (within, inr (inl is)) =
     no_host grammar (drop 1 (after_first (λ c. c == 47) text)) place
-    (All-drop IsOther 1 (after_first (λ c. c == 47) text) (back_of_cut 47 text h)) is.1
+    (few_drop 1 (after_first (λ c. c == 47) text) (back_of_cut 47 text h)) is.1
 no_slash grammar w text place h (within, inr (inr (inl is))) =
     no_host grammar (after_first (λ c. c == 47) text) place (back_of_cut 47 text h) is.2
 no_slash grammar w text place h (within, inr (inr (inr (other, name, inl is)))) =
-    colon_cut (IsBefore grammar place) (after_first (λ c. c == 47) text) (back_of_cut 47 text h) is
+    no_front grammar (after_first (λ c. c == 47) text) place (back_of_cut 47 text h) is
 no_slash grammar w text place h (within, inr (inr (inr (other, name, inr is)))) =
     no_host grammar (after_first (λ c. c == 47) text) place (back_of_cut 47 text h) is.1
 
-trimmed_low : (text : List ℕ) → All IsOther text → All IsOther (trimmed text)
+no_colon : (grammar : Grammar) (text place : List ℕ) → HasFewSigns text → IsCutAt 58 (IsAtColon grammar place) text → ⊥
+no_colon grammar text place h (within, inl is) =
+    lone_ipv4 grammar (before_first (λ c. c == 58) text) place (front_of_cut 58 text h) is.1
+no_colon grammar text place h (within, inr is) =
+    no_host grammar (after_first (λ c. c == 58) text) place (back_of_cut 58 text h) is.1
+
+trimmed_low : (text : List ℕ) → HasFewSigns text → HasFewSigns (trimmed text)
 trimmed_low text h = by (ends_in_colon text)
   where
-    by : (t : Bool) → All IsOther (if t then take (length text - 1) text
+    by : (t : Bool) → HasFewSigns (if t then take (length text - 1) text
         else take (length text - suffix_len is_end text) text)
-    by true = All-take IsOther (length text - 1) text h
-    by false = All-take IsOther (length text - suffix_len is_end text) text h
+    by true = few_take (length text - 1) text h
+    by false = few_take (length text - suffix_len is_end text) text h
 
-no_inside : (grammar : Grammar) (w : Word) (place : List ℕ) → All IsOther w.text → IsInside grammar w place → ⊥
+no_inside : (grammar : Grammar) (w : Word) (place : List ℕ) → HasFewSigns w.text → IsInside grammar w place → ⊥
 no_inside grammar w place h is = elim is [
   | inl user ↦ no_user grammar (trimmed w.text) place low user
   | inr next ↦ elim next.1 [
     | inl slash ↦ no_slash grammar w (trimmed w.text) place low slash
     | inr more ↦ elim more.1 [
-      | inl colon ↦ colon_cut (IsAtColon grammar place) (trimmed w.text) low colon
+      | inl at ↦ no_colon grammar (trimmed w.text) place low at
       | inr last ↦ elim last.1 [
         | inl port ↦ no_last_port grammar (trimmed w.text) place low port
-        | inr dot ↦ no_dot (trimmed w.text) place dot.1.port low dot.1.parts.spelled
+        | inr end ↦ no_part grammar 46 (trimmed w.text) place end.1.port low end.1.parts end.1.address
       ]
     ]
   ]
 ]
   where
-    low : All IsOther (trimmed w.text)
+    low : HasFewSigns (trimmed w.text)
     low = trimmed_low w.text h
 
--- a word without one has no place
-pub no_place_without : (grammar : Grammar) (w : Word) → list_any is_separator w.text ≡ false → HasNoPlace grammar w
-no_place_without grammar w none place (inl is) = no_entry grammar w.text is.1.0 (others w.text none) is.1.1
-no_place_without grammar w none place (inr (not_whole, inl is)) =
-    no_entry grammar (trimmed w.text) is.1.0 (trimmed_low w.text (others w.text none)) is.1.1
-no_place_without grammar w none place (inr (not_whole, inr (not_trimmed, is))) =
-    no_inside grammar w place (others w.text none) is
+-- a word with so few has no place
+pub no_place_without : (grammar : Grammar) (w : Word) → HasFewSigns w.text → HasNoPlace grammar w
+no_place_without grammar w few place (inl is) = no_entry grammar w.text is.1.0 few is.1.1
+no_place_without grammar w few place (inr (not_whole, inl is)) =
+    no_entry grammar (trimmed w.text) is.1.0 (trimmed_low w.text few) is.1.1
+no_place_without grammar w few place (inr (not_whole, inr (not_trimmed, is))) = no_inside grammar w place few is

@@ -1,11 +1,16 @@
 -- The private steps of finding the place of an entry in a word.
 -- Only private contracts use these.
-use Rattle.std.specs.Prelude.{◌≡◌, ◌<◌, ◌==◌, ℕ, List, length, Option, MatchOption}
-use Rattle.std.specs.List.{after_first, before_first, position_or_len}
+use Rattle.std.specs.Prelude.{◌≡◌, ◌<◌, ◌≤◌, ◌==◌, ℕ, List, length, Option, MatchOption}
+use Rattle.std.specs.List.{after_first, before_first, count_by, position_or_len}
 use Rattle.ipnet.specs.declared.parser.Grammar.{Grammar}
 use Rattle.ipnet_lists.specs.Entries.{IsEntryText}
 use Rattle.ipnet_lists.specs.EntryOf.{entry_range, IsWrittenAs}
 use Rattle.netset_words.specs.declared.host.Place.{Place}
+
+-- The text has fewer than three "." and fewer than two ":", so no part of it is an address.
+-- Example: `12:34` and `192.0.2`, and not `12:34:56` or `192.0.2.7`.
+abbrev pub HasFewSigns : List ℕ → Type 0
+HasFewSigns text = (count_by (λ b. b == 46) text ≤ 2) × (count_by (λ b. b == 58) text ≤ 1)
 
 -- The text is cut at its first sign.
 pub record AreParts (sign : ℕ) (text front back : List ℕ) : Type 0 where

@@ -1,13 +1,13 @@
 //! The address in a text that a port or a path may follow.
-ghost use Rattle.std.specs.Prelude.{◌≡◌, ◌↔◌, ◌==◌, ◌||◌, List, ℕ, length, IfSome, IfNone, IsTrue, MatchOption};
-ghost use Rattle.std.specs.List.{list_any, position_or_len};
+ghost use Rattle.std.specs.Prelude.{◌≡◌, ◌↔◌, ◌==◌, ◌||◌, List, ℕ, false, length, IfSome, IfNone, IsTrue, MatchOption};
+ghost use Rattle.std.specs.List.{count_by, list_any, position_or_len};
 ghost use Rattle.ipnet_base.specs.Address.{ip_address};
 ghost use Rattle.ipnet_lists.specs.Causes.{IsCutAt};
 ghost use Rattle.ipnet_lists.specs.Entries.{IsAddressText};
 ghost use Rattle.netset_words.specs.Places as places;
 ghost use Rattle.netset_words.specs.Places.{AreLastParts, IsBefore, IsBeforeLastPort, IsBeforePort, IsHost};
 ghost use Rattle.netset_words.specs.Places.{IsOnlyAddress, IsOnlyIpv4, IsPort, IsSomeAddress, IsWhole};
-ghost use Rattle.netset_words.specs.PlaceSteps.{AreParts, Finds};
+ghost use Rattle.netset_words.specs.PlaceSteps.{AreParts, Finds, HasFewSigns};
 
 use ipnet::{Grammar, IpAddr};
 use ipnet_lists::{Entry, are_digits, parse_address, read_text};
@@ -28,12 +28,31 @@ pub(crate) struct Parts<'a> {
     pub(crate) back: &'a [u8],
 }
 
-/// Whether one of the bytes is "." or ":". Each place has one, and most words have none.
+/// The number of these signs in the text.
 #[inline]
-pub(crate) fn has_separator(word: &[u8]) -> bool
-    ensures { result ≡ list_any (λ b. (b == 46) || (b == 58)) word.now }
+fn sign_count(text: &[u8], sign: u8) -> usize
+    ensures { result ≡ count_by (λ b. b == sign) text.now }
 {
-    word.iter().any(|byte| *byte == b'.' || *byte == b':')
+    text.iter().filter(|byte| **byte == sign).count()
+}
+
+/// Whether one of the bytes is "." or ":". Most words have none.
+#[inline]
+fn has_separator(text: &[u8]) -> bool
+    ensures { result ≡ list_any (λ b. (b == 46) || (b == 58)) text.now }
+{
+    text.iter().any(|byte| *byte == b'.' || *byte == b':')
+}
+
+/// Whether the text has three "." or two ":", as each address has.
+#[inline]
+pub(crate) fn has_signs(text: &[u8]) -> bool
+    ensures { result ≡ false → HasFewSigns text.now }
+{
+    if !has_separator(text) {
+        return false;
+    }
+    sign_count(text, b'.') > 2 || sign_count(text, b':') > 1
 }
 
 /// Returns the parts of the text before and after the first such sign.
@@ -82,6 +101,9 @@ fn address_of(text: &[u8], grammar: Grammar) -> Option<IpAddr>
     ensures some { IfSome result (λ a. IsAddressText grammar text.now (ip_address a)) }
     ensures none { IfNone result (¬ (IsSomeAddress grammar text.now)) }
 {
+    if !has_signs(text) {
+        return None;
+    }
     match str::from_utf8(text) {
         Ok(text) => parse_address(text, grammar),
         Err(_) => None,

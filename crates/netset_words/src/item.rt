@@ -8,7 +8,7 @@ ghost use Rattle.netset_words.specs.PlaceSteps.{IsFound};
 ghost use Rattle.netset_words.specs.Words.{Word, words_of};
 ghost use Rattle.netset_words.specs.WordSteps.{item_of, word_of};
 
-use crate::host::{Place, has_separator};
+use crate::host::{Place, has_signs};
 use crate::mapped::mapped_ipv4;
 use crate::place::read_place;
 use crate::word::{NextWord, next_word};
@@ -136,7 +136,7 @@ fn range_at<'a>(
         return None;
     };
     let text = &bytes[first.before.len()..bytes.len() - last.after.len()];
-    if !has_separator(text) {
+    if !has_signs(text) {
         return None;
     }
     match read_text(text, request.grammar) {

@@ -11,7 +11,7 @@ ghost use Rattle.netset_words.specs.Words.{first_gap, words_of};
 ghost use Rattle.netset_words.specs.WordSteps.{word_of};
 
 use crate::host::{
-    Parts, Place, before_colon, before_last_port, before_port, cut_at, cut_at_last, has_separator,
+    Parts, Place, before_colon, before_last_port, before_port, cut_at, cut_at_last, has_signs,
     read_address, read_host, read_ipv4, read_whole,
 };
 use crate::word::{NextWord, next_word};
@@ -289,7 +289,7 @@ fn read_inside<'a>(word: NextWord<'a>, body: &'a [u8], grammar: Grammar) -> Opti
 pub(crate) fn read_place<'a>(word: NextWord<'a>, grammar: Grammar) -> Option<Place<'a>>
     ensures { Finds grammar (IsPlace grammar (word_of word.entry)) result }
 {
-    if !has_separator(word.text) {
+    if !has_signs(word.text) {
         return None;
     }
     if let Some(place) = read_whole(word.text, grammar) {

@@ -7,29 +7,30 @@ use Rattle.ipnet_rules.proofs.cells.push_span.Goals as goal
 pub loop-cell-init : goal.loop-cell-init
 loop-cell-init c = (
   omega arith,
-  added_none c.args.cells.now.owners.items c.args.span c.args.found.now.items,
+  λ _. added_none c.args.cells.now.owners.items c.args.span c.args.found.now.items,
 )
 
 pub loop-cell-preserved : goal.loop-cell-preserved
-loop-cell-preserved c =
-    let cells = c.args.cells.now in
-    let owners = cells.owners.items in
-    let cell = c.loop-cell.cell in
-    let h = c.loop-cell.invariant in
-    let inside : cell < length owners = omega (arith, c.loop-cell-test.true, c.requires.within) in
-    let next : c.index-cell.result.now ≡ slice_index cells.nexts.items cell =
-    sym (at_place cells.nexts.items cell 0 c.index-cell.result.now (omega (arith, inside, c.requires.nexts.count))
-    ∙ sym c.index-cell.ensures) in
-    let owner : c.index.result.now ≡ slice_index owners cell =
-    sym (at_place owners cell 0 c.index.result.now inside ∙ sym c.index.ensures) in
-    let pushed : c.push.new.self.items ≡ c.loop-cell.found.items ++ slice_index owners cell ∷ [] =
-    c.in_ok-push.ensures.items ∙ ap (λ z. c.loop-cell.found.items ++ z ∷ []) owner in (
-      omega (arith, h.0, next, c.requires.nexts.later cell inside),
+loop-cell-preserved c = (
+  omega (arith, c.loop-cell.invariant.0, c.if-next-cell.false),
+  λ nexts.
+      let cells = c.args.cells.now in
+      let owners = cells.owners.items in
+      let cell = c.loop-cell.cell in
+      let h = c.loop-cell.invariant in
+      let inside : cell < length owners = omega (arith, c.loop-cell-test.true, nexts.count) in
+      let next : c.index-next.result.now ≡ slice_index cells.nexts.items cell =
+      sym (at_place cells.nexts.items cell 0 c.index-next.result.now (omega (arith, inside, nexts.count))
+      ∙ sym c.index-next.ensures) in
+      let owner : c.index.result.now ≡ slice_index owners cell =
+      sym (at_place owners cell 0 c.index.result.now inside ∙ sym c.index.ensures) in
+      let pushed : c.push.new.self.items ≡ c.loop-cell.found.items ++ slice_index owners cell ∷ [] =
+      c.in_ok-push.ensures.items ∙ ap (λ z. c.loop-cell.found.items ++ z ∷ []) owner in
       added_next owners cells.nexts.items c.args.span cell _ c.args.found.now.items c.loop-cell.found.items _
-          c.requires.nexts inside h.0 (omega (arith, c.loop-cell-test.true)) next h.1 pushed,
-    )
+      nexts inside h.0 (omega (arith, c.loop-cell-test.true)) next (h.1 nexts) pushed,
+)
 
 pub returns : goal.returns
-returns c =
+returns c = λ within nexts.
     added_all c.args.cells.now.owners.items c.args.span c.loop-cell.cell c.args.found.now.items c.loop-cell.found.items
-    (omega (arith, c.loop-cell-test.false)) c.loop-cell.invariant.1
+    (omega (arith, c.loop-cell-test.false)) (c.loop-cell.invariant.1 nexts)

@@ -6,10 +6,10 @@ use Rattle.ipnet_rules.proofs.CellLaws.{non_decreasing, span_from_points}
 use Rattle.ipnet_rules.proofs.cells.span_of.Goals as goal
 
 pub returns : goal.returns
-returns c =
+returns c = λ ascending.
     let cuts = c.args.cuts.now in
     let p = c.args.piece.now in
-    let up = non_decreasing cuts c.requires in
+    let up = non_decreasing cuts ascending in
     span_from_points cuts p _
     (c.partition_point.ensures.partitioned (λ y. ltb y p.first)
     (always_returns_same _ _ _ (λ a r f k. search (rules, of_calls))) (IsPartitionedBy-ltb (λ n. n) cuts p.first up))

@@ -8,7 +8,7 @@ use Rattle.ipnet_rules.proofs.compiled.span_of.Goals as goal
 pub returns-in-Some : goal.returns-in-Some
 returns-in-Some c =
     network_span (family_of c.args.family) c.args.cuts.now (ip_network c.args.network.now) c.in-Some.piece
-    c.span_of.result c.in-Some.ensures.some c.span_of.ensures
+    c.span_of.result c.in-Some.ensures.some (c.span_of.ensures c.requires)
 
 pub returns-in-None : goal.returns-in-None
 returns-in-None c =

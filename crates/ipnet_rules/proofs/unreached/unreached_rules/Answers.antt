@@ -12,14 +12,16 @@ loop-place-preserved c =
     let found = c.loop-place.found.items in
     elim c.match-branch-3.branch [
       | in-Some+in_ok-push w ↦
-          let is = subst (λ z. IfSome z (IsUnreachedAt rules i)) w.in-Some.is c.in_ok-unreached.ensures.some in
+          let is = subst (λ z. IfSome z (IsUnreachedAt rules i)) w.in-Some.is (c.in_ok-unreached.ensures.some
+          c.in_ok-decisions.ensures) in
           subst (λ z. AreUnreachedTo rules (i + 1) z.items) (sym w.found-is)
           (subst (AreUnreachedTo rules (i + 1)) (sym w.in_ok-push.ensures.items)
           (unreached_push rules i found _ c.loop-place.invariant is.unreached is.of_place is.deciders))
       | in_default w ↦
           subst (λ z. AreUnreachedTo rules (i + 1) z.items) (sym w.found-is)
           (unreached_skip rules i found c.loop-place.invariant
-          (subst (λ z. IfNone z (IsUnreached rules i → ⊥)) w.in_default.is c.in_ok-unreached.ensures.none))
+          (subst (λ z. IfNone z (IsUnreached rules i → ⊥)) w.in_default.is
+          (c.in_ok-unreached.ensures.none c.in_ok-decisions.ensures)))
     ]
 
 pub returns : goal.returns

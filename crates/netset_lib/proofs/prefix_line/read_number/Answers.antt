@@ -12,5 +12,5 @@ returns-in-Ok c = λ n.
 pub returns-in-Err : goal.returns-in-Err
 returns-in-Err c = λ n. (
   λ e. absurd cc,
-  λ h. absurd (c.in-Err.ensures.cases.0 (decimal_utf8 c.args.bytes.now n h)),
+  λ h. absurd (c.in-Err.ensures.cases.0 (decimal_utf8 3 128 c.args.bytes.now n h)),
 )

@@ -18,9 +18,10 @@ loop-place-preserved c =
       | in-Some w ↦
           subst (AreAnswered rules (i + 1)) (sym w.some-is)
           (answered_some rules i some _ c.loop-place.invariant
-          (subst (λ z. IfSome z (IsUnreachedAt rules i)) w.in-Some.is c.in_ok-_unreached.ensures.some))
+          (subst (λ z. IfSome z (IsUnreachedAt rules i)) w.in-Some.is (c.in_ok-_unreached.ensures.some c.requires)))
       | in_default w ↦
           subst (AreAnswered rules (i + 1)) (sym w.some-is)
           (answered_not rules i some c.loop-place.invariant
-          (subst (λ z. IfNone z (IsUnreached rules i → ⊥)) w.in_default.is c.in_ok-_unreached.ensures.none))
+          (subst (λ z. IfNone z (IsUnreached rules i → ⊥)) w.in_default.is
+          (c.in_ok-_unreached.ensures.none c.requires)))
     ]

@@ -4,6 +4,7 @@ use Rattle.ipnet_lists.specs.Entries.{IsAddressText}
 use Rattle.ipnet_lists.proofs.ListLines.{address_utf8}
 use Rattle.netset_words.specs.Places.{IsSomeAddress}
 use Rattle.netset_words.proofs.PlaceLaws.{no_address_read}
+use Rattle.netset_words.proofs.Separators.{no_address}
 use Rattle.netset_words.proofs.host.address_of.Goals as goal
 
 pub returns-in-Ok-clause-some : goal.returns-in-Ok-clause-some
@@ -20,3 +21,7 @@ returns-in-Ok-clause-none c =
 
 pub returns-in-Err-clause-none : goal.returns-in-Err-clause-none
 returns-in-Err-clause-none c = λ is. c.in-Err.ensures.cases.0 (address_utf8 c.args.grammar c.args.text.now is.0 is.1)
+
+pub returns-then-not-has_signs-clause-none : goal.returns-then-not-has_signs-clause-none
+returns-then-not-has_signs-clause-none c = λ is.
+    no_address c.args.grammar c.args.text.now is.0 (c.has_signs.ensures c.if-not-has_signs.true) is.1

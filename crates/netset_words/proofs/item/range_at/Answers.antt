@@ -38,15 +38,15 @@ returns-in-None-clause-item c =
     (words_of dash.after.now) (words_of last.after.now) c.in-Some.ensures.words c.in-Some-next_word.ensures.words
     (λ range h. none range (subst (λ z. IsEntryText c.args.request.grammar z range) (sym is) h))
 
-pub returns-then-not-has_separator-clause-item : goal.returns-then-not-has_separator-clause-item
-returns-then-not-has_separator-clause-item c =
+pub returns-then-not-has_signs-clause-item : goal.returns-then-not-has_signs-clause-item
+returns-then-not-has_signs-clause-item c =
     let first = c.args.first in
     let dash = c.in-Some.dash in
     let last = c.in-Some-next_word.last in
     let is = span_cut c.args.bytes.now first.before.now first.text.now first.after.now dash.before.now dash.text.now
     dash.after.now last.before.now last.text.now last.after.now c.requires c.in-Some.ensures.spelled
     c.in-Some-next_word.ensures.spelled in
-    let none = sym c.has_separator.ensures ∙ c.if-not-has_separator.true in
+    let none = c.has_signs.ensures c.if-not-has_signs.true in
     no_range c.args.request (word_of first) (word_of dash) (word_of last) (words_of first.after.now)
     (words_of dash.after.now) (words_of last.after.now) c.in-Some.ensures.words c.in-Some-next_word.ensures.words
     (λ range h. no_entry_without c.args.request.grammar _ range none

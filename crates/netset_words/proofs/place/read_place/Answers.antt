@@ -6,9 +6,9 @@ use Rattle.netset_words.proofs.PlaceLaws.{else_first, else_second, none_found}
 use Rattle.netset_words.proofs.Separators.{no_place_without}
 use Rattle.netset_words.proofs.place.read_place.Goals as goal
 
-pub returns-then-not-has_separator : goal.returns-then-not-has_separator
-returns-then-not-has_separator c =
-    no_place_without c.args.grammar (word_of c.args.word) (sym c.has_separator.ensures ∙ c.if-not-has_separator.true)
+pub returns-then-not-has_signs : goal.returns-then-not-has_signs
+returns-then-not-has_signs c =
+    no_place_without c.args.grammar (word_of c.args.word) (c.has_signs.ensures c.if-not-has_signs.true)
 
 pub returns-in-Some : goal.returns-in-Some
 returns-in-Some c =

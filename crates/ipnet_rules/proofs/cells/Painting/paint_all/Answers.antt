@@ -7,5 +7,5 @@ loop-piece-preserved c = (
   c.paint.ensures.skips,
   painted_next c.args.cuts.now c.args.place c.args.pieces.now c.loop-piece.piece-index _ c.span_of.result
       c.args.self.now c.loop-piece.self c.paint.new.self c.loop-piece-test.true c.requires.within c.requires.place
-      c.span_of.ensures c.loop-piece.invariant.1 c.paint.ensures.painted,
+      (c.span_of.ensures c.requires.cuts) c.loop-piece.invariant.1 c.paint.ensures.painted,
 )
