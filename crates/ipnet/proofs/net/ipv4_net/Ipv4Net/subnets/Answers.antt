@@ -5,7 +5,7 @@ use Rattle.ipnet.specs.NetworkOf.{ipv4_network}
 use Rattle.ipnet.specs.NetLaws.{ipv4_valid}
 use Rattle.ipnet.specs.SubnetsLeft.{ipv4_subnet_range, ipv4_subnets_left}
 use Rattle.ipnet.proofs.SubnetCountLaws.{AreSubnetsOfLength-from_walk, IsBlockRange-from_ends}
-use Rattle.ipnet.proofs.subnets.of_networks.Ipv4Net.subnets.Goals as goal
+use Rattle.ipnet.proofs.net.ipv4_net.Ipv4Net.subnets.Goals as goal
 
 pub returns-clause-walk : goal.returns-clause-walk
 returns-clause-walk c =

@@ -5,7 +5,7 @@ use Rattle.ipnet_base.specs.Address.{Family, IPv4, IPv6, width}
 use Rattle.ipnet_base.proofs.BlockLaws.{own}
 use Rattle.ipnet.specs.NetworkOf.{ip_network}
 use Rattle.ipnet_rules.specs.PrefixLists.{IsFirstOfLength}
-use Rattle.ipnet_rules.proofs.route_sets.PrefixList.first_difference.Goals as goal
+use Rattle.ipnet_rules.proofs.prefix_list.PrefixList.first_difference.Goals as goal
 
 width_most : (f : Family) → width f ≤ 128
 width_most IPv4 = omega arith

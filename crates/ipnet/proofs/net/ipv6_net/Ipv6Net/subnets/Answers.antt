@@ -5,7 +5,7 @@ use Rattle.ipnet.specs.NetworkOf.{ipv6_network}
 use Rattle.ipnet.specs.NetLaws.{ipv6_valid}
 use Rattle.ipnet.specs.SubnetsLeft.{ipv6_subnet_range, ipv6_subnets_left}
 use Rattle.ipnet.proofs.SubnetCountLaws.{AreSubnetsOfLength-from_walk, IsBlockRange-from_ends}
-use Rattle.ipnet.proofs.subnets.of_networks.Ipv6Net.subnets.Goals as goal
+use Rattle.ipnet.proofs.net.ipv6_net.Ipv6Net.subnets.Goals as goal
 
 pub returns-clause-walk : goal.returns-clause-walk
 returns-clause-walk c =
