@@ -15,6 +15,7 @@ use std::iter::FusedIterator;
 mod ipv4_subnets;
 mod ipv6_subnets;
 pub mod laws;
+pub mod of_networks;
 pub mod walk_laws;
 
 pub use ipv4_subnets::Ipv4Subnets;
