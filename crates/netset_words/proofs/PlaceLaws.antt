@@ -17,8 +17,9 @@ use Rattle.ipnet_lists.specs.Entries.{IsAddressText, IsIpv4Text, ReadsAs}
 use Rattle.ipnet_lists.proofs.CommentLaws.{behind}
 use Rattle.ipnet_lists.proofs.EntryTexts.{one_address}
 use Rattle.netset_words.specs.declared.host.Place.{Place}
-use Rattle.netset_words.specs.Places.{AreLastParts, Else, IsAtColon, IsAtDot, IsAtSlash, IsAtUser, IsBeforeLastPort}
-use Rattle.netset_words.specs.Places.{IsBeforePort, IsHost, IsInside, IsPort, IsNamed, IsOnlyAddress, IsOnlyIpv4}
+use Rattle.netset_words.specs.Places.{AreLastParts, Else, IsAfterSlash, IsAtColon, IsAtDot, IsAtSlash, IsAtUser}
+use Rattle.netset_words.specs.Places.{IsBeforeLastPort, IsBeforePath, IsBeforePort, IsHost, IsInside, IsPort, IsNamed}
+use Rattle.netset_words.specs.Places.{IsOnlyAddress, IsOnlyIpv4}
 use Rattle.netset_words.specs.Places.{IsPacketEnd, IsSomeAddress, IsSomeIpv4, before_sign, begins_with_slash, is_name}
 use Rattle.netset_words.specs.Places.{trimmed}
 use Rattle.netset_words.specs.Words.{Word}
@@ -59,6 +60,10 @@ module _ (grammar : Grammar) (First Second : List ℕ → Type 0) where
       → Finds grammar (λ place. First place ⊎ Second place) r
   or_second None none h = λ place is. elim is [ inl first ↦ none place first | inr second ↦ h place second ]
   or_second (Some p) none h = record { is = inr h.is; entry = h.entry; kind = h.kind }
+
+  pub none_of_two : ((place : List ℕ) → ¬ (First place)) → ((place : List ℕ) → ¬ (Second place)) → (place : List ℕ)
+      → ¬ (First place ⊎ Second place)
+  none_of_two no not place is = elim is [ inl first ↦ no place first | inr second ↦ not place second ]
 
   -- only one of two readings may be
   pub only_first : (r : Option Place) → ((place : List ℕ) → ¬ (Second place)) → Finds grammar First r
@@ -224,6 +229,12 @@ AtStart g front back place = (begins_with_slash back ≡ false) × (front ≡ []
 abbrev pub AfterName : Grammar → Word → (front back place : List ℕ) → Type 0
 AfterName g w front back place =
     (begins_with_slash back ≡ false) × (is_name front ≡ true) × IsNamed g w place front back
+
+abbrev pub AtSlashFirst : Grammar → Word → (front back place : List ℕ) → Type 0
+AtSlashFirst g w front back place = IsBeforePort g place front back ⊎ IsAfterSlash g w place front back
+
+abbrev pub ToPath : Grammar → (front back place : List ℕ) → Type 0
+ToPath g front back place = IsBeforePath g place front back
 
 abbrev pub ByUser : Grammar → (text place : List ℕ) → Type 0
 ByUser g text place = IsCutAt 64 (IsAtUser g place) text

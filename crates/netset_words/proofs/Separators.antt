@@ -208,17 +208,19 @@ no_user grammar text place h (within, inr is) =
 
 no_slash : (grammar : Grammar) (w : Word) (text place : List ℕ) → HasFewSigns text
     → IsCutAt 47 (IsAtSlash grammar w place) text → ⊥
-no_slash grammar w text place h (within, inl is) =
+no_slash grammar w text place h (within, inl (inl is)) =
     lone_address grammar (before_first (λ c. c == 47) text) place (front_of_cut 47 text h) is.0
-no_slash grammar w text place h (within, inr (inl is)) =
+no_slash grammar w text place h (within, inl (inr (inl is))) =
     no_host grammar (drop 1 (after_first (λ c. c == 47) text)) place
     (few_drop 1 (after_first (λ c. c == 47) text) (back_of_cut 47 text h)) is.1
-no_slash grammar w text place h (within, inr (inr (inl is))) =
+no_slash grammar w text place h (within, inl (inr (inr (inl is)))) =
     no_host grammar (after_first (λ c. c == 47) text) place (back_of_cut 47 text h) is.2
-no_slash grammar w text place h (within, inr (inr (inr (other, name, inl is)))) =
+no_slash grammar w text place h (within, inl (inr (inr (inr (other, name, inl is))))) =
     no_front grammar (after_first (λ c. c == 47) text) place (back_of_cut 47 text h) is
-no_slash grammar w text place h (within, inr (inr (inr (other, name, inr is)))) =
+no_slash grammar w text place h (within, inl (inr (inr (inr (other, name, inr is))))) =
     no_host grammar (after_first (λ c. c == 47) text) place (back_of_cut 47 text h) is.1
+no_slash grammar w text place h (within, inr (not_first, is)) =
+    lone_address grammar (before_first (λ c. c == 47) text) place (front_of_cut 47 text h) is.0
 
 no_colon : (grammar : Grammar) (text place : List ℕ) → HasFewSigns text → IsCutAt 58 (IsAtColon grammar place) text → ⊥
 no_colon grammar text place h (within, inl is) =

@@ -5,10 +5,11 @@ ghost use Rattle.ipnet_base.specs.Address.{ip_address};
 ghost use Rattle.ipnet_lists.specs.Causes.{IsCutAt};
 ghost use Rattle.ipnet_lists.specs.Entries.{IsAddressText};
 ghost use Rattle.netset_words.specs.Places as places;
-ghost use Rattle.netset_words.specs.Places.{AreLastParts, IsBefore, IsBeforeLastPort, IsBeforePort, IsHost};
-ghost use Rattle.netset_words.specs.Places.{IsOnlyAddress, IsOnlyIpv4, IsPort, IsSomeAddress, IsWhole};
+ghost use Rattle.netset_words.specs.Places.{AreLastParts, IsBefore, IsBeforeLastPort, IsBeforePath, IsBeforePort};
+ghost use Rattle.netset_words.specs.Places.{IsHost, IsOnlyAddress, IsOnlyIpv4, IsPort, IsSomeAddress, IsWhole};
 ghost use Rattle.netset_words.specs.PlaceSteps.{AreParts, Finds, HasFewSigns};
 
+use crate::path::{have_colons, is_path};
 use ipnet::{Grammar, IpAddr};
 use ipnet_lists::{Entry, are_digits, parse_address, read_text};
 use memchr::{memchr, memchr2, memrchr};
@@ -152,6 +153,22 @@ pub(crate) fn before_port<'a>(front: &'a [u8], back: &[u8], grammar: Grammar) ->
         return None;
     }
     read_address(front, grammar)
+}
+
+/// Reads an address before "/" and a path.
+pub(crate) fn before_path<'a>(front: &'a [u8], back: &[u8], grammar: Grammar) -> Option<Place<'a>>
+    ensures { Finds grammar (λ place. IsBeforePath grammar place front.now back.now) result }
+{
+    let Some(place) = read_address(front, grammar) else {
+        return None;
+    };
+    if !is_path(back) {
+        return None;
+    }
+    if have_colons(front, back) {
+        return None;
+    }
+    Some(place)
 }
 
 /// Reads an address before "/" and a port.
