@@ -201,7 +201,8 @@ IsInside grammar w =
     (Else (IsBeforeLastPort grammar (trimmed w.text)) (IsAtDot grammar w))))
 
 -- The word has this place: it is an entry, or else it is one without its last signs, or else an entry is inside it.
--- Example: `10.0.0.0/8` in `10.0.0.0/8.`; `10.1.2.3` in `outside:10.1.2.3/22`; no place in `12:34:56` or `1.3.6.1.4.1`.
+-- Example: `10.0.0.0/8` in `10.0.0.0/8.`; `10.1.2.3` in `outside:10.1.2.3/22` and `10.1.2.3/x`; no place in `12:34:56`,
+-- `1.3.6.1.4.1` or `10.1.2.3/24-x`.
 abbrev pub IsPlace : Grammar → (w : Word) → (place : List ℕ) → Type 0
 IsPlace grammar w =
     Else (IsWhole grammar w.text) (Else (IsWhole grammar (trimmed w.text)) (IsInside grammar w))

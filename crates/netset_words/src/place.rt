@@ -287,6 +287,7 @@ fn read_inside<'a>(word: NextWord<'a>, body: &'a [u8], grammar: Grammar) -> Opti
 /// 10.0.0.0/8.             10.0.0.0/8
 /// outside:10.1.2.3/22     10.1.2.3
 /// http://10.1.2.3:80/x    10.1.2.3
+/// 10.1.2.3/index.html     10.1.2.3
 /// 12:34:56                None
 /// ```
 pub(crate) fn read_place<'a>(word: NextWord<'a>, grammar: Grammar) -> Option<Place<'a>>
