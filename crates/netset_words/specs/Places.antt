@@ -145,8 +145,8 @@ abbrev pub begins_with_digits : List ℕ → Bool
 begins_with_digits text = list_any is_ascii_alphabetic text && list_all is_digit_or_slash (before_letter text)
 
 -- The text has no digit before its first letter, or it has a letter and before it only digits and "/".
--- Example: `index.html`, `.env`, `-/x`, `24/x` and the empty text; not `24-x`, `24.x`, `-64` or `255.0.255.0`, in which a
--- person may see a length or a mask.
+-- Example: `index.html`, `.env`, `-/x`, `24/x` and the empty text; not `24-x`, `24.x`, `-64` or `255.0.255.0`, in which
+-- a person may see a length or a mask.
 abbrev pub is_path : List ℕ → Bool
 is_path text = not (list_any is_ascii_digit (before_letter text)) || begins_with_digits text
 
