@@ -63,7 +63,7 @@ module _ (grammar : Grammar) (First Second : List ℕ → Type 0) where
 
   pub none_of_two : ((place : List ℕ) → ¬ (First place)) → ((place : List ℕ) → ¬ (Second place)) → (place : List ℕ)
       → ¬ (First place ⊎ Second place)
-  none_of_two no not place is = elim is [ inl first ↦ no place first | inr second ↦ not place second ]
+  none_of_two lacks lacks_too place is = elim is [ inl first ↦ lacks place first | inr second ↦ lacks_too place second ]
 
   -- only one of two readings may be
   pub only_first : (r : Option Place) → ((place : List ℕ) → ¬ (Second place)) → Finds grammar First r
@@ -81,6 +81,11 @@ module _ (grammar : Grammar) (So : Type 0) (Is : List ℕ → Type 0) where
       → Finds grammar (λ place. So × Too × Is place) r
   with_both Too None so too h = λ place both. h place both.2
   with_both Too (Some p) so too h = record { is = (so, too, h.is); entry = h.entry; kind = h.kind }
+
+  pub with_both_after : (Too : Type 0) (r : Option Place) → So → Too → Finds grammar Is r
+      → Finds grammar (λ place. Is place × So × Too) r
+  with_both_after Too None so too h = λ place all. h place all.0
+  with_both_after Too (Some p) so too h = record { is = (h.is, so, too); entry = h.entry; kind = h.kind }
 
   pub with_so_after : (r : Option Place) → So → Finds grammar Is r → Finds grammar (λ place. Is place × So) r
   with_so_after None so h = λ place both. h place both.0

@@ -1,6 +1,6 @@
 use Rattle.std.proofs.Common.{◌≡◌, true, false, sym, ◌∙◌, Some}
 use Rattle.netset_words.specs.Places.{IsOnlyAddress, have_colons, is_path}
-use Rattle.netset_words.proofs.PlaceLaws.{none_found, with_so_after}
+use Rattle.netset_words.proofs.PlaceLaws.{none_found, with_both_after}
 use Rattle.netset_words.proofs.host.before_path.Goals as goal
 
 pub returns-in_default : goal.returns-in_default
@@ -24,7 +24,6 @@ pub returns : goal.returns
 returns c =
     let front = c.args.front.now in
     let back = c.args.back.now in
-    with_so_after c.args.grammar ((is_path back ≡ true) × (have_colons front back ≡ false))
-    (IsOnlyAddress c.args.grammar front) (Some c.in-Some.place)
-    (sym c.is_path.ensures ∙ c.if-not-is_path.false, sym c.have_colons.ensures ∙ c.if-have_colons.false)
-    c.in-Some.ensures
+    with_both_after c.args.grammar (is_path back ≡ true) (IsOnlyAddress c.args.grammar front)
+    (have_colons front back ≡ false) (Some c.in-Some.place) (sym c.is_path.ensures ∙ c.if-not-is_path.false)
+    (sym c.have_colons.ensures ∙ c.if-have_colons.false) c.in-Some.ensures
