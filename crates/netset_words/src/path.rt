@@ -45,7 +45,8 @@ fn has_letter(text: &[u8]) -> bool
 fn are_digits_or_slashes(text: &[u8]) -> bool
     ensures { result ≡ list_all places.is_digit_or_slash text.now }
 {
-    text.iter().all(|byte| byte.is_ascii_digit() || *byte == b'/')
+    text.iter()
+        .all(|byte| byte.is_ascii_digit() || *byte == b'/')
 }
 
 /// Whether the text after an address and "/" is a path, in which a person sees no length.
