@@ -17,7 +17,7 @@ A form takes the lines of a body, from its brace to its brace, and returns other
 - `renamed`: a variable of a `let`, a loop or a pattern has another name;
 - `named`: the value that the body returns gets a name first. It applies to nearly every body, so it is the last resort.
 
-Which of the others is taken depends only on the function's name, so they spread evenly. This module is not run:
+If several apply, the one that applies to the fewest bodies is taken, so the forms are spread. This module is not run:
 `tests/right_bodies` imports it.
 """
 import re
@@ -362,8 +362,9 @@ def named(lines):
     return lines[:start] + tail + [" " * inner + "outcome", lines[-1]]
 
 
-FORMS = (exchanged, nested, returned, divided, ended, matched, reordered, flipped, commuted, ordered, conditioned, helped,
-         inlined, renamed)
+# the rarer a form applies, the earlier it is taken: so the forms are spread as evenly as they can be
+FORMS = (commuted, divided, returned, ordered, inlined, exchanged, ended, flipped, matched, nested, helped, reordered,
+         conditioned, renamed, named)
 
 
 def moves(lines, new, changing):
@@ -372,11 +373,9 @@ def moves(lines, new, changing):
     return bool(changing & set(re.findall(r"\w+", "\n".join(different))))
 
 
-def right_bodies(function, lines, changing=frozenset()):
-    """(name of the form, lines) of each right body of this function, the first of which is tried. The order depends on
-    the function's name. `changing` has the parameters that are passed to be changed: no call that may change one of
-    them is moved."""
-    forms = sorted(FORMS, key=lambda form: zlib.crc32((form.__name__ + function).encode()))
-    found = [(form, form(lines)) for form in (*forms, named)] if len(lines) > 2 else []
+def right_bodies(lines, changing=frozenset()):
+    """(name of the form, lines) of each right body, the first of which is tried. `changing` has the parameters that are
+    passed to be changed: no call that may change one of them is moved."""
+    found = [(form, form(lines)) for form in FORMS] if len(lines) > 2 else []
     return [(form.__name__, new) for form, new in found if new is not None and new != lines
             and not (form in (ordered, helped, commuted) and moves(lines, new, changing))]

@@ -12,8 +12,6 @@ from right_forms import right_bodies
 
 HAND_PROOFS = ("Answers.antt", "Invariants.antt", "Proof.antt")
 TYPE = re.compile(r"^ *(?:pub(?:\(\w+\))? )?(?:struct|enum|trait) (\w+)", re.M)
-# a step that a proof names, and the parts of a name
-STEP = re.compile(r"\b[cl]\.([\w-]+)")
 
 
 class Function:
@@ -42,7 +40,7 @@ class Function:
 
     def right_bodies(self):
         """(name of the form, lines) of each right body in other words, the first of which is tried."""
-        return right_bodies(self.name, self.body(), self.changing())
+        return right_bodies(self.body(), self.changing())
 
     def has_steps(self):
         """Whether the body has a line, so that there can be another body."""
@@ -145,15 +143,4 @@ def hand_proofs(crate):
         if any(it in files for it in HAND_PROOFS):
             *above, last = os.path.relpath(place, top).split(os.sep)
             found["::".join([crate, *above, last.lstrip("+")])] = place
-    return found
-
-
-def steps(folder):
-    """The steps of the body that a hand proof names, by its facts and by the names of its goals."""
-    found = set()
-    for name in HAND_PROOFS:
-        path = os.path.join(folder, name)
-        if os.path.isfile(path):
-            text = re.sub(r"(?m)^\s*--.*$", "", read_text(path))
-            found |= set(STEP.findall(text)) | set(re.findall(r"\bgoal\.([\w-]+)", text))
     return found

@@ -1,17 +1,20 @@
 """The lists of right bodies in other words: tests/right_bodies_left and tests/right_bodies_passed.
 
 Each function with a hand proof, and with a line in its body, is in one of the two. A line of the first has the
-function, the form of the right body and the reason: `untried`, or how the proof failed. A line of the second has the
-function and the form. `tests/right_bodies` writes both; this module is not run.
+function, the form of the right body and the reason: `untried`; `names STEP`, if the proof names a step that the right
+body does not have, which needs no check; or the kind of the verdict (tests/edit_verdicts.py) and its text. A line of
+the second has the function and the form. `tests/right_bodies` writes both; this module is not run.
 """
 import os
 
 from edit_files import TOP, read_text
 from right_functions import functions, hand_proofs
+from right_names import lost_step
 
 LEFT = os.path.join(TOP, "tests", "right_bodies_left")
 PASSED = os.path.join(TOP, "tests", "right_bodies_passed")
 UNTRIED = "untried"
+NAMES = "names "
 HEADS = {
     LEFT: """\
 # Functions whose proof does not hold for a right body in other words, or was not tried with one: the function, the form
@@ -45,23 +48,35 @@ def with_hand_proof(crate):
     return [it for it in functions(crate) if it.name in proofs and it.has_steps()]
 
 
+def is_tried(rest):
+    """Whether the rest of a line has the verdict of a check."""
+    return not rest.endswith(" " + UNTRIED) and not rest.partition(" ")[2].startswith(NAMES)
+
+
 def form_of(function):
     """The form with which the function is tried."""
     bodies = function.right_bodies()
     return bodies[0][0] if bodies else "none"
 
 
+def unchecked(function, folder):
+    """The form and the reason of a function that no check has tried."""
+    bodies = function.right_bodies()
+    step = lost_step(folder, *bodies[0], function.body()) if bodies else None
+    return "%s %s" % (form_of(function), NAMES + step if step else UNTRIED)
+
+
 def bring_up_to_date(crates):
-    """Adds the functions that no list has, as untried, and drops those that are gone."""
+    """Adds the functions that no list has, and drops those that are gone."""
     left, passed = read(LEFT), read(PASSED)
     every = {it.name: it for crate in crates for it in with_hand_proof(crate)}
-    new = {name: rest for name, rest in left.items() if name in every and name not in passed}
     # a function without a hand proof that was found to fail stays listed while it exists
     names = {it.name for crate in crates for it in functions(crate)}
-    new.update({name: rest for name, rest in left.items() if name in names - set(every) and UNTRIED not in rest})
+    new = {name: rest for name, rest in left.items() if name in names - set(passed) and is_tried(rest)}
+    folders = {name: folder for crate in crates for name, folder in hand_proofs(crate).items()}
     for name, function in every.items():
-        if name not in left and name not in passed:
-            new[name] = "%s %s" % (form_of(function), UNTRIED)
+        if name not in new and name not in passed:
+            new[name] = unchecked(function, folders[name])
     write(LEFT, new)
     write(PASSED, {name: rest for name, rest in passed.items() if name in every})
 
@@ -88,7 +103,7 @@ def faults(crates):
     for name in sorted(every - set(left) - set(passed)):
         yield "%s has a hand proof and is in no list: run tests/right_bodies --list" % name
     for name, rest in sorted(left.items()):
-        if name not in every and (UNTRIED in rest or name not in names):
+        if name not in every and (name not in names or not is_tried(rest)):
             yield "tests/right_bodies_left: %s has no hand proof now: run tests/right_bodies --list" % name
     for name in sorted(passed):
         if name in left or name not in every:
