@@ -1,4 +1,4 @@
-"""The steps of the body that a hand proof names, and those of them that a right body in other words does not have.
+"""The steps of the body that a hand proof names, and which of them are missing in a right body in other words.
 
 A proof reads `c.STEP.FIELD`, and an invariant `l.VARIABLE`; the names of goals have steps too, as `returns-then-STEP`. A
 step is a call, a test, an arm or a loop, and a variable is a part of its name: `number-len` is the call `number` whose
