@@ -49,24 +49,90 @@ def last_call(text):
     return found if re.fullmatch(r"[\w.:&*!]+.*\)\??", text.strip()) and " " not in text.split("(")[0].strip() else None
 
 
-def value_named(line):
-    """The value of a line `let NAME = VALUE;`."""
-    found = re.fullmatch(r" *let \w+ = (.*);", line)
-    return found[1] if found else None
+def is_once(call, body):
+    """Whether the body has this call once, so that its step has no count."""
+    return len(re.findall(r"\b%s(?:::<\w+>)?!?\(" % call, body)) == 1
+
+
+def tests_with(named, condition):
+    """The steps that name a test with words of this condition only."""
+    words = set(re.findall(r"[A-Za-z_]\w*", condition))
+    found = []
+    for step in named:
+        parts = re.split(r"(?:^|-)(?:if|then|else)-", step)
+        last = re.sub(r"\b(?:not|eq|ne|lt|le|gt|ge)?\d*\b", "", parts[-1]) if len(parts) > 1 else ""
+        names = set(re.findall(r"[A-Za-z_]\w*", last))
+        if names and names <= words:
+            found.append(step)
+    return found
+
+
+def by_variable(named, lines, new):
+    """A step with the variable that has another name."""
+    before, after = (set(re.findall(r"\w+", "\n".join(it))) for it in (lines, new))
+    return [step for step in named if (before - after) & set(step.split("-"))]
+
+
+def by_value(named, lines, new):
+    """The call whose value gets a name. If the value is a choice, the returns of its branches are gone."""
+    added = [line[2:] for line in difflib.ndiff(lines, new) if line.startswith("+ ")]
+    values = [found[1] for found in (re.fullmatch(r" *let \w+ = (.*?)[;{]?", line) for line in added) if found]
+    body = "\n".join(lines)
+    if len(values) != 1:
+        return []
+    if re.match(r"(?:match|if)\b", values[0]):
+        is_only = len(re.findall(r"\b(?:match|if)\b", body)) == 1 and not re.search(r"\breturn\b|\?", body)
+        return [step for step in named if re.match(r"returns-(?:in|then|else)", step)] if is_only else []
+    call = last_call(values[0].lstrip("!"))
+    return [call] if call in named and is_once(call, body) else []
+
+
+def by_condition(named, lines, new):
+    """A test of the condition that changes."""
+    gone = [line[2:] for line in difflib.ndiff(lines, new) if line.startswith("- ")]
+    tests = [found[1] for found in (re.fullmatch(r" *if (.*) \{", line) for line in gone) if found]
+    return tests_with(named, tests[0]) if tests else []
+
+
+def by_sides(named, lines, new):
+    """A test that names both sides of the comparison in their old order."""
+    for before, after in zip(lines, new):
+        if before != after:
+            sides = [re.findall(r"[A-Za-z_]\w*", side) for side in re.split(r" (?:==|!=|<=|>=|<|>) ", before)]
+            # the new line begins with the words of the old one, and then has the other side
+            pairs = ["-%s-%s" % (one[-1], two[at]) for one, two in zip(sides, sides[1:]) for at in (0, -1) if one and two]
+            return [step for step in named for pair in pairs if pair in step + "-" and tests_with([step], before)]
+    return []
+
+
+def by_else(named, lines, _):
+    """The last return, which gets the name of its branch."""
+    return ["returns"] if "returns" in named else []
+
+
+def by_match(named, lines, new):
+    """The branch without a pattern, if the first pattern of the body becomes a `match`."""
+    first = next((at for at, line in enumerate(lines) if re.search(r"\blet (?:Some|Ok)\(", line)), None)
+    return sorted({"returns-in_default", "in_default"} & named) if first and lines[first] != new[first] else []
+
+
+def by_order(named, lines, new):
+    """A call of two arms, of which only the first has no arm in its name."""
+    return [step for step in named if re.search(r"\w-in-[A-Z]\w*$", step) and not step.startswith(("returns", "loop"))]
+
+
+def by_inlining(named, lines, new):
+    """The variable that is gone."""
+    name = next(found[1] for line in difflib.ndiff(lines, new) for found in [re.match(r"- +let (\w+)", line)] if found)
+    return [step for step in named if name in step.split("-")[1:] and not step.startswith("decreases-")]
+
+
+LOST = {"renamed": by_variable, "named": by_value, "helped": by_value, "conditioned": by_condition, "nested": by_else,
+        "exchanged": by_condition, "flipped": by_sides, "matched": by_match, "reordered": by_order,
+        "inlined": by_inlining}
 
 
 def lost_step(folder, form, new, lines):
-    """A step that the proof names and that the new body does not have, or None if there is none for sure."""
-    named, body = steps(folder), "\n".join(lines)
-    parts = {part for step in named for part in step.split("-")}
-    if form == "renamed":
-        before, after = set(re.findall(r"\w+", body)), set(re.findall(r"\w+", "\n".join(new)))
-        for name in before - after:
-            found = sorted(step for step in named if name in step.split("-"))
-            return found[0] if found and name in parts else None
-    if form in ("named", "helped", "conditioned"):
-        added = [line[2:] for line in difflib.ndiff(lines, new) if line.startswith("+ ") and value_named(line[2:])]
-        call = last_call(value_named(added[0]).lstrip("!")) if len(added) == 1 else None
-        if call and call in named and len(re.findall(r"\b%s!?(?:::<\w+>)?\(" % call, body)) == 1:
-            return call
-    return None
+    """A step that the proof names and that the new body surely does not have, or None."""
+    found = sorted(LOST[form](steps(folder), lines, new)) if form in LOST else []
+    return found[0] if found else None
