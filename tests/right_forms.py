@@ -257,7 +257,7 @@ def helped(lines):
             bare = part.lstrip("&")
             if PLAIN.fullmatch(part) or part.startswith("&mut") and "(" not in part:
                 continue
-            if not re.search(r"\w\(", bare) or re.search(r"\||\?|&mut|\{|\"", bare) or LENT.search(bare):
+            if not re.search(r"\w\(", bare) or re.search(r"\||\?|&mut|\{|\"", part) or LENT.search(bare):
                 break
             parts[place] = "&value" if part.startswith("&") else "value"
             return [*lines[:at], "%slet value = %s;" % (space, bare),
