@@ -48,7 +48,7 @@ def margin(line):
 
 
 def block_end(lines, start):
-    """The line that closes the block whose head is in this line: the next one at its margin, if it begins with a brace."""
+    """The line that closes the block whose head is in this line: the next one at its margin, if it is a brace."""
     for at in range(start + 1, len(lines)):
         if lines[at].strip() and margin(lines[at]) <= margin(lines[start]):
             return at if lines[at].lstrip().startswith("}") else None
@@ -82,13 +82,12 @@ def negated(test):
 
 def value_of(lines):
     """The value at the end of a block's lines, if it is in one line, or None."""
-    if not lines or lines[-1].rstrip().endswith((";", "}", "{", ",", ")")) and not re.search(r"^ *[\w(&*!].*[)}]$", lines[-1]):
+    if not lines:
         return None
     last = lines[-1].strip()
     inner = min(margin(line) for line in lines if line.strip())
-    if margin(lines[-1]) != inner or CLOSING.match(last) or last.startswith(("//", ".", "return ")) or last.endswith(";"):
-        return None
-    return last
+    is_whole = margin(lines[-1]) == inner and not CLOSING.match(last) and not last.startswith(("//", ".", "return "))
+    return last if is_whole and not last.endswith((";", "{", ",")) else None
 
 
 def exchanged(lines):
@@ -326,7 +325,8 @@ def commuted(lines):
 
 def names_of(text):
     """The variables of `let`, of loops and of patterns, in their order."""
-    found = re.findall(r"\blet (?:mut )?(\w+)(?:: [^=]+)? = |\bfor (\w+) in |\b(?:Some|Ok|Err)\((\w+)\)(?: =>| = )", text)
+    found = re.findall(r"\blet (?:mut )?(\w+)(?:: [^=]+)? = |\bfor (\w+) in |\b(?:Some|Ok|Err)\((\w+)\)(?: =>| = )",
+                       text)
     names = [it for group in found for it in group if it and it != "_" and it[0].islower()]
     return list(dict.fromkeys(names))
 
@@ -355,7 +355,8 @@ def named(lines):
     if not starts or "outcome" in " ".join(lines):
         return None
     start, last = starts[-1], lines[-2]
-    if last.rstrip().endswith(";") or re.match(r" *(?:(?:while|for|loop|let|return|unsafe|invariant)\b|//|\.)", lines[start]):
+    is_statement = re.match(r" *(?:(?:while|for|loop|let|return|unsafe|invariant)\b|//|\.)", lines[start])
+    if last.rstrip().endswith(";") or is_statement:
         return None
     tail = [" " * inner + "let outcome = " + lines[start].lstrip()] + lines[start + 1:-1]
     tail[-1] += ";"

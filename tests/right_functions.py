@@ -87,7 +87,7 @@ def type_word(text, free):
 
 
 def impl_word(head):
-    """The name of an impl as a check prints it: `impl Contains<&Ipv4Net> for Ipv4Net` is `Ipv4NetContainsRefIpv4Net`."""
+    """The name that a check gives an impl: `impl Contains<&Ipv4Net> for Ipv4Net` is `Ipv4NetContainsRefIpv4Net`."""
     head = " ".join(head.split()).split(" where ")[0].strip()
     head, free = head[len("impl"):], []
     if head.startswith("<"):

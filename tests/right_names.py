@@ -1,9 +1,9 @@
 """The steps of the body that a hand proof names, and which of them are missing in a right body in other words.
 
-A proof reads `c.STEP.FIELD`, and an invariant `l.VARIABLE`; the names of goals have steps too, as `returns-then-STEP`. A
-step is a call, a test, an arm or a loop, and a variable is a part of its name: `number-len` is the call `number` whose
-result `let len` names. If a step is not there, the proof fails without a check. This module is not run:
-`tests/right_list.py` imports it.
+A proof reads `c.STEP.FIELD`, and an invariant `l.VARIABLE`; the names of goals have steps too, as
+`returns-then-STEP`. A step is a call, a test, an arm or a loop, and a variable is a part of its name: `number-len` is
+the call `number` whose result `let len` names. If a step is not there, the proof fails without a check. This module is
+not run: `tests/right_list.py` imports it.
 """
 import difflib
 import os
@@ -99,8 +99,8 @@ def by_sides(named, lines, new):
     for before, after in zip(lines, new):
         if before != after:
             sides = [re.findall(r"[A-Za-z_]\w*", side) for side in re.split(r" (?:==|!=|<=|>=|<|>) ", before)]
-            # the new line begins with the words of the old one, and then has the other side
-            pairs = ["-%s-%s" % (one[-1], two[at]) for one, two in zip(sides, sides[1:]) for at in (0, -1) if one and two]
+            pairs = ["-%s-%s" % (one[-1], two[at]) for one, two in zip(sides, sides[1:]) if one and two
+                     for at in (0, -1)]
             return [step for step in named for pair in pairs if pair in step + "-" and tests_with([step], before)]
     return []
 
