@@ -118,7 +118,10 @@ def by_match(named, lines, new):
 
 def by_order(named, lines, new):
     """A call of two arms, of which only the first has no arm in its name."""
-    return [step for step in named if re.search(r"\w-in-[A-Z]\w*$", step) and not step.startswith(("returns", "loop"))]
+    heads = {found[1] for before, after in zip(lines, new) if before != after
+             for found in [re.match(r" *(?:\w+::)*([A-Z]\w*)(?:\(.*\)| \{.*\})? => ", before)] if found}
+    return [step for step in named if step.split("-in-")[-1] in heads
+            and re.match(r"(?!in_|in-|returns|loop)\w+-in-", step)]
 
 
 def by_inlining(named, lines, new):
