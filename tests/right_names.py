@@ -130,9 +130,19 @@ def by_inlining(named, lines, new):
     return [step for step in named if name in step.split("-")[1:] and not step.startswith("decreases-")]
 
 
+def by_end(named, lines, new):
+    """The last call, which no longer passes its error on."""
+    body = "\n".join(lines)
+    found = re.fullmatch(r" *(?:[\w:]+[.:])?(\w+)\(.*\)\?;", lines[-3])
+    if len(new) > len(lines) or not found or re.search(r"\b(?:if|match|for|while|loop|else)\b", body):
+        return []
+    count = len(re.findall(r"\b%s\(.*\)\?;" % found[1], body))
+    return sorted({"in_ok-%s" % found[1] + ("-%d" % count if count > 1 else "")} & named)
+
+
 LOST = {"renamed": by_variable, "named": by_value, "helped": by_value, "conditioned": by_condition, "nested": by_else,
         "exchanged": by_condition, "flipped": by_sides, "matched": by_match, "reordered": by_order,
-        "inlined": by_inlining}
+        "inlined": by_inlining, "ended": by_end}
 
 
 def lost_step(folder, form, new, lines):
