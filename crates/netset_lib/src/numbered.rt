@@ -1,4 +1,4 @@
-//! Lines with their numbers, as answers name the lines of a file.
+//! The number of a line and its contents, which answers print for a line of a file.
 ghost use Rattle.std.specs.Prelude.{◌≡◌, ◌++◌, OnOk, codes, decimal};
 
 use std::alloc::AllocError;

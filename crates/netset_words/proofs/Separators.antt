@@ -65,7 +65,7 @@ pair_colons text front back is =
     let two : colons (58 ∷ back) ≡ 1 + colons back = sum_by-append colon (58 ∷ []) back in
     omega (arith, all, one, two)
 
-pub few_colons : (text : List ℕ) → colons text ≤ 1 → HasFewColons text
+few_colons : (text : List ℕ) → colons text ≤ 1 → HasFewColons text
 few_colons text few = (
   omega (arith, few),
   λ front back is. let two = pair_colons text front back is in omega (arith, few, two),

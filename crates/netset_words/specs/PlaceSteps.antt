@@ -15,8 +15,8 @@ HasNoPair text = (front back : List ℕ) → text ≢ front ++ 58 ∷ 58 ∷ bac
 abbrev pub HasFewColons : List ℕ → Type 0
 HasFewColons text = (count_by (λ b. b == 58) text ≤ 6) × HasNoPair text
 
--- The text also has fewer than three ".", so no part of it is an address: an IPv6 address without "::" has seven ":", or
--- ends in an IPv4 address. Example: `12:34:56` and `192.0.2`, and not `::1` or `192.0.2.7`.
+-- The text also has fewer than three ".", so no part of it is an address: an IPv6 address without "::" has seven ":",
+-- or ends in an IPv4 address. Example: `12:34:56` and `192.0.2`, and not `::1` or `192.0.2.7`.
 abbrev pub HasFewSigns : List ℕ → Type 0
 HasFewSigns text = (count_by (λ b. b == 46) text ≤ 2) × HasFewColons text
 
