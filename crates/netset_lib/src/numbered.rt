@@ -1,4 +1,4 @@
-//! The number of a line and its contents, which answers print for a line of a file.
+//! The number of a line of a file and its contents, as some results have them.
 ghost use Rattle.std.specs.Prelude.{◌≡◌, ◌++◌, OnOk, codes, decimal};
 
 use std::alloc::AllocError;
