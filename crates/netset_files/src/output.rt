@@ -1,6 +1,6 @@
 //! The output of a command: standard output, or a file that only a whole answer replaces.
 ghost use Rattle.std.specs.Prelude.{◌≡◌, ◌≤◌, IfErr, IsTrue};
-ghost use Rattle.netset_files.specs.Statuses.{IsExitStatus};
+ghost use Rattle.netset_files.specs.Statuses.{IsUsualStatus};
 
 use crate::input::{ERROR_STREAM, Input, OUTPUT_STREAM};
 use crate::lists::Reports;
@@ -161,6 +161,8 @@ pub struct Writers<'a> {
     pub answer: AnswerWriter<'a>,
     pub faults: Faults<'a>,
     pub reports: Reports,
+    /// Whether bad lines were skipped.
+    pub skipped: bool,
 }
 
 impl<'a> Writers<'a> {
@@ -190,6 +192,7 @@ impl<'a> Writers<'a> {
             answer,
             faults: Faults { err, ends },
             reports,
+            skipped: false,
         })
     }
 
@@ -219,7 +222,7 @@ impl<'a> Writers<'a> {
     /// or 1, if the command has an answer; otherwise it stays as it is.
     #[inline(never)]
     pub fn end(self, status: u8) -> u8
-        ensures { status ≤ 2 → IsExitStatus result }
+        ensures { status ≤ 2 → IsUsualStatus result }
     {
         let Writers {
             mut answer,
