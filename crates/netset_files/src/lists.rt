@@ -137,7 +137,9 @@ fn is_allowed<L: ListReader>(
     refused: usize,
     reports: Reports,
 ) -> bool
-    ensures { reports.empties ≢ Refuse → IsTrue result }
+    ensures exact { IsTrue result ↔ ((L.holds reader.now ≡ true) ⊎ ((L.refused reader.now ≢ refused)
+        ⊎ ((name.now ≡ standard_input) ⊎ (reports.empties ≢ Refuse)))) }
+    ensures allowed { reports.empties ≢ Refuse → IsTrue result }
 {
     let is_empty = !reader.has_entry() && reader.refused_count() == refused;
     !is_empty || reports.report_empty(rt, name, "entries")
@@ -297,6 +299,7 @@ impl<L: ListReader> Lists<L> {
     /// refused.
     pub fn into_reader(self) -> (L, bool)
         ensures reader { result.0 ≡ self.reader }
+        ensures kept { result.1 ≡ self.allowed }
         ensures allowed { self.reports.empties ≢ Refuse → IsTrue result.1 }
     {
         let allowed = self.allowed;
@@ -305,6 +308,7 @@ impl<L: ListReader> Lists<L> {
 
     /// Returns the reader. If a list has no entry, and that is to be refused, the error is the exit status.
     pub fn end(self) -> Result<L, u8>
+        ensures exact { IsOk result ↔ IsTrue self.allowed }
         ensures allowed { self.reports.empties ≢ Refuse → IsOk result }
         ensures failed { IfErr result (λ status. status ≡ 2) }
     {
