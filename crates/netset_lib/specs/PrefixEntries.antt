@@ -168,15 +168,15 @@ AreSideBySide entries number = (i : ℕ) × (a : PrefixEntry) × (i + 1 < length
     × (slice_index_or entries i a ≡ a) × (a.number ≡ Some number)
     × (slice_index (map place_of entries) i ≡ slice_index (map place_of entries) (i + 1))
 
--- Why the entries have no order: some have a sequence number and others have none; in some order, two side by side have
--- the same place. Example: `permit ::/0` beside `seq 5`; `seq 5` twice for IPv4.
+-- Why the entries have no order: some have a sequence number and others have none; or each has one, and in some order,
+-- two side by side have the same place. Example: `permit ::/0` beside `seq 5`; `seq 5` twice for IPv4.
 abbrev pub IsOrderFault : List PrefixEntry → ChoiceFault → Type 0
 IsOrderFault chosen Faults.SeveralNames = ⊥
 IsOrderFault chosen Faults.OtherNames = ⊥
 IsOrderFault chosen Faults.SomeNumbers =
     ¬ (All (λ e. e.number ≡ None) chosen) × ¬ (All (λ e. e.number ≢ None) chosen)
-IsOrderFault chosen (Faults.SameNumber number) =
-    (ordered : List PrefixEntry) × IsPermutation chosen ordered × AreSideBySide ordered number
+IsOrderFault chosen (Faults.SameNumber number) = All (λ e. e.number ≢ None) chosen
+    × ((ordered : List PrefixEntry) × IsPermutation chosen ordered × AreSideBySide ordered number)
 
 -- Why no list is chosen: without a name, two entries have different names; or no entry has the name.
 abbrev pub IsNameFault : Option (List ℕ) → List PrefixEntry → ChoiceFault → Type 0
