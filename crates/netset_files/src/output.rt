@@ -2,7 +2,7 @@
 ghost use Rattle.std.specs.Prelude.{◌≡◌, ◌≤◌, IfErr, IsTrue};
 ghost use Rattle.netset_files.specs.Statuses.{IsExitStatus};
 
-use crate::input::Input;
+use crate::input::{ERROR_STREAM, Input, OUTPUT_STREAM};
 use crate::lists::Reports;
 use crate::replacement::{OutputFailure, Replacement};
 use netset_lib::{Output, finish};
@@ -193,15 +193,15 @@ impl<'a> Writers<'a> {
         })
     }
 
-    /// Refuses a list, which has this name, if the answer is written into it while it is read, as `Input::check_output`
-    /// does. The error is the exit status.
+    /// Refuses a list, which has this name, if the answer or the reports are written into it while it is read, as
+    /// `Input::check_stream` does. The error is the exit status.
     pub fn check_input(&self, rt: &HostRuntime, name: &str, input: &Input) -> Result<(), u8>
         ensures { IfErr result (λ status. status ≡ 2) }
     {
-        match &self.answer.destination {
-            Destination::Standard(_) => input.check_output(rt, name),
-            Destination::File(_) => Ok(()),
+        if let Destination::Standard(_) = &self.answer.destination {
+            input.check_stream(rt, name, OUTPUT_STREAM)?;
         }
+        input.check_stream(rt, name, ERROR_STREAM)
     }
 
     /// Notes that the command has no answer if it ends with status 1, and returns the status. Then the file stays as it
