@@ -8,6 +8,8 @@ from entry_model import address_of, is_entry
 # The bytes that cut words, as characters: the model takes each byte as one character.
 CUTS = "\0\t\n\v\f\r \"#%&'(),;<=>?[\\]`{|}"
 NAME = "[A-Za-z][A-Za-z0-9+._-]*"
+# A path after an address and "/": signs and a letter, if it has one, or digits and "/" and a letter.
+PATH = "[^0-9A-Za-z]*([A-Za-z].*)?|[0-9/]+[A-Za-z].*"
 
 
 def words_of(line):
@@ -58,10 +60,13 @@ class Places:
     def at_user(self, text):
         return self.host(text.partition("@")[2]) or self.before_port(text, "@") if "@" in text else None
 
-    def at_slash(self, text, after):
-        front, sign, back = text.partition("/")
-        if self.before_port(text, "/") or not sign:
-            return self.before_port(text, "/")
+    def before_path(self, text):
+        """An address before the first "/", if a path follows, and not an IPv6 mask."""
+        front, _, back = text.partition("/")
+        is_mask = ":" in front and ":" in back
+        return self.address(front) if re.fullmatch(PATH, back, re.DOTALL) and not is_mask else None
+
+    def after_slash(self, front, back, after):
         if back.startswith("/"):
             return self.host(back[1:])
         if not front:
@@ -69,6 +74,12 @@ class Places:
         if not re.fullmatch(NAME, front):
             return None
         return self.before_colon(back) or (self.host(back) if set("._") & set(front) or after == "(" else None)
+
+    def at_slash(self, text, after):
+        front, sign, back = text.partition("/")
+        if not sign:
+            return None
+        return self.before_port(text, "/") or self.after_slash(front, back, after) or self.before_path(text)
 
     def at_colon(self, text):
         front, sign, back = text.partition(":")

@@ -1,4 +1,6 @@
-"""Copies of the repository in which right bodies are tried. This module is not run: `tests/right_bodies` imports it."""
+"""Copies of the repository in which right bodies are tried. This module is not run: `tests/right_bodies` and
+`tools/free_proofs` import it.
+"""
 from edit_rooms import Rooms
 
 

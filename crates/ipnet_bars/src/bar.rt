@@ -8,14 +8,12 @@ ghost use Rattle.ipnet_bars.specs.Bars.{IsColumnOf, AreBarRows, IsRow, AreRows, 
 ghost use Rattle.ipnet_bars.specs.MarkTexts.{mark_len, percent_text};
 ghost use Rattle.ipnet_sets.specs.Parts.{IsInPart};
 ghost use Rattle.ipnet_bars.specs.Parts.{block_size, counted};
-ghost use Rattle.ipnet_bars.specs.Shares.{tenths};
 
 use crate::marks::{
     Marks, RowWidth, mark_len_of, push_blanks, push_marks, push_number, push_percent, row_len_of,
 };
 use crate::outside::push_outside;
-use crate::part::{count_in, host_bits_of, levels_in, subnets_of};
-use crate::share::tenths_of;
+use crate::part::{count_in, levels_in, share_of, subnets_of};
 use crate::summary::push_summary;
 use ipnet::IpNet;
 use ipnet_sets::IpSet;
@@ -43,17 +41,6 @@ pub(crate) struct RowForm {
 pub(crate) struct BarRows {
     pub(crate) networks: Vec<IpNet>,
     pub(crate) form: RowForm,
-}
-
-/// The share of a block of this size that a count is, in tenths of a per cent.
-pub(crate) fn share_of(count: Option<u128>, network: &IpNet) -> u16
-    requires { counted count ≤ block_size (ip_network network.now) }
-    ensures { result ≡ tenths (counted count) (block_size (ip_network network.now)) }
-{
-    match count {
-        Some(count) => tenths_of(count, host_bits_of(network)),
-        None => 1000,
-    }
 }
 
 /// Appends the network and blanks up to the column.

@@ -9,9 +9,10 @@ ghost use Rattle.ipnet.specs.SubnetsLeft.{ip_subnets_left};
 ghost use Rattle.ipnet_sets.specs.Members.{IsMember, IsMemberOf, IsCountOf};
 ghost use Rattle.ipnet_sets.specs.Parts.{IsInPart};
 ghost use Rattle.ipnet_bars.specs.Parts.{HasNone, HasAll, IsLevelOf, AreLevelsOf, block_size, counted};
+ghost use Rattle.ipnet_bars.specs.Shares.{tenths};
 ghost use Rattle.ipnet_bars.specs.declared.share.Level.TheVariants.{Nothing, Whole};
 
-use crate::share::{Level, level_of};
+use crate::share::{Level, level_of, tenths_of};
 use ipnet::{IpNet, IpSubnets};
 use ipnet_sets::IpSet;
 use std::alloc::{AllocError, Global};
@@ -49,6 +50,22 @@ pub fn host_bits_of(network: &IpNet) -> u8
     ensures { result ≡ host_bits (ip_network network.now) }
 {
     network.max_prefix_len() - network.prefix_len()
+}
+
+/// Returns the share of the network's block that the count is, in tenths of a per cent, as in `tenths_of`; `None` is
+/// 2^128, as in `count_in`.
+///
+/// ```text
+/// of Some(57) in 10.0.0.0/24: 222; of None in ::/0: 1000
+/// ```
+pub fn share_of(count: Option<u128>, network: &IpNet) -> u16
+    requires { counted count ≤ block_size (ip_network network.now) }
+    ensures { result ≡ tenths (counted count) (block_size (ip_network network.now)) }
+{
+    match count {
+        Some(count) => tenths_of(count, host_bits_of(network)),
+        None => 1000,
+    }
 }
 
 /// Returns the number of addresses of the network's block, less one: the block of `::/0` has more than a word holds.

@@ -9,9 +9,8 @@ ghost use Rattle.ipnet_bars.specs.Parts.{block_size, counted};
 ghost use Rattle.ipnet_bars.specs.Summaries.{IsFree, used_line, count_with_len, length_text, lengths_text};
 ghost use Rattle.ipnet_bars.specs.Summaries.{free_line, IsLargest, IsLargerOf, largest_line, IsSummary};
 
-use crate::bar::share_of;
 use crate::marks::{push_number, push_percent};
-use crate::part::{count_in, size_of};
+use crate::part::{count_in, share_of, size_of};
 use ipnet::IpNet;
 use ipnet_sets::IpSet;
 use std::alloc::{AllocError, Global};

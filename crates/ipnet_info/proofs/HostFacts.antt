@@ -74,3 +74,6 @@ some_is o x P v s e = (subst (λ z. SomeIff z P v) e s).1
 
 pub none_is_not : {A : Type 0} (o : Option A) (P : Type 0) (v : A) → SomeIff o P v → o ≡ None → P → ⊥
 none_is_not o P v s e = subst (λ z. SomeIff z P v) e s
+
+-- how many addresses a network has, with its first and last one and without them
+pub ruleset host_counts = (inner_count, whole_count, reserved_room)

@@ -42,6 +42,7 @@ fn has_reserved_ends(network: &IpNet) -> bool
 /// ```text
 /// 10.0.0.0/24: Some(254); 10.0.0.0/31: Some(2); 10.0.0.0/32: Some(1); fd00::/126: Some(4); ::/0: None
 /// ```
+#[tactic(auto, using(crate::proofs::HostFacts::host_counts))]
 pub fn host_count(network: &IpNet) -> Option<u128>
     ensures some { IfSome result (λ count. (hosts : AddressRange) → IsHostRange (ip_network network.now) hosts
         → ranges.address_count hosts ≡ count) }

@@ -120,6 +120,7 @@ fn push_in_form(
 }
 
 /// Appends the fact with this value as a line. Fails only if memory runs out.
+#[tactic(auto, using(crate::proofs::FactTexts::then_))]
 fn push_line(text: &mut String, name: &str, value: &str) -> Result<(), AllocError>
     ensures { OnOk result (IsAppended (string_bytes text.old) (string_bytes text.new)
         (fact Lines name.now [] value.now)) }
@@ -132,6 +133,7 @@ fn push_line(text: &mut String, name: &str, value: &str) -> Result<(), AllocErro
 }
 
 /// Appends the member of an object. Fails only if memory runs out.
+#[tactic(auto, using(crate::proofs::FactTexts::then_))]
 fn push_member(text: &mut String, key: &str, value: &str) -> Result<(), AllocError>
     ensures { OnOk result (IsAppended (string_bytes text.old) (string_bytes text.new) (member key.now value.now)) }
 {
@@ -144,6 +146,7 @@ fn push_member(text: &mut String, key: &str, value: &str) -> Result<(), AllocErr
 }
 
 /// Appends the fact with this value as a member, and a comma. Fails only if memory runs out.
+#[tactic(auto, using(crate::proofs::FactTexts::then_))]
 fn push_member_fact(text: &mut String, key: &str, value: &str) -> Result<(), AllocError>
     ensures { OnOk result (IsAppended (string_bytes text.old) (string_bytes text.new)
         (fact Json [] key.now value.now)) }
@@ -186,6 +189,7 @@ fn push_address_fact(
 }
 
 /// Returns the count in decimal; `None` is 2^128. Fails only if memory runs out.
+#[tactic(auto, using(crate::proofs::FactTexts::all_ipv6_text))]
 fn count_text(alloc: Global, count: Option<u128>) -> Result<String, AllocError>
     ensures { IfOk result (λ text. string_bytes text ≡ decimal (counted count)) }
 {
@@ -228,6 +232,7 @@ fn push_host_facts(
 }
 
 /// Appends this address in full. Fails only if memory runs out.
+#[tactic(auto, using(crate::proofs::FactTexts::of_value))]
 fn push_full_address(
     alloc: Global,
     text: &mut String,
@@ -291,6 +296,7 @@ fn push_comma(text: &mut String, form: FactsForm, is_first: bool) -> Result<(), 
 }
 
 /// Appends a zone. Fails only if memory runs out.
+#[tactic(auto, using(crate::proofs::FactTexts::then_, crate::proofs::FactTexts::of_value))]
 fn push_zone(
     alloc: Global,
     text: &mut String,
@@ -308,6 +314,7 @@ fn push_zone(
 }
 
 /// Appends the zones. Fails only if memory runs out.
+#[tactic(auto, using(crate::proofs::FactTexts::then_, crate::proofs::FactTexts::next_item))]
 fn push_zones(
     alloc: Global,
     text: &mut String,
@@ -339,6 +346,7 @@ fn whole_text(form: FactsForm, is_whole: bool) -> &'static str
 }
 
 /// Appends the row of a registry as a line. Fails only if memory runs out.
+#[tactic(auto, using(crate::proofs::FactTexts::then_, crate::proofs::FactTexts::of_value))]
 fn push_purpose_line(text: &mut String, purpose: &SpecialPurpose) -> Result<(), AllocError>
     ensures { OnOk result (IsAppended (string_bytes text.old) (string_bytes text.new)
         (purpose_item Lines (purpose_of purpose.now))) }
@@ -421,6 +429,7 @@ fn push_single_facts(
 }
 
 /// Appends the reverse zones and the rows of the registry. Fails only if memory runs out.
+#[tactic(auto, using(crate::proofs::FactTexts::then_, crate::proofs::FactTexts::of_value))]
 fn push_listed_facts(
     alloc: Global,
     text: &mut String,
@@ -467,6 +476,7 @@ fn push_listed_facts(
 /// reverse zone: 0.0.10.in-addr.arpa
 /// special purpose: 10.0.0.0/8 Private-Use (RFC 1918)
 /// ```
+#[tactic(auto, using(crate::proofs::FactTexts::then_, crate::proofs::FactTexts::from_empty))]
 pub fn facts_text(alloc: Global, network: &IpNet, form: FactsForm) -> Result<String, AllocError>
     ensures { IfOk result (λ text. IsFactsText form (ip_network network.now) (string_bytes text)) }
 {

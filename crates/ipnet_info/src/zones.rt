@@ -25,6 +25,7 @@ fn push_octet(text: &mut String, number: u32, index: u32) -> Result<(), AllocErr
 }
 
 /// Appends the name of the first labels of an IPv4 address. Fails only if memory runs out.
+#[tactic(auto, using(crate::proofs::DigitFacts::piece_step, crate::proofs::DigitFacts::ipv4_step))]
 fn push_ipv4_name(text: &mut String, number: u32, labels: u32) -> Result<(), AllocError>
     requires { labels ≤ 4 }
     ensures { OnOk result (string_bytes text.new ≡ string_bytes text.old ++ ipv4_labels labels number) }
@@ -107,6 +108,7 @@ fn longest_zone_len(network: &IpNet) -> u8
 }
 
 /// Returns the least prefix length of whole labels that is at least the network's.
+#[tactic(auto, using(crate::proofs::ZoneFacts::up_to_8))]
 fn next_ipv4_len(network: &Ipv4Net) -> u8
     ensures { IsNextLength (ipv4_network network.now) result }
 {
@@ -114,6 +116,7 @@ fn next_ipv4_len(network: &Ipv4Net) -> u8
 }
 
 /// Returns the least prefix length of whole labels that is at least the network's.
+#[tactic(auto, using(crate::proofs::ZoneFacts::up_to_4))]
 fn next_ipv6_len(network: &Ipv6Net) -> u8
     ensures { IsNextLength (ipv6_network network.now) result }
 {
@@ -143,6 +146,7 @@ fn subnets_of(network: &IpNet, prefix_len: u8) -> IpSubnets
 }
 
 /// Returns the smallest zone that contains a network smaller than every zone.
+#[tactic(auto, using(crate::proofs::ZoneFacts::around_zones, crate::proofs::ZoneFacts::few_subnets))]
 fn zone_around(network: &IpNet) -> IpSubnets
     requires { longest_zone (ip_network network.now).family < (ip_network network.now).prefix_len }
     ensures zones { AreReverseZones (ip_network network.now) (ip_subnets_left result) }

@@ -11,8 +11,8 @@ use Rattle.ipnet_base.proofs.ListLaws.{contains_here, contains_there}
 use Rattle.ipnet_bars.specs.declared.change.Change.TheVariants as change
 use Rattle.ipnet_bars.specs.Parts.{HasSome, HasNone, HasAll}
 use Rattle.ipnet_bars.specs.Changes.{IsOnlyIn, IsChange}
-use Rattle.ipnet_maps.specs.declared.drawing.Class.{Class}
-use Rattle.ipnet_maps.specs.declared.drawing.Class.TheVariants.{Removed, Added, Mixed, KeptPart, KeptWhole}
+use Rattle.ipnet_maps.specs.declared.class.Class.{Class}
+use Rattle.ipnet_maps.specs.declared.class.Class.TheVariants.{Removed, Added, Mixed, KeptPart, KeptWhole}
 use Rattle.ipnet_maps.specs.Cells.{IsKeptPart, IsKeptWhole}
 use Rattle.ipnet_maps.specs.Classes.{HasChangeClass, change_classes}
 use Rattle.ipnet_maps.proofs.ClassLaws.{some_or_none, distinct_more, distinct_none}

@@ -18,8 +18,8 @@ use Rattle.ipnet_bars.specs.Parts.{HasSome, HasNone, block_size}
 use Rattle.ipnet_maps.specs.Levels.{IsShare, IsLevelOf}
 use Rattle.ipnet_bars.proofs.PartLaws.{same_count, block_counted, part_fits, nothing_counted}
 use Rattle.ipnet_maps.proofs.ShareLaws.{nothing_shown}
-use Rattle.ipnet_maps.specs.declared.drawing.Class.{Class}
-use Rattle.ipnet_maps.specs.declared.drawing.Class.TheVariants.{Sparse, BelowQuarter, FromQuarter, Whole, Removed}
+use Rattle.ipnet_maps.specs.declared.class.Class.{Class}
+use Rattle.ipnet_maps.specs.declared.class.Class.TheVariants.{Sparse, BelowQuarter, FromQuarter, Whole, Removed}
 use Rattle.ipnet_maps.specs.Classes.{HasLevelClass, level_classes}
 use Rattle.ipnet_maps.proofs.LevelLaws.{some_counted, one_level, some_level}
 use Rattle.ipnet_maps.proofs.DrawingLaws.{IsSameCell, AreClasses}

@@ -24,8 +24,8 @@ use Rattle.ipnet_sets.specs.Members.{IsMember}
 use Rattle.ipnet_sets.proofs.SetRangeLaws.{any_cases, any_here, any_there}
 use Rattle.ipnet_bars.specs.Parts.{HasSome}
 use Rattle.ipnet_maps.specs.declared.layout.Rectangle.{Rectangle}
-use Rattle.ipnet_maps.specs.declared.drawing.Class.{Class}
-use Rattle.ipnet_maps.specs.declared.drawing.Layer.{Layer}
+use Rattle.ipnet_maps.specs.declared.class.Class.{Class}
+use Rattle.ipnet_maps.specs.declared.layers.Layer.{Layer}
 use Rattle.ipnet_maps.specs.declared.layers.ClassCells.{ClassCells}
 use Rattle.ipnet_maps.specs.Drawings.{IsShown, IsLayerOf, all_rectangles, total_of, IsRectangleCount, AreLayersOf}
 use Rattle.ipnet_maps.specs.Layers.{IsClassCells, AreCellsIn, IsLayerOfCells}

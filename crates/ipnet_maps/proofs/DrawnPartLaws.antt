@@ -8,9 +8,9 @@ use Rattle.ipnet_base.specs.Blocks.{AreMaximalBlocks}
 use Rattle.ipnet_base.proofs.UniqueLaws.{AreMaximalBlocks-same_set}
 use Rattle.ipnet.specs.NetworkParts.{network_at}
 use Rattle.ipnet_bars.specs.Parts.{HasSome}
-use Rattle.ipnet_maps.specs.declared.drawing.Class.{Class}
+use Rattle.ipnet_maps.specs.declared.class.Class.{Class}
 use Rattle.ipnet_maps.specs.declared.drawing.Drawing.{Drawing}
-use Rattle.ipnet_maps.specs.declared.drawing.Layer.{Layer}
+use Rattle.ipnet_maps.specs.declared.layers.Layer.{Layer}
 use Rattle.ipnet_maps.specs.Drawings.{IsShown, IsLayerOf, IsDrawingOf}
 use Rattle.ipnet_maps.specs.Places.{IsDrawnIn}
 use Rattle.ipnet_maps.proofs.CellLaws.{cell_has}

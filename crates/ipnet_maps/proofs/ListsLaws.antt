@@ -13,7 +13,7 @@ use Rattle.ipnet_sets.proofs.SetEqualLaws.{member_or_not}
 use Rattle.ipnet_sets.proofs.SetRangeLaws.{any_cases}
 use Rattle.ipnet_sets.specs.Parts.{IsInPart}
 use Rattle.ipnet_bars.proofs.PartLaws.{part_of_part}
-use Rattle.ipnet_maps.specs.declared.drawing.Class.TheVariants.{Overlap, Several}
+use Rattle.ipnet_maps.specs.declared.class.Class.TheVariants.{Overlap, Several}
 use Rattle.ipnet_maps.specs.declared.drawing.Drawing.{Drawing}
 use Rattle.ipnet_maps.specs.declared.drawing.Lists.{Lists}
 use Rattle.ipnet_maps.specs.declared.drawing.Lists.TheVariants as lists

@@ -21,7 +21,7 @@ use Rattle.ipnet.specs.NetworkOf.{ip_network}
 use Rattle.ipnet.specs.NetworkParts.{network_at}
 use Rattle.ipnet.specs.declared.net.IpNet.{IpNet}
 use Rattle.ipnet_bars.specs.Parts.{HasSome, HasNone}
-use Rattle.ipnet_maps.specs.declared.drawing.Class.{Class}
+use Rattle.ipnet_maps.specs.declared.class.Class.{Class}
 use Rattle.ipnet_maps.specs.Drawings.{IsShown, IsRectangleCount, total_of}
 use Rattle.ipnet_maps.specs.Runs.{IsCellBetween, IsCutOff, HasRuns, HasManyRuns}
 use Rattle.ipnet_maps.proofs.CellLaws.{cell_has}

@@ -7,8 +7,8 @@ use Rattle.ipnet.specs.NetworkParts.{network_at}
 use Rattle.ipnet_sets.specs.declared.set.IpSet.{IpSet}
 use Rattle.ipnet_sets.specs.Members.{IsMember}
 use Rattle.ipnet_bars.specs.Parts.{HasSome, HasAll}
-use Rattle.ipnet_maps.specs.declared.drawing.Class.{Class}
-use Rattle.ipnet_maps.specs.declared.drawing.Class.TheVariants.{Overlap, Several, PartOf, WholeOf}
+use Rattle.ipnet_maps.specs.declared.class.Class.{Class}
+use Rattle.ipnet_maps.specs.declared.class.Class.TheVariants.{Overlap, Several, PartOf, WholeOf}
 use Rattle.ipnet_maps.specs.declared.layers.ClassCells.{ClassCells}
 use Rattle.ipnet_maps.specs.Cells.{IsInCell}
 use Rattle.ipnet_maps.specs.Classes.{HasSharedClass, single_classes}

@@ -13,8 +13,8 @@ use Rattle.ipnet_sets.specs.declared.set.IpSet.{IpSet}
 use Rattle.ipnet_sets.specs.Members.{IsMember}
 use Rattle.ipnet_sets.proofs.SetEqualLaws.{member_or_not}
 use Rattle.ipnet_bars.specs.Parts.{HasSome, HasNone, HasAll}
-use Rattle.ipnet_maps.specs.declared.drawing.Class.{Class}
-use Rattle.ipnet_maps.specs.declared.drawing.Class.TheVariants.{Overlap, Several, PartOf, WholeOf}
+use Rattle.ipnet_maps.specs.declared.class.Class.{Class}
+use Rattle.ipnet_maps.specs.declared.class.Class.TheVariants.{Overlap, Several, PartOf, WholeOf}
 use Rattle.ipnet_maps.specs.Classes.{HasAt, HasSharedClass, single_classes, shared_classes}
 use Rattle.ipnet_maps.specs.Shared.{IsInTwo}
 use Rattle.ipnet_maps.proofs.ClassLaws.{some_or_none, distinct_none}

@@ -9,10 +9,10 @@ use Rattle.ipnet_bars.specs.declared.change.Change.TheVariants as change
 use Rattle.ipnet_bars.specs.Parts.{HasSome, HasNone, HasAll}
 use Rattle.ipnet_maps.specs.Levels.{IsLevelOf}
 use Rattle.ipnet_bars.specs.Changes.{IsChange}
-use Rattle.ipnet_maps.specs.declared.drawing.Class.{Class}
-use Rattle.ipnet_maps.specs.declared.drawing.Class.TheVariants.{Sparse, BelowQuarter, FromQuarter, Whole}
-use Rattle.ipnet_maps.specs.declared.drawing.Class.TheVariants.{Removed, Added, Mixed, KeptPart, KeptWhole}
-use Rattle.ipnet_maps.specs.declared.drawing.Class.TheVariants.{Overlap, Several, PartOf, WholeOf}
+use Rattle.ipnet_maps.specs.declared.class.Class.{Class}
+use Rattle.ipnet_maps.specs.declared.class.Class.TheVariants.{Sparse, BelowQuarter, FromQuarter, Whole}
+use Rattle.ipnet_maps.specs.declared.class.Class.TheVariants.{Removed, Added, Mixed, KeptPart, KeptWhole}
+use Rattle.ipnet_maps.specs.declared.class.Class.TheVariants.{Overlap, Several, PartOf, WholeOf}
 use Rattle.ipnet_maps.specs.Cells.{IsKeptPart, IsKeptWhole}
 use Rattle.ipnet_maps.specs.Shared.{IsInTwo}
 

@@ -6,7 +6,7 @@ use Rattle.ipnet_base.specs.Blocks.{IsInEither}
 use Rattle.ipnet_sets.specs.declared.set.IpSet.{IpSet}
 use Rattle.ipnet_sets.specs.Members.{IsMember}
 use Rattle.ipnet_sets.specs.Parts.{IsInPart}
-use Rattle.ipnet_maps.specs.declared.drawing.Class.{Class}
+use Rattle.ipnet_maps.specs.declared.class.Class.{Class}
 use Rattle.ipnet_maps.specs.declared.drawing.Drawing.{Drawing}
 use Rattle.ipnet_maps.specs.declared.drawing.Lists.{Lists}
 use Rattle.ipnet_maps.specs.declared.drawing.Lists.TheVariants.{One, Change, Several}

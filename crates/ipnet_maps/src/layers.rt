@@ -10,7 +10,8 @@ ghost use Rattle.ipnet_sets.specs.Members.{IsMember};
 ghost use Rattle.ipnet_maps.specs.Drawings.{total_of};
 ghost use Rattle.ipnet_maps.specs.Layers.{AreCellsIn, IsLayerOfCells};
 
-use crate::drawing::{Class, Layer};
+use crate::class::Class;
+use crate::layout::Rectangle;
 use crate::places::rectangles_of;
 use ipnet::IpNet;
 use ipnet_sets::IpSet;
@@ -18,6 +19,15 @@ use std::alloc::{AllocError, Global};
 
 /// A map has at most this many rectangles.
 pub(crate) const MOST_RECTANGLES: u32 = 65_536;
+
+/// The cells of one class, as the fewest rectangles of networks.
+#[derive(Drop)]
+pub struct Layer {
+    /// The class of the cells.
+    pub class: Class,
+    /// The rectangles, in the order of their networks.
+    pub rectangles: Vec<Rectangle>,
+}
 
 /// The cells of one class.
 #[derive(Drop)]

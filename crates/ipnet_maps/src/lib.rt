@@ -3,6 +3,7 @@
 
 pub mod cells;
 pub mod changed;
+pub mod class;
 pub mod depth;
 pub mod drawing;
 pub mod laws;
@@ -18,8 +19,10 @@ pub mod shared;
 
 pub use cells::{cells_with_all, cells_with_some};
 pub use changed::{ChangedCells, changed_cells};
+pub use class::Class;
 pub use depth::greatest_depth_of;
-pub use drawing::{Class, Drawing, Layer, draw_change, draw_set, draw_sets};
+pub use drawing::{Drawing, draw_change, draw_set, draw_sets};
+pub use layers::Layer;
 pub use layout::{Axis, Layout, Place, Rectangle, Sides};
 pub use level::Level;
 pub use levels::{LevelCells, level_cells};

@@ -9,7 +9,7 @@ ghost use Rattle.ipnet_maps.specs.Classes.{HasSharedClass, shared_classes};
 ghost use Rattle.ipnet_maps.specs.Layers.{IsClassCells};
 
 use crate::cells::{cells_with_all, cells_with_some};
-use crate::drawing::Class;
+use crate::class::Class;
 use crate::layers::ClassCells;
 use crate::shared::{cells_in_two_of, in_two_of};
 use ipnet_sets::IpSet;

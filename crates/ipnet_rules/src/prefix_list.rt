@@ -1,18 +1,15 @@
 //! Prefix lists, as routers filter routes by them.
-ghost use Rattle.std.specs.Prelude.{◌≡◌, ◌≤◌, ◌↔◌, IsTrue, IfOk, IsErrOf, IsNone, IfSome};
+ghost use Rattle.std.specs.Prelude.{◌≡◌, ◌≤◌, ◌↔◌, IsTrue, IfOk, IsErrOf};
 ghost use Rattle.ipnet_base.specs.Address.{Address, width};
 ghost use Rattle.ipnet_base.specs.Network.{InBlock};
 ghost use Rattle.ipnet.specs.NetworkOf.{ip_network};
 ghost use Rattle.ipnet_rules.specs.declared.prefix_list.PrefixRuleError.TheVariants as PrefixRuleError;
 ghost use Rattle.ipnet_rules.specs.PrefixLists.{IsLengthAsked, MatchesRoute, IsRouteVerdict, IsRoutePermitted};
 ghost use Rattle.ipnet_rules.specs.Rules.{Matches};
-ghost use Rattle.ipnet_rules.specs.PrefixLists.{PermitSameRoutes, IsPermittedByOne, IsPrefixRule, IsBound, IsAbove};
-ghost use Rattle.ipnet_rules.specs.PrefixLists.{IsFirstDifference};
+ghost use Rattle.ipnet_rules.specs.PrefixLists.{IsPrefixRule, IsBound, IsAbove};
 
-use crate::route_sets;
 use crate::rules::{Action, Addresses, Rule};
 use ipnet::IpNet;
-use std::alloc::{AllocError, Global};
 use thiserror::Error;
 
 /// Why `ge` and `le` are refused.
@@ -244,36 +241,5 @@ impl PrefixList {
             Action::Permit => true,
             Action::Deny => false,
         }
-    }
-
-    /// Returns the first network that one of the two lists permits and the other does not, or `None` if the lists
-    /// permit the same networks. It has the shortest prefix length of all these networks, and no host bits. It is
-    /// the first one of this length: IPv4 before IPv6, then by address. Fails only if memory runs out.
-    ///
-    /// ```text
-    /// permit 10.0.0.0/8 ge 16, against permit 10.0.0.0/8 ge 16 le 24: Some(10.0.0.0/25)
-    /// ```
-    pub fn first_difference(
-        &self,
-        alloc: Global,
-        other: &PrefixList,
-    ) -> Result<Option<IpNet>, AllocError>
-        ensures none { IfOk result (λ found. IsNone found
-            ↔ PermitSameRoutes self.now.list.items other.now.list.items) }
-        ensures some { IfOk result (λ found. IfSome found (λ n.
-            IsPermittedByOne self.now.list.items other.now.list.items (ip_network n))) }
-        ensures first { IfOk result (λ found. IfSome found (λ n.
-            IsFirstDifference self.now.list.items other.now.list.items (ip_network n))) }
-    {
-        let ours = self.list.as_slice();
-        let theirs = other.list.as_slice();
-        for prefix_len in 0..129 {
-            if let Some(network) = route_sets::difference_of_length(
-                alloc, ours, theirs, prefix_len,
-            )? {
-                return Ok(Some(network));
-            }
-        }
-        Ok(None)
     }
 }

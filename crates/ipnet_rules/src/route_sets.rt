@@ -5,9 +5,10 @@ ghost use Rattle.ipnet.specs.NetworkOf.{ip_network};
 ghost use Rattle.ipnet.specs.NetworkParts.{network_at};
 ghost use Rattle.ipnet_sets.specs.Members.{IsMember};
 ghost use Rattle.ipnet_rules.specs.PrefixLists.{IsRoutePermitted, IsPermittedByOne, IsFirstOfLength};
+ghost use Rattle.ipnet_rules.specs.PrefixLists.{IsFirstDifference, PermitSameRoutes};
 ghost use Rattle.ipnet_rules.specs.RoutesOfLength.{AreRulesOfLength};
 
-use crate::prefix_list::PrefixRule;
+use crate::prefix_list::{PrefixList, PrefixRule};
 use crate::rules::{self, Rule};
 use ipnet::IpNet;
 use ipnet_sets::IpSet;
@@ -66,5 +67,36 @@ pub(crate) fn difference_of_length(
     match rules::first_apart(alloc, &ours, &theirs)? {
         Some(ip) => Ok(Some(IpNet::new_assert(ip, prefix_len))),
         None => Ok(None),
+    }
+}
+
+impl PrefixList {
+    /// Returns the first network that one of the two lists permits and the other does not, or `None` if the lists
+    /// permit the same networks. It has the shortest prefix length of all these networks, and no host bits. It is
+    /// the first one of this length: IPv4 before IPv6, then by address. Fails only if memory runs out.
+    ///
+    /// ```text
+    /// permit 10.0.0.0/8 ge 16, against permit 10.0.0.0/8 ge 16 le 24: Some(10.0.0.0/25)
+    /// ```
+    pub fn first_difference(
+        &self,
+        alloc: Global,
+        other: &PrefixList,
+    ) -> Result<Option<IpNet>, AllocError>
+        ensures none { IfOk result (λ found. IsNone found
+            ↔ PermitSameRoutes self.now.list.items other.now.list.items) }
+        ensures some { IfOk result (λ found. IfSome found (λ n.
+            IsPermittedByOne self.now.list.items other.now.list.items (ip_network n))) }
+        ensures first { IfOk result (λ found. IfSome found (λ n.
+            IsFirstDifference self.now.list.items other.now.list.items (ip_network n))) }
+    {
+        let ours = self.list.as_slice();
+        let theirs = other.list.as_slice();
+        for prefix_len in 0..129 {
+            if let Some(network) = difference_of_length(alloc, ours, theirs, prefix_len)? {
+                return Ok(Some(network));
+            }
+        }
+        Ok(None)
     }
 }

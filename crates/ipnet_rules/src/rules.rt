@@ -7,9 +7,7 @@ ghost use Rattle.ipnet_sets.specs.Members.{IsMember, IsFromTo, HaveSameAddresses
 ghost use Rattle.ipnet_rules.specs.declared.rules.Action.TheVariants.{Permit, Deny};
 ghost use Rattle.ipnet_rules.specs.Rules.{IsOneOf, Matches, HasRuleVerdict, IsVerdict, IsPermitted};
 ghost use Rattle.ipnet_rules.specs.Rules.{HaveSameVerdicts, HaveOtherVerdicts};
-ghost use Rattle.ipnet_rules.specs.UnreachedRules.{AreUnreached};
 
-use crate::unreached::{self, Unreached};
 use ipnet::{IpAddr, IpNet};
 use ipnet_sets::IpSet;
 use std::alloc::{AllocError, Global};
@@ -246,18 +244,5 @@ impl Rules {
         let ours = self.permitted(alloc)?;
         let theirs = other.permitted(alloc)?;
         first_apart(alloc, &ours, &theirs)
-    }
-
-    /// Returns the rules that decide on no address, in order, because earlier rules match all of their addresses. Each
-    /// has the earlier rules that decide in its place. Fails only if memory runs out. The time grows as n log n, for n
-    /// networks and ranges in the rules.
-    ///
-    /// ```text
-    /// deny 10.0.0.0/9, permit 10.128.0.0/9, permit 10.0.0.0/8: rule 2, for which 0 and 1 decide
-    /// ```
-    pub fn unreached(&self, alloc: Global) -> Result<Vec<Unreached>, AllocError>
-        ensures { IfOk result (λ found. AreUnreached self.now.list.items found.items) }
-    {
-        unreached::unreached_rules(alloc, self.list.as_slice())
     }
 }

@@ -8,7 +8,7 @@ ghost use Rattle.ipnet_rules.specs.UnreachedRules.{IsUnreached, IsUnreachedAt, A
 ghost use Rattle.ipnet_rules.specs.UnreachedRules.{AreUnreached};
 
 use crate::cells::{self, Cells, Family};
-use crate::rules::Rule;
+use crate::rules::{Rule, Rules};
 use std::alloc::{AllocError, Global};
 
 /// A rule that decides on no address.
@@ -148,4 +148,19 @@ pub(crate) fn unreached_rules(alloc: Global, rules: &[Rule]) -> Result<Vec<Unrea
         }
     }
     Ok(found)
+}
+
+impl Rules {
+    /// Returns the rules that decide on no address, in order, because earlier rules match all of their addresses. Each
+    /// has the earlier rules that decide in its place. Fails only if memory runs out. The time grows as n log n, for n
+    /// networks and ranges in the rules.
+    ///
+    /// ```text
+    /// deny 10.0.0.0/9, permit 10.128.0.0/9, permit 10.0.0.0/8: rule 2, for which 0 and 1 decide
+    /// ```
+    pub fn unreached(&self, alloc: Global) -> Result<Vec<Unreached>, AllocError>
+        ensures { IfOk result (λ found. AreUnreached self.now.list.items found.items) }
+    {
+        unreached_rules(alloc, self.list.as_slice())
+    }
 }

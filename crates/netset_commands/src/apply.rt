@@ -1,7 +1,9 @@
 //! The command `apply`: its arguments, and its run.
 ghost use Rattle.std.specs.Prelude.{◌≡◌, ◌≤◌, IfErr};
 
-use crate::arguments::{FIRST_LIST, OTHERS, RANGES_FLAG, SHARED, flags_of, two_or_report};
+use crate::arguments::{
+    FIRST_LIST, OTHERS, RANGES_FLAG, SHARED, SKIP_BAD_FLAG, flags_of, two_or_report,
+};
 use crate::reading::{finish_lists, set_reader};
 use crate::table::{ARGUMENT, Argument, Form, Subcommand};
 use clap::ArgMatches;
@@ -19,6 +21,10 @@ pub const APPLY_COMMAND: Subcommand = Subcommand {
     arguments: &[
         SHARED,
         &[
+            Argument {
+                help: "Skip bad lines of OLD, which are reported: status 3. Bad lines of CHANGES are refused",
+                ..SKIP_BAD_FLAG
+            },
             RANGES_FLAG,
             Argument {
                 form: Form::Word("OLD"),

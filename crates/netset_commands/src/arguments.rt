@@ -55,6 +55,21 @@ pub const OUTPUT_OPTION: Argument = Argument {
     ..ARGUMENT
 };
 
+/// The id and the name of the flag for bad lines.
+pub const SKIP_BAD: &str = "skip-bad";
+
+/// The flag for bad lines. A list that is cut short may not replace a file.
+pub const SKIP_BAD_FLAG: Argument = Argument {
+    id: SKIP_BAD,
+    form: Form::Flag(SKIP_BAD),
+    help: "Skip bad lines, which are reported: status 3. Never for a result that replaces a file",
+    conflicts: &[OUTPUT],
+    ..ARGUMENT
+};
+
+/// The arguments of each command that can skip bad lines.
+pub const SKIPPING: &[Argument] = &[SKIP_BAD_FLAG];
+
 /// The arguments of each command that reads lists.
 pub const SHARED: &[Argument] = &[
     LEGACY_FLAG,
@@ -231,18 +246,20 @@ fn chosen_empties(refuses: bool, allows: bool) -> Empties
     }
 }
 
-/// Reads what to report of the lists.
+/// Reads what to report of the lists, and whether bad lines are skipped.
 #[inline(never)]
 pub fn reports_of(matches: &ArgMatches) -> Reports
     ensures progress { IsFlag matches.now (codes "progress") result.progress }
     ensures empties { (refuses : Bool) × (allows : Bool) × IsFlag matches.now (codes "no-empty") refuses
         × IsFlag matches.now (codes "allow-empty") allows × (result.empties ≡ empties_of refuses allows) }
+    ensures skips_bad { IsFlag matches.now (codes "skip-bad") result.skips_bad }
 {
     let refuses = is_set(matches, NO_EMPTY);
     let allows = is_set(matches, ALLOW_EMPTY);
     Reports {
         progress: is_set(matches, "progress"),
         empties: chosen_empties(refuses, allows),
+        skips_bad: is_set(matches, SKIP_BAD),
     }
 }
 

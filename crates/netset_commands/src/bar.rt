@@ -8,8 +8,8 @@ ghost use Rattle.netset_commands.specs.Words.{IsFrameOf, ArePictured, mark_choic
 ghost use Rattle.netset_pictures.specs.BarAnswers.{width_text};
 
 use crate::arguments::{
-    ANY_LISTS, ArgumentFailure, SHARED, flags_of, is_set, names_or_report, reads_input_twice,
-    report_argument_failure,
+    ANY_LISTS, ArgumentFailure, SHARED, SKIPPING, flags_of, is_set, names_or_report,
+    reads_input_twice, report_argument_failure,
 };
 use crate::entry_options::ENTRY_OPTION;
 use crate::listing::network_or_report;
@@ -124,6 +124,7 @@ pub const BAR_COMMAND: Subcommand = Subcommand {
     about: "A network in at most 16 rows of marks: how full it is, and where its largest free block is",
     arguments: &[
         SHARED,
+        SKIPPING,
         FRAME,
         &[
             ASCII_FLAG,

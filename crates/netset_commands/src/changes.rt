@@ -1,7 +1,7 @@
 //! The command `changes`: its arguments, and its run.
 ghost use Rattle.std.specs.Prelude.{◌≤◌};
 
-use crate::arguments::{FIRST_LIST, OTHER_LIST, SHARED, two_or_report};
+use crate::arguments::{FIRST_LIST, OTHER_LIST, SHARED, SKIPPING, two_or_report};
 use crate::entry_options::ENTRY_OR_OTHER;
 use crate::reading::read_pair;
 use crate::table::{Argument, Form, Subcommand};
@@ -18,6 +18,7 @@ pub const CHANGES_COMMAND: Subcommand = Subcommand {
     about: "The networks to add (+) and to remove (-) that turn OLD into NEW; status 1 if there are any",
     arguments: &[
         SHARED,
+        SKIPPING,
         &[
             Argument {
                 form: Form::Word("OLD"),

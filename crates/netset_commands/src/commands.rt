@@ -6,7 +6,10 @@ ghost use Rattle.netset_commands.specs.CommandLines.{all_commands, command_names
 ghost use Rattle.netset_commands.specs.CommandLines.{entry_names, operation_names, query_names, rule_names};
 
 use crate::apply::APPLY_COMMAND;
-use crate::arguments::{ANY_LISTS, FIRST_LIST, NO_EMPTY, ONE_LIST, OTHER_LIST, OTHERS, SHARED};
+use crate::arguments::{
+    ANY_LISTS, FIRST_LIST, NO_EMPTY, ONE_LIST, OTHER_LIST, OTHERS, OUTPUT, SHARED, SKIP_BAD_FLAG,
+    SKIPPING,
+};
 use crate::bar::BAR_COMMAND;
 use crate::changes::CHANGES_COMMAND;
 use crate::entries::{OVERLAPS_COMMAND, REDUNDANT_COMMAND, SUPERNET_COMMAND};
@@ -26,7 +29,7 @@ use crate::rules::{PERMITTED_COMMAND, UNREACHED_COMMAND};
 use crate::select::SELECT_COMMAND;
 use crate::shorten::SHORTEN_COMMAND;
 use crate::table::{ARGUMENT, Argument, Form, Subcommand, command_of};
-use crate::texts::{ALL_FLAG, TEXT_FLAG};
+use crate::texts::{ALL, ALL_FLAG, TEXT, TEXT_FLAG};
 use crate::whole_lines::{LINE_FLAGS, LINES};
 use clap::{ArgMatches, Command, Error};
 use std::alloc::{AllocError, Global};
@@ -67,7 +70,7 @@ const TWO_LISTS_AND_MORE: &[Argument] = &[
 ];
 
 /// The arguments of an operation on at least two lists.
-const TWO_AND_MORE: &[&[Argument]] = &[SHARED, ANSWER_FORM, TWO_LISTS_AND_MORE];
+const TWO_AND_MORE: &[&[Argument]] = &[SHARED, SKIPPING, ANSWER_FORM, TWO_LISTS_AND_MORE];
 
 /// The flags for the families of a complement, and its list.
 const COMPLEMENT_ARGUMENTS: &[Argument] = &[
@@ -96,8 +99,12 @@ const STREAM_FLAG: Argument = Argument {
     ..ARGUMENT
 };
 
-/// The side of a filter, its stream, and its lists.
+/// The bad lines of a filter, its side, its stream, and its lists.
 const FILTER_ARGUMENTS: &[Argument] = &[
+    Argument {
+        conflicts: &[OUTPUT, STREAM, LINES],
+        ..SKIP_BAD_FLAG
+    },
     Argument {
         id: "outside",
         form: Form::Flag("outside"),
@@ -122,8 +129,12 @@ const FILTER_ARGUMENTS: &[Argument] = &[
     },
 ];
 
-/// The stream of a route, its texts, and its lists.
+/// The bad lines of a route, its stream, its texts, and its lists.
 const ROUTE_ARGUMENTS: &[Argument] = &[
+    Argument {
+        conflicts: &[OUTPUT, STREAM, TEXT, ALL],
+        ..SKIP_BAD_FLAG
+    },
     STREAM_FLAG,
     TEXT_FLAG,
     ALL_FLAG,
@@ -149,7 +160,7 @@ const OPERATIONS: &[Subcommand] = &[
     Subcommand {
         name: UNION,
         about: "The addresses of all lists",
-        arguments: &[SHARED, ANSWER_FORM, &[ANY_LISTS, ENTRY_OPTION]],
+        arguments: &[SHARED, SKIPPING, ANSWER_FORM, &[ANY_LISTS, ENTRY_OPTION]],
     },
     Subcommand {
         name: INTERSECTION,
@@ -166,6 +177,7 @@ const OPERATIONS: &[Subcommand] = &[
         about: "The addresses that are in exactly one of two lists",
         arguments: &[
             SHARED,
+            SKIPPING,
             ANSWER_FORM,
             &[FIRST_LIST, OTHER_LIST, ENTRY_OR_OTHER],
         ],
@@ -173,7 +185,7 @@ const OPERATIONS: &[Subcommand] = &[
     Subcommand {
         name: COMPLEMENT,
         about: "The addresses that are not in the list, for each address family that occurs in it",
-        arguments: &[SHARED, ANSWER_FORM, COMPLEMENT_ARGUMENTS],
+        arguments: &[SHARED, SKIPPING, ANSWER_FORM, COMPLEMENT_ARGUMENTS],
     },
 ];
 
@@ -182,12 +194,12 @@ const QUERIES: &[Subcommand] = &[
     Subcommand {
         name: COUNT,
         about: "For each list its name, and how many IPv4 and IPv6 addresses it has, with tabs between; then the total",
-        arguments: &[SHARED, &[LENGTHS_FLAG, ANY_LISTS, ENTRY_OPTION]],
+        arguments: &[SHARED, SKIPPING, &[LENGTHS_FLAG, ANY_LISTS, ENTRY_OPTION]],
     },
     Subcommand {
         name: COMPARE,
         about: "The number of addresses that are in only one of two lists, or of each pair; status 1 if there are any",
-        arguments: &[SHARED, TWO_LISTS_AND_MORE],
+        arguments: &[SHARED, SKIPPING, TWO_LISTS_AND_MORE],
     },
     CHANGES_COMMAND,
     APPLY_COMMAND,

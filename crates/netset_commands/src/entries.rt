@@ -3,7 +3,9 @@ ghost use Rattle.std.specs.Prelude.{◌≢◌, ◌≤◌, ◌<◌, ◌⊎◌, �
 ghost use Rattle.clap.specs.Matches.{found_of, first_value};
 ghost use Rattle.netset_commands.specs.Arguments.{entries_of};
 
-use crate::arguments::{FIRST, ONE_LIST, OTHER_LIST, OTHERS, SHARED, flags_of, two_or_report};
+use crate::arguments::{
+    FIRST, ONE_LIST, OTHER_LIST, OTHERS, SHARED, SKIPPING, flags_of, two_or_report,
+};
 use crate::entry_options::{ENTRY_OR_FIRST, ENTRY_OR_OTHER, has_entries, last_name};
 use crate::reading::{last_bytes, read_only_set, two_bytes};
 use crate::table::{Argument, Subcommand};
@@ -23,7 +25,7 @@ pub const OVERLAPS: &str = "overlaps";
 pub const SUPERNET_COMMAND: Subcommand = Subcommand {
     name: SUPERNET,
     about: "The smallest network that contains all addresses of the list, for each address family that occurs in it",
-    arguments: &[SHARED, &[ONE_LIST, ENTRY_OR_FIRST]],
+    arguments: &[SHARED, SKIPPING, &[ONE_LIST, ENTRY_OR_FIRST]],
 };
 
 /// The command `redundant`.

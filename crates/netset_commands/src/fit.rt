@@ -3,7 +3,8 @@ ghost use Rattle.std.specs.Prelude.{◌≡◌, ◌≤◌, codes, IfOk, IfErr};
 ghost use Rattle.netset_commands.specs.FitOptions.{AreFitNames, limit_of, IsFitRequest, IsNumberGiven};
 
 use crate::arguments::{
-    ANY_LISTS, ArgumentFailure, SHARED, names_of, reads_input_twice, report_argument_failure,
+    ANY_LISTS, ArgumentFailure, SHARED, SKIPPING, names_of, reads_input_twice,
+    report_argument_failure,
 };
 use crate::entry_options::{ENTRY_OPTION, entries_or_report};
 use crate::reading::{finish_lists, set_reader};
@@ -34,6 +35,7 @@ pub const FIT_COMMAND: Subcommand = Subcommand {
     about: "The best networks within a limit that contain all addresses of the lists; status 1 if none exist",
     arguments: &[
         SHARED,
+        SKIPPING,
         &[
             Argument {
                 id: IPV4_LIMIT,

@@ -3,7 +3,8 @@ ghost use Rattle.std.specs.Prelude.{◌≡◌, ◌≤◌, IfErr, IfOk};
 ghost use Rattle.netset_commands.specs.Words.{AreLengths};
 
 use crate::arguments::{
-    ArgumentFailure, FIRST, FIRST_LIST, SHARED, families_of, name_of_list, report_argument_failure,
+    ArgumentFailure, FIRST, FIRST_LIST, SHARED, SKIPPING, families_of, name_of_list,
+    report_argument_failure,
 };
 use crate::bar::{BAR, PLAN_BAR, bar_form_of};
 use crate::listing::length_or_report;
@@ -57,7 +58,7 @@ const FREE_AND_LENGTHS: &[Argument] = &[
 pub const PLAN_COMMAND: Subcommand = Subcommand {
     name: PLAN,
     about: "Networks of these prefix lengths inside FREE that share no address; status 1 if none exist",
-    arguments: &[SHARED, FAMILIES, PLAN_BAR, FREE_AND_LENGTHS],
+    arguments: &[SHARED, SKIPPING, FAMILIES, PLAN_BAR, FREE_AND_LENGTHS],
 };
 
 /// Reads the prefix lengths. If a word is not one, it is reported, and the error is the exit status.

@@ -1,8 +1,8 @@
 //! A run of the program: its arguments, its output and its command.
-ghost use Rattle.std.specs.Prelude.{◌≡◌, ◌≤◌, codes, IfErr};
+ghost use Rattle.std.specs.Prelude.{◌≡◌, ◌≤◌, true, codes, IfErr};
 ghost use Rattle.netset_commands.specs.Arguments.{IsFlag};
 ghost use Rattle.netset_commands.specs.Calls.{AreFlags};
-ghost use Rattle.netset_files.specs.Statuses.{IsExitStatus};
+ghost use Rattle.netset_files.specs.Statuses.{IsExitStatus, IsUsualStatus};
 ghost use Rattle.netset_lib.specs.Commands.{side_of};
 ghost use Rattle.netset_lib.specs.declared.command.Flags.{Flags};
 ghost use Rattle.netset_lib.specs.declared.operation.Combination.TheVariants.{Union, Intersection, Difference};
@@ -98,6 +98,7 @@ use netset_files::Lists;
 use netset_files::Writers;
 use netset_files::read_answers;
 use netset_files::read_first;
+use netset_files::status_after;
 use netset_files::stream_list;
 use netset_forms::FormCommand;
 use netset_forms::FormRequest;
@@ -133,7 +134,7 @@ pub fn run(rt: &HostRuntime, version: &'static str) -> u8
 /// escaped, and then parsed again.
 #[inline(never)]
 fn print_fault(rt: &HostRuntime, error: &clap::Error, words: &[String], version: &'static str) -> u8
-    ensures { IsExitStatus result }
+    ensures { IsUsualStatus result }
 {
     if let Ok(shown) = escaped(rt.alloc(), words) {
         if let Err(fault) = matches_of(rt.alloc(), shown.as_slice(), version) {
@@ -145,7 +146,7 @@ fn print_fault(rt: &HostRuntime, error: &clap::Error, words: &[String], version:
 
 /// Prints help, the version or what is wrong with the arguments, and returns the status.
 fn print_usage(rt: &HostRuntime, error: &clap::Error) -> u8
-    ensures { IsExitStatus result }
+    ensures { IsUsualStatus result }
 {
     let result = error.print(rt);
     if error.use_stderr() {
@@ -161,14 +162,17 @@ fn print_usage(rt: &HostRuntime, error: &clap::Error) -> u8
     }
 }
 
-/// Opens the output, runs the command of this name, and returns its exit status.
+/// Opens the output, runs the command of this name, and returns its exit status. It is 3 only if bad lines are to be
+/// skipped.
 #[inline(never)]
 fn open_and_run(rt: &HostRuntime, name: &str, matches: &ArgMatches) -> u8
-    ensures { IsExitStatus result }
+    ensures exit { IsExitStatus result }
+    ensures skipped { result ≡ 3 → IsFlag matches.now (codes "skip-bad") true }
 {
     let file = matches.get_str(OUTPUT);
     let ends = Ends::new();
-    let mut writers = match Writers::open(rt, file, reports_of(matches), &ends) {
+    let reports = reports_of(matches);
+    let mut writers = match Writers::open(rt, file, reports, &ends) {
         Ok(writers) => writers,
         Err(failure) => {
             let file = file.unwrap_or_default().as_bytes().escape_ascii();
@@ -177,7 +181,8 @@ fn open_and_run(rt: &HostRuntime, name: &str, matches: &ArgMatches) -> u8
         }
     };
     let status = run_command(rt, name, matches, &mut writers);
-    writers.end(status)
+    let skipped = reports.skips_bad && writers.skipped;
+    status_after(skipped, writers.end(status))
 }
 
 /// Runs the command of this name, and returns its status.

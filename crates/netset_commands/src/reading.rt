@@ -1,5 +1,6 @@
 //! The sets of the lists of a command, which are read with a report if that fails.
-ghost use Rattle.std.specs.Prelude.{◌≡◌, [], IfOk, IfErr};
+ghost use Rattle.std.specs.Prelude.{◌≡◌, ◌⊎◌, [], false, IsTrue, IfOk, IfErr, OnOk};
+ghost use Rattle.netset_commands.specs.BadLines.{HasBadLine, HasNoBadLine};
 ghost use Rattle.netset_commands.specs.Calls.{AreFlags};
 ghost use Rattle.netset_lib.specs.Commands.{grammar_of};
 ghost use Rattle.netset_lib.specs.SetReaders.{WereRead};
@@ -9,7 +10,9 @@ use crate::arguments::{ArgumentFailure, flags_of, report_argument_failure};
 use crate::entry_options::entries_or_report;
 use clap::ArgMatches;
 use ipnet_sets::IpSet;
-use netset_files::{Lists, Reports, Writers, bytes_with_entries, may_have_lines, whole_of};
+use netset_files::{
+    Lists, Reports, Writers, bytes_with_entries, may_have_lines, report_bad_lines, whole_of,
+};
 use netset_lib::runs::end_with;
 use netset_lib::{SetReader, TextCommand};
 
@@ -27,13 +30,21 @@ pub fn set_reader(rt: &HostRuntime, matches: &ArgMatches) -> Result<SetReader, u
 }
 
 /// Ends the reading of the lists of these names. If lines are refused, they are reported, and the error is the exit
-/// status.
+/// status; if bad lines are skipped, there is no error, and `writers` note it.
 pub fn finish(reader: SetReader, names: &[&str], writers: &mut Writers<'_>) -> Result<(), u8>
-    ensures { IfErr result (λ status. status ≡ 2) }
+    ensures refused { writers.old.reports.skips_bad ≡ false → OnOk result (HasNoBadLine reader) }
+    ensures noted { writers.new.skipped ≡ false → OnOk result (HasNoBadLine reader) }
+    ensures some { IsTrue writers.new.skipped → IsTrue writers.old.skipped ⊎ HasBadLine reader }
+    ensures failed { IfErr result (λ status. status ≡ 2) }
 {
     match reader.finish() {
         Ok(()) => Ok(()),
-        Err(lines) => Err(end_with(&lines, names, &mut writers.faults).status),
+        Err(lines) => {
+            let skips = writers.reports.skips_bad;
+            report_bad_lines(&lines, names, skips, &mut writers.faults)?;
+            writers.skipped = true;
+            Ok(())
+        }
     }
 }
 
@@ -44,7 +55,9 @@ pub fn finish_lists(
     names: &[&str],
     writers: &mut Writers<'_>,
 ) -> Result<(), u8>
-    ensures { IfErr result (λ status. status ≡ 2) }
+    ensures refused { writers.old.reports.skips_bad ≡ false → OnOk result (HasNoBadLine lists.reader) }
+    ensures noted { writers.new.skipped ≡ false → OnOk result (HasNoBadLine lists.reader) }
+    ensures failed { IfErr result (λ status. status ≡ 2) }
 {
     let (reader, allowed) = lists.into_reader();
     finish(reader, names, writers)?;

@@ -10,10 +10,15 @@ use netset_files::Writers;
 use netset_lib::{TextRoutesCommand, run_text, table_or_report};
 use netset_routes::{AllRoutesCommand, plain_table_or_report};
 
+/// The ids and the names of the flags.
+pub const TEXT: &str = "with-text";
+
+pub const ALL: &str = "all";
+
 /// The flag by which the texts of the table are read and printed.
 pub const TEXT_FLAG: Argument = Argument {
-    id: "with-text",
-    form: Form::Flag("with-text"),
+    id: TEXT,
+    form: Form::Flag(TEXT),
     help: "In TABLE, text may follow the entry of a line; print it after the network. Not with --stream",
     conflicts: &["stream"],
     ..ARGUMENT
@@ -21,8 +26,8 @@ pub const TEXT_FLAG: Argument = Argument {
 
 /// The flag by which all networks that contain an entry are printed.
 pub const ALL_FLAG: Argument = Argument {
-    id: "all",
-    form: Form::Flag("all"),
+    id: ALL,
+    form: Form::Flag(ALL),
     help: "Print each network that contains the entry, the most specific first. Not with --stream",
     conflicts: &["stream"],
     ..ARGUMENT
@@ -32,14 +37,14 @@ pub const ALL_FLAG: Argument = Argument {
 pub fn has_all_flag(matches: &ArgMatches) -> bool
     ensures { IsFlag matches.now (codes "all") result }
 {
-    matches.get_flag("all")
+    matches.get_flag(ALL)
 }
 
 /// Whether the texts of the table are asked for.
 pub fn has_text_flag(matches: &ArgMatches) -> bool
     ensures { IsFlag matches.now (codes "with-text") result }
 {
-    matches.get_flag("with-text")
+    matches.get_flag(TEXT)
 }
 
 /// Reads the arguments, the table and the list, prints the answers, and returns the exit status.

@@ -8,8 +8,8 @@ ghost use Rattle.netset_entries.specs.declared.lines.WriteFailure.TheVariants.{M
 
 use crate::entry_list::EntryLine;
 use ipnet_lists::{RefusedLines, report_refused};
+use netset_lib::numbered::push_numbered;
 use netset_lib::reports::{OUT_OF_MEMORY, UNWRITABLE, report_words};
-use netset_lib::rule_answer::push_numbered;
 use netset_lib::runs::Report;
 use std::alloc::AllocError;
 use std::io;

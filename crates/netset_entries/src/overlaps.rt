@@ -25,7 +25,7 @@ use crate::span::{Family, Span, span_of, spans_of};
 use ipnet::IpAddr;
 use ipnet_lists::{Entry, ip_addr_text};
 use ipnet_text::write_whole;
-use netset_lib::rule_answer::push_numbered;
+use netset_lib::numbered::push_numbered;
 use netset_lib::write::write_if_long;
 use std::alloc::{AllocError, Global};
 use std::io::Write;

@@ -16,9 +16,6 @@ use std::{fs, io};
 /// The path of standard input.
 const INPUT_PATH: &str = "/dev/stdin";
 
-/// The path of standard output.
-const OUTPUT_PATH: &str = "/dev/stdout";
-
 /// The system's number of the error that reading a folder is.
 const IS_A_DIRECTORY: i32 = 21;
 
@@ -34,6 +31,26 @@ pub struct Unread {
     failure: ReadFailure,
     code: Option<i32>,
 }
+
+/// A stream that is written while a list is read.
+#[derive(Clone, Copy)]
+pub(crate) struct WrittenStream {
+    path: &'static str,
+    /// The words that report a list that is the same file, after the name of the list.
+    fault: &'static str,
+}
+
+/// Standard output.
+pub(crate) const OUTPUT_STREAM: WrittenStream = WrittenStream {
+    path: "/dev/stdout",
+    fault: "is also the output: write to another file, or use -o",
+};
+
+/// Standard error.
+pub(crate) const ERROR_STREAM: WrittenStream = WrittenStream {
+    path: "/dev/stderr",
+    fault: "is also standard error: write to another file",
+};
 
 /// The source of a list's bytes.
 #[derive(Drop)]
@@ -83,28 +100,33 @@ impl Read for Input {
 }
 
 /// Whether the two are one regular file that has bytes.
-fn are_one_file(input: &Metadata, output: &Metadata) -> bool
+fn are_one_file(input: &Metadata, written: &Metadata) -> bool
     ensures file { IsTrue result → IsFile (file_type input.now) }
     ensures bytes { IsTrue result → 0 < metadata_len input.now }
 {
-    let is_same = (input.dev(), input.ino()) == (output.dev(), output.ino());
+    let is_same = (input.dev(), input.ino()) == (written.dev(), written.ino());
     input.is_file() && input.len() > 0 && is_same
 }
 
 impl Input {
-    /// Refuses the list, which has this name, if it is the file into which standard output is written, and has bytes.
-    /// An answer that is written while the file is read would be read again, without end. The error is the exit status.
+    /// Refuses the list, which has this name, if it is the file into which the stream is written, and has bytes. The
+    /// bytes that are written while the file is read would be read again, without end. The error is the exit status.
     #[inline(never)]
-    pub(crate) fn check_output(&self, rt: &HostRuntime, name: &str) -> Result<(), u8>
+    pub(crate) fn check_stream(
+        &self,
+        rt: &HostRuntime,
+        name: &str,
+        stream: WrittenStream,
+    ) -> Result<(), u8>
         ensures { IfErr result (λ status. status ≡ 2) }
     {
         let input = match &self.source {
             Source::Standard(_) => fs::metadata(rt, INPUT_PATH),
             Source::File(file) => file.metadata(),
         };
-        match (input, fs::metadata(rt, OUTPUT_PATH)) {
-            (Ok(input), Ok(output)) if are_one_file(&input, &output) => {
-                Err(report_output(rt, name))
+        match (input, fs::metadata(rt, stream.path)) {
+            (Ok(input), Ok(written)) if are_one_file(&input, &written) => {
+                Err(report_fault(rt, name, stream.fault))
             }
             _ => Ok(()),
         }
@@ -310,15 +332,12 @@ impl Read for Log {
     }
 }
 
-/// Reports that the list of this name is the output too, and returns the exit status, even if it cannot be printed.
-fn report_output(rt: &HostRuntime, name: &str) -> u8
+/// Reports this fault of the list of this name, and returns the exit status, even if it cannot be printed.
+fn report_fault(rt: &HostRuntime, name: &str, fault: &str) -> u8
     ensures { result ≡ 2 }
 {
     let shown = name.as_bytes().escape_ascii();
-    let _ = writeln!(
-        rt.stderr(),
-        "netset: {shown}: is also the output: write to another file, or use -o"
-    );
+    let _ = writeln!(rt.stderr(), "netset: {shown}: {fault}");
     2
 }
 

@@ -101,6 +101,8 @@ pub struct Reports {
     pub progress: bool,
     /// The choice for files without an entry.
     pub empties: Empties,
+    /// Whether bad lines are skipped after their report.
+    pub skips_bad: bool,
 }
 
 impl Reports {
@@ -127,9 +129,16 @@ impl Reports {
     }
 }
 
-/// Whether the list of this name, which was read last, may be as it is: `false` if it has no entry and no refused line,
-/// and that is to be refused. `refused` is the number of refused lines of the lists before it. A list without an entry
-/// is reported.
+/// Whether the list that was read last has nothing: no entry and, unless bad lines are skipped, no refused line.
+/// `refused` is the number of refused lines of the lists before it.
+fn has_nothing<L: ListReader>(reader: &L, refused: usize, skips_bad: bool) -> bool
+    ensures { IsTrue result ↔ ((L.holds reader.now ≡ false) × (IsTrue skips_bad ⊎ (L.refused reader.now ≡ refused))) }
+{
+    !reader.has_entry() && (skips_bad || reader.refused_count() == refused)
+}
+
+/// Whether the list of this name, which was read last, may be as it is: `false` if it has nothing, as `has_nothing`
+/// says, and that is to be refused. Such a list is reported.
 fn is_allowed<L: ListReader>(
     rt: &HostRuntime,
     reader: &L,
@@ -137,9 +146,11 @@ fn is_allowed<L: ListReader>(
     refused: usize,
     reports: Reports,
 ) -> bool
-    ensures { reports.empties ≢ Refuse → IsTrue result }
+    ensures exact { IsTrue result ↔ ((L.holds reader.now ≡ true) ⊎ ((L.refused reader.now ≢ refused)
+        ⊎ ((name.now ≡ standard_input) ⊎ (reports.empties ≢ Refuse)))) }
+    ensures allowed { reports.empties ≢ Refuse → IsTrue result }
 {
-    let is_empty = !reader.has_entry() && reader.refused_count() == refused;
+    let is_empty = has_nothing(reader, refused, reports.skips_bad);
     !is_empty || reports.report_empty(rt, name, "entries")
 }
 
@@ -153,7 +164,7 @@ pub struct Lists<L> {
     pub(crate) reports: Reports,
     /// The number of bytes of all files that were read.
     pub(crate) total: usize,
-    /// Whether the lists may be as they are: `false` if a list has no entry and no refused line, and that is to be
+    /// Whether the lists may be as they are: `false` if a list has nothing, as `has_nothing` says, and that is to be
     /// refused.
     pub(crate) allowed: bool,
     ghost only_refused: { reports.empties ≢ Refuse → IsTrue allowed },
@@ -297,6 +308,7 @@ impl<L: ListReader> Lists<L> {
     /// refused.
     pub fn into_reader(self) -> (L, bool)
         ensures reader { result.0 ≡ self.reader }
+        ensures kept { result.1 ≡ self.allowed }
         ensures allowed { self.reports.empties ≢ Refuse → IsTrue result.1 }
     {
         let allowed = self.allowed;
@@ -305,6 +317,7 @@ impl<L: ListReader> Lists<L> {
 
     /// Returns the reader. If a list has no entry, and that is to be refused, the error is the exit status.
     pub fn end(self) -> Result<L, u8>
+        ensures exact { IsOk result ↔ IsTrue self.allowed }
         ensures allowed { self.reports.empties ≢ Refuse → IsOk result }
         ensures failed { IfErr result (λ status. status ≡ 2) }
     {

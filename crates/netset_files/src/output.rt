@@ -1,8 +1,8 @@
 //! The output of a command: standard output, or a file that only a whole answer replaces.
 ghost use Rattle.std.specs.Prelude.{◌≡◌, ◌≤◌, IfErr, IsTrue};
-ghost use Rattle.netset_files.specs.Statuses.{IsExitStatus};
+ghost use Rattle.netset_files.specs.Statuses.{IsUsualStatus};
 
-use crate::input::Input;
+use crate::input::{ERROR_STREAM, Input, OUTPUT_STREAM};
 use crate::lists::Reports;
 use crate::replacement::{OutputFailure, Replacement};
 use netset_lib::{Output, finish};
@@ -161,6 +161,8 @@ pub struct Writers<'a> {
     pub answer: AnswerWriter<'a>,
     pub faults: Faults<'a>,
     pub reports: Reports,
+    /// Whether bad lines were skipped.
+    pub skipped: bool,
 }
 
 impl<'a> Writers<'a> {
@@ -190,18 +192,19 @@ impl<'a> Writers<'a> {
             answer,
             faults: Faults { err, ends },
             reports,
+            skipped: false,
         })
     }
 
-    /// Refuses a list, which has this name, if the answer is written into it while it is read, as `Input::check_output`
-    /// does. The error is the exit status.
+    /// Refuses a list, which has this name, if the answer or the reports are written into it while it is read, as
+    /// `Input::check_stream` does. The error is the exit status.
     pub fn check_input(&self, rt: &HostRuntime, name: &str, input: &Input) -> Result<(), u8>
         ensures { IfErr result (λ status. status ≡ 2) }
     {
-        match &self.answer.destination {
-            Destination::Standard(_) => input.check_output(rt, name),
-            Destination::File(_) => Ok(()),
+        if let Destination::Standard(_) = &self.answer.destination {
+            input.check_stream(rt, name, OUTPUT_STREAM)?;
         }
+        input.check_stream(rt, name, ERROR_STREAM)
     }
 
     /// Notes that the command has no answer if it ends with status 1, and returns the status. Then the file stays as it
@@ -219,7 +222,7 @@ impl<'a> Writers<'a> {
     /// or 1, if the command has an answer; otherwise it stays as it is.
     #[inline(never)]
     pub fn end(self, status: u8) -> u8
-        ensures { status ≤ 2 → IsExitStatus result }
+        ensures { status ≤ 2 → IsUsualStatus result }
     {
         let Writers {
             mut answer,

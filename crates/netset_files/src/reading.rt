@@ -1,5 +1,9 @@
 //! Lists that are read with a report if that fails.
-ghost use Rattle.std.specs.Prelude.{◌≡◌, ◌≢◌, string_bytes, IsTrue, IfSome, IfOk, IfErr};
+ghost use Rattle.std.specs.Prelude.{◌≡◌, ◌≢◌, ◌⊎◌, ◌↔◌, string_bytes, Any, IsTrue, IfSome, IfOk, IfErr};
+ghost use Rattle.ipnet.specs.Lines.{lines_of};
+ghost use Rattle.ipnet_lists.specs.ContentLines.{IsSomeLine};
+ghost use Rattle.ipnet_lists.specs.Lists.{after_mark};
+ghost use Rattle.netset_files.specs.Files.{standard_input};
 ghost use Rattle.netset_files.specs.declared.lists.Empties.TheVariants.{Refuse};
 
 use crate::input::{ENTRY_LIST, report_unread};
@@ -26,7 +30,9 @@ pub fn may_have_lines(
     what: &str,
     reports: Reports,
 ) -> bool
-    ensures { reports.empties ≢ Refuse → IsTrue result }
+    ensures exact { IsTrue result ↔ (Any IsSomeLine (lines_of (after_mark bytes.now))
+        ⊎ ((name.now ≡ standard_input) ⊎ (reports.empties ≢ Refuse))) }
+    ensures allowed { reports.empties ≢ Refuse → IsTrue result }
 {
     has_lines(bytes) || reports.report_empty(rt, name, what)
 }

@@ -99,8 +99,11 @@ module _ (grammar : Grammar) (text word after entry bounds : List ℕ) (action :
   line_cause (Err Causes.NoName) h writes = absurd h
   line_cause (Err Causes.NoNumber) h writes = absurd h
   line_cause (Err Causes.OtherFamily) h writes = absurd h
-  line_cause (Err Causes.BadBounds) h writes =
-      (has_word, subst (λ z. (ge le : Option ℕ) → ¬ (IsBoundsText z ge le)) bounds_is h)
+  line_cause (Err Causes.BadBounds) h writes = (
+    has_word,
+    (k, subst (λ z. IsNetworkWord grammar z k) entry_is writes),
+    subst (λ z. (ge le : Option ℕ) → ¬ (IsBoundsText z ge le)) bounds_is h,
+  )
   line_cause (Err (Causes.RefusedBounds error)) (ge, le, writes_bounds, refused) writes = (
     has_word,
     record {

@@ -18,6 +18,7 @@ use Rattle.netset_lib.specs.RuleContentsOf.{WasRuleListRead, contents_of}
 use Rattle.netset_lib.specs.RuleLines.{RuleContents, contents_of_rules, IsRuleOfLine, IsRuleList}
 use Rattle.netset_lib.specs.RuleLines.{IsNoRule, IsRuleCause, word_of}
 use Rattle.netset_lib.specs.RuleAddresses.{NamesAddresses, NamesNone, IsHostText, HasSecondAddress, IsEitherMask}
+use Rattle.netset_lib.specs.RuleAddresses.{AreTwoAddresses, IsOnlyNetmask}
 use Rattle.netset_lib.specs.RuleSteps.{AddsRule, IsAddressesCause}
 
 -- a line that is taken adds a rule
@@ -54,14 +55,19 @@ pub rule_cause : (grammar : Grammar) (text word rest : List ℕ) (action : Actio
     → IsAddressesCause grammar rest cause → IsRuleCause grammar text cause
 rule_cause grammar text word rest action UnknownWord first is has none h = absurd h
 rule_cause grammar text word rest action NoEntry first is has none h = ((action, sym first ∙ has), sym is ∙ h)
-rule_cause grammar text word rest action TwoEntries first is has none h =
-    ((action, sym first ∙ has), λ e. h (subst (λ z. leading_word z ≡ z) (sym is) e))
+rule_cause grammar text word rest action TwoEntries first is has none h = (
+  (action, sym first ∙ has),
+  λ e. h.0 (subst (λ z. leading_word z ≡ z) (sym is) e),
+  λ e. h.1 (subst (λ z. leading_word z ≡ codes "host") (sym is) e),
+  λ two. h.2 (subst (AreTwoAddresses grammar) (sym is) two),
+)
 rule_cause grammar text word rest action (BadEntry reported) first is has none h = (
   (action, sym first ∙ has),
   λ e. h.0 (is ∙ e),
   subst (λ z. leading_word z ≡ z) is h.1,
+  λ e. h.2 (is ∙ e),
   subst (IsNoEntry grammar) is (λ range entry. none.1 range (inl entry)),
-  subst (λ z. IsReportedCause grammar z reported) is h.2,
+  subst (λ z. IsReportedCause grammar z reported) is h.3,
 )
 rule_cause grammar text word rest action NoHost first is has none h = (
   (action, sym first ∙ has),
@@ -69,7 +75,7 @@ rule_cause grammar text word rest action NoHost first is has none h = (
   λ range host. none.1 range (inr (inl (subst (λ z. IsHostText grammar z range) (sym is) host))),
 )
 rule_cause grammar text word rest action Netmask first is has none h =
-    ((action, sym first ∙ has), subst (λ z. HasSecondAddress grammar z IsNetmaskNumber) is h)
+    ((action, sym first ∙ has), subst (λ z. HasSecondAddress grammar z IsOnlyNetmask) is h)
 rule_cause grammar text word rest action EitherMask first is has none h =
     ((action, sym first ∙ has), subst (λ z. HasSecondAddress grammar z IsEitherMask) is h)
 rule_cause grammar text word rest action NoMask first is has none h = (

@@ -129,11 +129,16 @@ is_named name entry = has_text name entry.name
 abbrev pub HaveOneName : List PrefixEntry → Type 0
 HaveOneName entries = (a b : PrefixEntry) → Contains entries a → Contains entries b → a.name ≡ b.name
 
--- The entries of one list: with a name, all that have it, of which there are some; without a name, all entries, which
--- have one name or none.
--- Example: of entries with the names `a`, `b` and `a`, the first and the last for the name `a`.
+-- Each entry has a name.
+abbrev pub HaveNames : List PrefixEntry → Type 0
+HaveNames = All (λ e. e.name ≢ None)
+
+-- The entries of one list. With a name: all that have it, of which there are some, and each entry has a name. Without
+-- a name: all entries, which have one name or none.
+-- Example: of entries with the names `a`, `b` and `a`, the first and the last for the name `a`. None are chosen if one
+-- more entry has no name.
 abbrev pub AreChosen : Option (List ℕ) → List PrefixEntry → List PrefixEntry → Type 0
-AreChosen (Some name) entries chosen = (chosen ≡ filter (is_named name) entries) × (chosen ≢ [])
+AreChosen (Some name) entries chosen = HaveNames entries × (chosen ≡ filter (is_named name) entries) × (chosen ≢ [])
 AreChosen None entries chosen = (chosen ≡ entries) × HaveOneName entries
 
 -- The number, or 0 if there is none.
@@ -168,20 +173,25 @@ AreSideBySide entries number = (i : ℕ) × (a : PrefixEntry) × (i + 1 < length
     × (slice_index_or entries i a ≡ a) × (a.number ≡ Some number)
     × (slice_index (map place_of entries) i ≡ slice_index (map place_of entries) (i + 1))
 
--- Why the entries have no order: some have a sequence number and others have none; in some order, two side by side have
--- the same place. Example: `permit ::/0` beside `seq 5`; `seq 5` twice for IPv4.
+-- Why the entries have no order: some have a sequence number and others have none; or each has one, and in some order,
+-- two side by side have the same place. Example: `permit ::/0` beside `seq 5`; `seq 5` twice for IPv4.
 abbrev pub IsOrderFault : List PrefixEntry → ChoiceFault → Type 0
+IsOrderFault chosen Faults.MissingName = ⊥
 IsOrderFault chosen Faults.SeveralNames = ⊥
 IsOrderFault chosen Faults.OtherNames = ⊥
 IsOrderFault chosen Faults.SomeNumbers =
     ¬ (All (λ e. e.number ≡ None) chosen) × ¬ (All (λ e. e.number ≢ None) chosen)
-IsOrderFault chosen (Faults.SameNumber number) =
-    (ordered : List PrefixEntry) × IsPermutation chosen ordered × AreSideBySide ordered number
+IsOrderFault chosen (Faults.SameNumber number) = All (λ e. e.number ≢ None) chosen
+    × ((ordered : List PrefixEntry) × IsPermutation chosen ordered × AreSideBySide ordered number)
 
--- Why no list is chosen: without a name, two entries have different names; or no entry has the name.
+-- Why no list is chosen: an entry has no name, and a name is given, or another entry has one. If each entry has a name:
+-- without a given name, two entries have different names; or no entry has the given name.
+-- Example: `permit ::/0` beside `ipv6 prefix-list a permit ::/1`, with the name `a`, `b` or none, is the first fault.
 abbrev pub IsNameFault : Option (List ℕ) → List PrefixEntry → ChoiceFault → Type 0
-IsNameFault name entries Faults.SeveralNames = (name ≡ None) × ¬ (HaveOneName entries)
-IsNameFault name entries Faults.OtherNames = (own : List ℕ) × (name ≡ Some own) × (filter (is_named own) entries ≡ [])
+IsNameFault name entries Faults.MissingName = ¬ (HaveNames entries) × ((name ≢ None) ⊎ ¬ (HaveOneName entries))
+IsNameFault name entries Faults.SeveralNames = (name ≡ None) × HaveNames entries × ¬ (HaveOneName entries)
+IsNameFault name entries Faults.OtherNames = (own : List ℕ) × (name ≡ Some own) × HaveNames entries
+    × (filter (is_named own) entries ≡ [])
 IsNameFault name entries Faults.SomeNumbers = ⊥
 IsNameFault name entries (Faults.SameNumber number) = ⊥
 

@@ -67,14 +67,15 @@ pub record HasRefusedBounds (grammar : Grammar) (text : List ℕ) (error : Prefi
   pub refused : IsBoundsError network ge le error
 
 -- Why a text is not a rule of a prefix list: its first word is not an action; its second word is not a network; what
--- follows is not bounds; the bounds are refused. The other causes are of the words before a rule.
+-- follows a network is not bounds; the bounds are refused. The other causes are of the words before a rule.
 -- Example: `allow 10.0.0.0/8`; `permit any`; `permit 10.0.0.0/8 ge`; `permit 10.0.0.0/8 ge 24 le 16`.
 abbrev pub IsPrefixCause : Grammar → List ℕ → PrefixCause → Type 0
 IsPrefixCause grammar text UnknownWord = ¬ (HasRuleWord text)
 IsPrefixCause grammar text (NoNetwork cause) = HasRuleWord text × IsNoNetworkWord grammar (network_word text)
     × IsNetworkCause grammar (network_word text) cause
 IsPrefixCause grammar text BadBounds =
-    HasRuleWord text × ((ge le : Option ℕ) → ¬ (IsBoundsText (bounds_text text) ge le))
+    HasRuleWord text × ((n : Network) × IsNetworkWord grammar (network_word text) n)
+    × ((ge le : Option ℕ) → ¬ (IsBoundsText (bounds_text text) ge le))
 IsPrefixCause grammar text (RefusedBounds error) = HasRuleWord text × HasRefusedBounds grammar text error
 IsPrefixCause grammar text NoName = ⊥
 IsPrefixCause grammar text NoNumber = ⊥

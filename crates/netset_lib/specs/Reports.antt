@@ -36,6 +36,7 @@ piece_words Pieces.Unwritable = unwritable
 
 -- The words for entries that are not one prefix list.
 abbrev pub choice_words : ChoiceFault → List ℕ
+choice_words Choices.MissingName = codes "a rule names no prefix list, but --name or another rule names one"
 choice_words Choices.SeveralNames = codes "the rules are of several prefix lists: choose one with --name"
 choice_words Choices.OtherNames = codes "no rule is of the prefix list that --name names"
 choice_words Choices.SomeNumbers = codes "some rules have a sequence number, and others have none"

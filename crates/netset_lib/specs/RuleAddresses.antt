@@ -1,11 +1,12 @@
 -- The addresses of a rule: what follows `permit` or `deny`.
-use Rattle.std.specs.Prelude.{◌≡◌, ◌≢◌, ◌⊎◌, ◌↔◌, ◌<◌, ℕ, List, codes}
+use Rattle.std.specs.Prelude.{◌≡◌, ◌≢◌, ◌⊎◌, ◌↔◌, ◌<◌, ℕ, ⊤, List, codes}
 use Rattle.ipnet_base.specs.Address.{IPv4, Address, IsAddress}
 use Rattle.ipnet_base.specs.Network.{Network, IsNetwork}
 use Rattle.ipnet_base.specs.Ranges.{AddressRange}
 use Rattle.ipnet.specs.NetworkParts.{own_address, hostmask}
 use Rattle.ipnet.specs.declared.parser.Grammar.{Grammar}
 use Rattle.ipnet_sets.specs.SetRanges.{IsInRange}
+use Rattle.ipnet_lists.specs.Causes.{IsNetmaskNumber}
 use Rattle.ipnet_lists.specs.Entries.{IsAddressEntry, IsAddressText, IsEntryText, block_range}
 use Rattle.ipnet_lists.specs.Words.{leading_word, after_word}
 
@@ -66,6 +67,10 @@ NamesNone grammar text = (text ≢ codes "any") × ((range : AddressRange) → �
 abbrev pub IsEitherMask : ℕ → Type 0
 IsEitherMask number = (number ≡ 0) ⊎ (number ≡ 4294967295)
 
+-- A mask with this number is a netmask, and not also a wildcard mask. Example: 255.0.0.0, but not 0.0.0.0.
+abbrev pub IsOnlyNetmask : ℕ → Type 0
+IsOnlyNetmask number = IsNetmaskNumber number × ¬ (IsEitherMask number)
+
 -- The text is two IPv4 addresses, and this is so of the number of the second.
 -- Example: of `10.0.0.0 255.0.0.0`, that it is a netmask.
 pub record HasSecondAddress (grammar : Grammar) (text : List ℕ) (IsSo : ℕ → Type 0) : Type 0 where
@@ -76,3 +81,7 @@ pub record HasSecondAddress (grammar : Grammar) (text : List ℕ) (IsSo : ℕ �
   pub first_family : first.family ≡ IPv4
   pub second_family : second.family ≡ IPv4
   pub is_so : IsSo second.number
+
+-- The text is two IPv4 addresses. Example: `10.0.0.0 0.0.255.0`.
+abbrev pub AreTwoAddresses : Grammar → List ℕ → Type 0
+AreTwoAddresses grammar text = HasSecondAddress grammar text (λ number. ⊤)

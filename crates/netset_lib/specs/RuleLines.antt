@@ -15,7 +15,8 @@ use Rattle.ipnet_lists.specs.declared.cause.Cause.TheVariants.{CarriageReturn}
 use Rattle.ipnet_lists.specs.ContentLines.{ContentLine, IsItemList, OrBroken}
 use Rattle.ipnet_lists.specs.Lists.{RefusalFor}
 use Rattle.ipnet_lists.specs.Words.{leading_word, after_word}
-use Rattle.netset_lib.specs.RuleAddresses.{NamesAddresses, IsHostText, HasSecondAddress, IsEitherMask}
+use Rattle.netset_lib.specs.RuleAddresses.{NamesAddresses, IsHostText, HasSecondAddress, AreTwoAddresses, IsEitherMask}
+use Rattle.netset_lib.specs.RuleAddresses.{IsOnlyNetmask}
 
 -- The word of an action at the start of a rule.
 abbrev pub word_of : Action → List ℕ
@@ -40,16 +41,19 @@ IsNoRule grammar text = (rule : Rule) → ¬ (IsRuleText grammar text rule)
 -- it; more than one word follows it; the word that follows it is not an entry, and the prefix length is above 32.
 -- The others: `host` follows, without one address; of two IPv4 addresses, the second is a netmask (`255.0.0.0`), or can
 -- be a netmask and a wildcard mask (`0.0.0.0`, `255.255.255.255`), or is not a netmask (`0.0.255.0`).
+-- A text has one of these causes: two words are `TwoEntries` only if the first is not `host` and they are not two IPv4
+-- addresses, and a mask that can be both is not `Netmask`.
 abbrev pub IsRuleCause : Grammar → List ℕ → RuleCause → Type 0
 IsRuleCause grammar text UnknownWord = ¬ (HasRuleWord text)
 IsRuleCause grammar text NoEntry = HasRuleWord text × (after_word text ≡ [])
 IsRuleCause grammar text TwoEntries = HasRuleWord text × (leading_word (after_word text) ≢ after_word text)
+    × (leading_word (after_word text) ≢ codes "host") × ¬ (AreTwoAddresses grammar (after_word text))
 IsRuleCause grammar text (BadEntry cause) = HasRuleWord text × (after_word text ≢ [])
-    × (leading_word (after_word text) ≡ after_word text) × IsNoEntry grammar (after_word text)
-    × IsReportedCause grammar (after_word text) cause
+    × (leading_word (after_word text) ≡ after_word text) × (after_word text ≢ codes "host")
+    × IsNoEntry grammar (after_word text) × IsReportedCause grammar (after_word text) cause
 IsRuleCause grammar text NoHost = HasRuleWord text × (leading_word (after_word text) ≡ codes "host")
     × ((range : AddressRange) → ¬ (IsHostText grammar (after_word text) range))
-IsRuleCause grammar text Netmask = HasRuleWord text × HasSecondAddress grammar (after_word text) IsNetmaskNumber
+IsRuleCause grammar text Netmask = HasRuleWord text × HasSecondAddress grammar (after_word text) IsOnlyNetmask
 IsRuleCause grammar text EitherMask = HasRuleWord text × HasSecondAddress grammar (after_word text) IsEitherMask
 IsRuleCause grammar text NoMask =
     HasRuleWord text × HasSecondAddress grammar (after_word text) (λ number. ¬ (IsNetmaskNumber number))

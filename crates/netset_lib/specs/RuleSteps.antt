@@ -9,24 +9,25 @@ use Rattle.ipnet_lists.specs.Causes.{IsNetmaskNumber, IsReportedCause}
 use Rattle.ipnet_lists.specs.ContentLines.{ContentLine}
 use Rattle.ipnet_lists.specs.Words.{leading_word}
 use Rattle.ipnet_rules.specs.declared.rules.Rule.{Rule}
-use Rattle.netset_lib.specs.RuleAddresses.{HasSecondAddress, IsEitherMask}
+use Rattle.netset_lib.specs.RuleAddresses.{HasSecondAddress, AreTwoAddresses, IsEitherMask, IsOnlyNetmask}
 use Rattle.netset_lib.specs.RuleLines.{RuleContents, IsRuleText}
 
 -- Why a text that names no addresses does not name any.
 abbrev pub IsAddressesCause : Grammar → List ℕ → RuleCause → Type 0
 IsAddressesCause grammar text UnknownWord = ⊥
 IsAddressesCause grammar text NoEntry = text ≡ []
-IsAddressesCause grammar text TwoEntries = leading_word text ≢ text
+IsAddressesCause grammar text TwoEntries =
+    (leading_word text ≢ text) × (leading_word text ≢ codes "host") × ¬ (AreTwoAddresses grammar text)
 IsAddressesCause grammar text (BadEntry cause) =
-    (text ≢ []) × (leading_word text ≡ text) × IsReportedCause grammar text cause
+    (text ≢ []) × (leading_word text ≡ text) × (text ≢ codes "host") × IsReportedCause grammar text cause
 IsAddressesCause grammar text NoHost = leading_word text ≡ codes "host"
-IsAddressesCause grammar text Netmask = HasSecondAddress grammar text IsNetmaskNumber
+IsAddressesCause grammar text Netmask = HasSecondAddress grammar text IsOnlyNetmask
 IsAddressesCause grammar text EitherMask = HasSecondAddress grammar text IsEitherMask
 IsAddressesCause grammar text NoMask = HasSecondAddress grammar text (λ number. ¬ (IsNetmaskNumber number))
 
 -- Why a mask is not a wildcard mask that is accepted after an address.
 abbrev pub IsMaskCause : ℕ → RuleCause → Type 0
-IsMaskCause number Netmask = IsNetmaskNumber number
+IsMaskCause number Netmask = IsOnlyNetmask number
 IsMaskCause number EitherMask = IsEitherMask number
 IsMaskCause number NoMask = ¬ (IsNetmaskNumber number)
 IsMaskCause number UnknownWord = ⊥

@@ -18,6 +18,7 @@ pub mod list_laws;
 mod listing;
 pub mod listing_program;
 pub mod network_entry;
+pub mod numbered;
 pub mod operation;
 pub mod operation_program;
 pub mod output;

@@ -2,7 +2,7 @@
 ghost use Rattle.std.specs.Prelude.{◌≡◌, ◌≢◌, ◌+◌, ◌<◌, ◌↔◌, ℕ, None, All, map, length, slice_index};
 ghost use Rattle.std.specs.Prelude.{IfOk, IfErr, IfSome, IsNone, IsTrue};
 ghost use Rattle.std.specs.List.{filter};
-ghost use Rattle.netset_lib.specs.PrefixEntries.{AreOrdered, AreSideBySide, HaveOneName, IsOrderFault};
+ghost use Rattle.netset_lib.specs.PrefixEntries.{AreOrdered, AreSideBySide, HaveNames, HaveOneName, IsOrderFault};
 ghost use Rattle.netset_lib.specs.PrefixEntries as places;
 ghost use Rattle.netset_lib.specs.PrefixEntryOf.{IsChoice, IsRuleChoice, entry_of, lent_text};
 ghost use Rattle.netset_lib.specs.Reports.{choice_words};
@@ -18,9 +18,11 @@ use std::alloc::{AllocError, Global};
 /// Why the entries of a file are not one prefix list.
 #[derive(Clone, Copy, Debug, PartialEq, Eq, Drop)]
 pub enum ChoiceFault {
-    /// No name is asked for, and two entries have different names.
+    /// An entry has no name, and a name is asked for, or another entry has one.
+    MissingName,
+    /// No name is asked for, and two entries have different names. Each entry has a name.
     SeveralNames,
-    /// No entry has the name that is asked for.
+    /// No entry has the name that is asked for. Each entry has a name.
     OtherNames,
     /// Some entries have a sequence number, and others have none.
     SomeNumbers,
@@ -39,6 +41,9 @@ impl ChoiceFault {
     {
         let mut words = ArrayString::new();
         match self {
+            ChoiceFault::MissingName => {
+                words.push_str("a rule names no prefix list, but --name or another rule names one")
+            }
             ChoiceFault::SeveralNames => {
                 words.push_str("the rules are of several prefix lists: choose one with --name")
             }
@@ -108,6 +113,38 @@ fn have_one_name(entries: &[NamedRule<'_>]) -> bool
     true
 }
 
+/// Returns whether the entry has a name.
+fn has_name(entry: &NamedRule<'_>) -> bool
+    ensures { IsTrue result ↔ ((entry_of entry.now).name ≢ None) }
+{
+    entry.name.is_some()
+}
+
+/// Returns whether each entry has a name.
+fn have_names(entries: &[NamedRule<'_>]) -> bool
+    ensures { IsTrue result ↔ HaveNames (map entry_of entries.now) }
+{
+    for entry in entries {
+        if !has_name(entry) {
+            return false;
+        }
+    }
+    true
+}
+
+/// Returns the entries, if they are of one list, or why they are not.
+fn only_list<'a>(entries: Vec<NamedRule<'a>>) -> Result<Vec<NamedRule<'a>>, ChoiceFault>
+    ensures { IsChoice None (map entry_of entries.entry.items) result }
+{
+    if have_one_name(entries.as_slice()) {
+        return Ok(entries);
+    }
+    if have_names(entries.as_slice()) {
+        return Err(ChoiceFault::SeveralNames);
+    }
+    Err(ChoiceFault::MissingName)
+}
+
 /// Returns the entries of the list with this name, or of the only list, or why there is none.
 fn chosen_entries<'a>(
     alloc: Global,
@@ -117,11 +154,11 @@ fn chosen_entries<'a>(
     ensures { IfOk result (IsChoice (lent_text name.entry) (map entry_of entries.entry.items)) }
 {
     let Some(name) = name else {
-        if have_one_name(entries.as_slice()) {
-            return Ok(Ok(entries));
-        }
-        return Ok(Err(ChoiceFault::SeveralNames));
+        return Ok(only_list(entries));
     };
+    if !have_names(entries.as_slice()) {
+        return Ok(Err(ChoiceFault::MissingName));
+    }
     let named = named_entries(alloc, entries.as_slice(), name)?;
     if named.is_empty() {
         return Ok(Err(ChoiceFault::OtherNames));

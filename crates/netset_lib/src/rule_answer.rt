@@ -1,5 +1,5 @@
 //! The queries on a list of rules: the addresses that it permits, and the rules that decide on no address.
-ghost use Rattle.std.specs.Prelude.{◌≡◌, ◌↔◌, ◌++◌, IfOk, IfErr, OnOk, map, codes, decimal};
+ghost use Rattle.std.specs.Prelude.{◌≡◌, ◌↔◌, ◌++◌, IfOk, IfErr, OnOk, map};
 ghost use Rattle.ipnet_base.specs.Address.{Address};
 ghost use Rattle.ipnet_sets.specs.Members.{IsMember};
 ghost use Rattle.ipnet_lists.specs.RefusedLines.{refusal_of, shown_refusals};
@@ -8,6 +8,7 @@ ghost use Rattle.netset_lib.specs.RuleAnswers.{IsRuleFailure, unreached_lines, A
 ghost use Rattle.netset_lib.specs.RuleContentsOf.{contents_of, line_of_rule};
 ghost use Rattle.netset_lib.specs.RuleWriting.{rule_lines};
 
+use crate::numbered::push_numbered;
 use crate::rule_line::RuleCause;
 use crate::rule_list::{RuleLine, RuleList};
 use ipnet_lists::{ListFailure, Refused};
@@ -24,21 +25,6 @@ fn permitted_set(alloc: Global, rules: Vec<Rule>, default: Action) -> Result<IpS
         default,
     };
     rules.permitted(alloc)
-}
-
-/// Appends the number of a line, and its contents. Fails if memory runs out.
-///
-/// ```text
-/// line 4, "10.0.1.192/26": "line 4: 10.0.1.192/26"
-/// ```
-pub fn push_numbered(text: &mut Vec<u8>, number: usize, line: &[u8]) -> Result<(), AllocError>
-    ensures { OnOk result (text.new.items
-        ≡ text.old.items ++ (codes "line " ++ decimal number ++ codes ": " ++ line.now)) }
-{
-    let mut start = String::new(*text.allocator());
-    write!(start, "line {number}: ")?;
-    text.extend_from_slice(start.as_bytes())?;
-    text.extend_from_slice(line)
 }
 
 /// Appends the number of the line and its text.

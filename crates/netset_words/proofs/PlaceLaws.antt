@@ -17,8 +17,9 @@ use Rattle.ipnet_lists.specs.Entries.{IsAddressText, IsIpv4Text, ReadsAs}
 use Rattle.ipnet_lists.proofs.CommentLaws.{behind}
 use Rattle.ipnet_lists.proofs.EntryTexts.{one_address}
 use Rattle.netset_words.specs.declared.host.Place.{Place}
-use Rattle.netset_words.specs.Places.{AreLastParts, Else, IsAtColon, IsAtDot, IsAtSlash, IsAtUser, IsBeforeLastPort}
-use Rattle.netset_words.specs.Places.{IsBeforePort, IsHost, IsInside, IsPort, IsNamed, IsOnlyAddress, IsOnlyIpv4}
+use Rattle.netset_words.specs.Places.{AreLastParts, Else, IsAfterSlash, IsAtColon, IsAtDot, IsAtSlash, IsAtUser}
+use Rattle.netset_words.specs.Places.{IsBeforeLastPort, IsBeforePath, IsBeforePort, IsHost, IsInside, IsPort, IsNamed}
+use Rattle.netset_words.specs.Places.{IsOnlyAddress, IsOnlyIpv4}
 use Rattle.netset_words.specs.Places.{IsPacketEnd, IsSomeAddress, IsSomeIpv4, before_sign, begins_with_slash, is_name}
 use Rattle.netset_words.specs.Places.{trimmed}
 use Rattle.netset_words.specs.Words.{Word}
@@ -60,6 +61,10 @@ module _ (grammar : Grammar) (First Second : List ℕ → Type 0) where
   or_second None none h = λ place is. elim is [ inl first ↦ none place first | inr second ↦ h place second ]
   or_second (Some p) none h = record { is = inr h.is; entry = h.entry; kind = h.kind }
 
+  pub none_of_two : ((place : List ℕ) → ¬ (First place)) → ((place : List ℕ) → ¬ (Second place)) → (place : List ℕ)
+      → ¬ (First place ⊎ Second place)
+  none_of_two lacks lacks_too place is = elim is [ inl first ↦ lacks place first | inr second ↦ lacks_too place second ]
+
   -- only one of two readings may be
   pub only_first : (r : Option Place) → ((place : List ℕ) → ¬ (Second place)) → Finds grammar First r
       → Finds grammar (λ place. First place ⊎ Second place) r
@@ -76,6 +81,11 @@ module _ (grammar : Grammar) (So : Type 0) (Is : List ℕ → Type 0) where
       → Finds grammar (λ place. So × Too × Is place) r
   with_both Too None so too h = λ place both. h place both.2
   with_both Too (Some p) so too h = record { is = (so, too, h.is); entry = h.entry; kind = h.kind }
+
+  pub with_both_after : (Too : Type 0) (r : Option Place) → So → Too → Finds grammar Is r
+      → Finds grammar (λ place. Is place × So × Too) r
+  with_both_after Too None so too h = λ place all. h place all.0
+  with_both_after Too (Some p) so too h = record { is = (h.is, so, too); entry = h.entry; kind = h.kind }
 
   pub with_so_after : (r : Option Place) → So → Finds grammar Is r → Finds grammar (λ place. Is place × So) r
   with_so_after None so h = λ place both. h place both.0
@@ -224,6 +234,12 @@ AtStart g front back place = (begins_with_slash back ≡ false) × (front ≡ []
 abbrev pub AfterName : Grammar → Word → (front back place : List ℕ) → Type 0
 AfterName g w front back place =
     (begins_with_slash back ≡ false) × (is_name front ≡ true) × IsNamed g w place front back
+
+abbrev pub AtSlashFirst : Grammar → Word → (front back place : List ℕ) → Type 0
+AtSlashFirst g w front back place = IsBeforePort g place front back ⊎ IsAfterSlash g w place front back
+
+abbrev pub ToPath : Grammar → (front back place : List ℕ) → Type 0
+ToPath g front back place = IsBeforePath g place front back
 
 abbrev pub ByUser : Grammar → (text place : List ℕ) → Type 0
 ByUser g text place = IsCutAt 64 (IsAtUser g place) text

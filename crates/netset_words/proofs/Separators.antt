@@ -1,4 +1,4 @@
--- Each address has three "." or two ":".
+-- Each address has three ".", seven ":" or "::".
 use Rattle.std.proofs.Common.{◌≡◌, ◌≤◌, ℕ, ◌||◌, ◌==◌, ◌-◌, ◌+◌, Bool, true, false, cond, List, [], ◌∷◌, ◌++◌, length}
 use Rattle.std.proofs.Common.{refl, append_assoc, ap, sym, ◌∙◌, subst, arith, drop, inl, inr, take, if◌then◌else◌}
 use Rattle.std.specs.Char.{is_ascii_whitespace}
@@ -16,7 +16,7 @@ use Rattle.ipnet_lists.specs.Causes.{IsCutAt}
 use Rattle.netset_words.specs.Places.{AreLastParts, HasNoPlace, IsAtColon, IsAtSlash, IsAtUser, IsBefore}
 use Rattle.netset_words.specs.Places.{IsBeforeLastPort, IsHost, IsInside, IsOnlyAddress, IsOnlyIpv4, IsSomeAddress}
 use Rattle.netset_words.specs.Places.{before_sign, ends_in_colon, is_end, trimmed}
-use Rattle.netset_words.specs.PlaceSteps.{HasFewSigns}
+use Rattle.netset_words.specs.PlaceSteps.{HasFewColons, HasFewSigns}
 use Rattle.netset_words.specs.Words.{Word}
 
 abbrev dot : ℕ → ℕ
@@ -57,23 +57,45 @@ none_counted (b ∷ text) e =
     let colon_count : colons (b ∷ text) ≡ colons (b ∷ []) + colons text = sum_by-append colon (b ∷ []) text in
     (omega (arith, dot_count, no_dot, rest.0), omega (arith, colon_count, no_colon, rest.1))
 
+-- "::" has two ":"
+pair_colons : (text front back : List ℕ) → text ≡ front ++ 58 ∷ 58 ∷ back → 2 ≤ colons text
+pair_colons text front back is =
+    let all : colons text ≡ colons (front ++ 58 ∷ 58 ∷ back) = ap colons is in
+    let one = colons_at front (58 ∷ back) in
+    let two : colons (58 ∷ back) ≡ 1 + colons back = sum_by-append colon (58 ∷ []) back in
+    omega (arith, all, one, two)
+
+few_colons : (text : List ℕ) → colons text ≤ 1 → HasFewColons text
+few_colons text few = (
+  omega (arith, few),
+  λ front back is. let two = pair_colons text front back is in omega (arith, few, two),
+)
+
 pub few_none : (text : List ℕ) → list_any (λ b. (b == 46) || (b == 58)) text ≡ false → HasFewSigns text
-few_none text e = let none = none_counted text e in (omega (arith, none.0), omega (arith, none.1))
+few_none text e =
+    let none = none_counted text e in
+    (omega (arith, none.0), few_colons text (omega (arith, none.1)))
 
 few_front : (front back : List ℕ) → HasFewSigns (front ++ back) → HasFewSigns front
-few_front front back h = (
+few_front front back (few, (few_too, none)) = (
   let count : dots (front ++ back) ≡ dots front + dots back = sum_by-append dot front back in
-      omega (arith, count, h.0),
-  let count : colons (front ++ back) ≡ colons front + colons back = sum_by-append colon front back in
-      omega (arith, count, h.1),
+      omega (arith, count, few),
+  (
+    let count : colons (front ++ back) ≡ colons front + colons back = sum_by-append colon front back in
+        omega (arith, count, few_too),
+    λ f b is. none f (b ++ back) (ap (λ z. z ++ back) is ∙ append_assoc f (58 ∷ 58 ∷ b) back),
+  ),
 )
 
 few_back : (front back : List ℕ) → HasFewSigns (front ++ back) → HasFewSigns back
-few_back front back h = (
+few_back front back (few, (few_too, none)) = (
   let count : dots (front ++ back) ≡ dots front + dots back = sum_by-append dot front back in
-      omega (arith, count, h.0),
-  let count : colons (front ++ back) ≡ colons front + colons back = sum_by-append colon front back in
-      omega (arith, count, h.1),
+      omega (arith, count, few),
+  (
+    let count : colons (front ++ back) ≡ colons front + colons back = sum_by-append colon front back in
+        omega (arith, count, few_too),
+    λ f b is. none (front ++ f) b (ap (λ z. front ++ z) is ∙ sym (append_assoc front f (58 ∷ 58 ∷ b))),
+  ),
 )
 
 few_take : (n : ℕ) (text : List ℕ) → HasFewSigns text → HasFewSigns (take n text)
@@ -92,40 +114,33 @@ no_ipv4 grammar text octets h is =
     let all : dots text ≡ dots (d.t₁ ++ (46 ∷ (d.t₂ ++ (46 ∷ (d.t₃ ++ (46 ∷ d.t₄)))))) = ap dots d.spelled in
     omega (arith, h.0, all, one, two, three)
 
-two_colons : (text first rest next last : List ℕ) → HasFewSigns text → text ≡ first ++ (58 ∷ []) ++ rest
-    → rest ≡ next ++ (58 ∷ []) ++ last → ⊥
-two_colons text first rest next last h is also =
-    let all : colons text ≡ colons (first ++ 58 ∷ rest) = ap colons (is ∙ append_assoc first (58 ∷ []) rest) in
-    let more : colons rest ≡ colons (next ++ 58 ∷ last) = ap colons (also ∙ append_assoc next (58 ∷ []) last) in
+-- groups are one more than the ":" between them
+groups_colons : (text groups : List ℕ) → IsGroups text groups → length groups ≤ 1 + colons text
+groups_colons text [] is = omega arith
+groups_colons text (g ∷ []) is = omega arith
+groups_colons text (g ∷ i ∷ groups) (first, rest, spelled, group, more) =
+    let all : colons text ≡ colons (first ++ 58 ∷ rest) = ap colons (spelled ∙ append_assoc first (58 ∷ []) rest) in
     let one = colons_at first rest in
-    let two = colons_at next last in
-    omega (arith, h.1, all, more, one, two)
+    let less = groups_colons rest (i ∷ groups) more in
+    omega (arith, all, one, less)
 
 no_groups : (text groups : List ℕ) → HasFewSigns text → length groups ≡ 8 → IsGroups text groups → ⊥
-no_groups text [] h eight is = absurd (omega (arith, eight))
-no_groups text (g ∷ []) h eight is = absurd (omega (arith, eight))
-no_groups text (g ∷ i ∷ []) h eight is = absurd (omega (arith, eight))
-no_groups text (g ∷ i ∷ j ∷ groups) h eight (first, rest, spelled, group, (next, last, also, other, more)) =
-    two_colons text first rest next last h spelled also
+no_groups text groups (few, (few_too, none)) eight is =
+    let many = groups_colons text groups is in omega (arith, few_too, eight, many)
 
-no_mixed : (grammar : Grammar) (text groups : List ℕ) → HasFewSigns text → length groups ≡ 8
-    → EndsInIpv4 grammar text groups → ⊥
-no_mixed grammar text [] h eight is = absurd is
-no_mixed grammar text (g ∷ []) h eight is = absurd is
-no_mixed grammar text (g ∷ i ∷ []) h eight is = absurd (omega (arith, eight))
-no_mixed grammar text (g ∷ i ∷ j ∷ []) h eight is = absurd (omega (arith, eight))
-no_mixed grammar text (g ∷ i ∷ j ∷ k ∷ groups) h eight (first, rest, spelled, group, (next, last, also, other, more)) =
-    two_colons text first rest next last h spelled also
+-- the end is an IPv4 address
+no_mixed : (grammar : Grammar) (text groups : List ℕ) → HasFewSigns text → EndsInIpv4 grammar text groups → ⊥
+no_mixed grammar text [] h is = absurd is
+no_mixed grammar text (g ∷ []) h is = absurd is
+no_mixed grammar text (g ∷ i ∷ []) h is = no_ipv4 grammar text is.0 h is.1
+no_mixed grammar text (g ∷ i ∷ j ∷ groups) h (first, rest, spelled, group, more) =
+    no_mixed grammar rest (i ∷ j ∷ groups) (few_back (first ++ 58 ∷ []) rest (subst HasFewSigns spelled h)) more
 
 no_ipv6 : (grammar : Grammar) (text groups : List ℕ) → HasFewSigns text → IsIpv6AddressText grammar text groups → ⊥
 no_ipv6 grammar text groups h (inl is) = no_groups text groups h is.0 is.1
-no_ipv6 grammar text groups h (inr (inl is)) = no_mixed grammar text groups h is.0 is.1
-no_ipv6 grammar text groups h (inr (inr is)) =
-    let all : colons text ≡ colons (is.head_text ++ 58 ∷ 58 ∷ is.tail_text) =
-    ap colons (is.spelled ∙ append_assoc is.head_text (58 ∷ 58 ∷ []) is.tail_text) in
-    let one = colons_at is.head_text (58 ∷ is.tail_text) in
-    let two : colons (58 ∷ is.tail_text) ≡ 1 + colons is.tail_text = sum_by-append colon (58 ∷ []) is.tail_text in
-    omega (arith, h.1, all, one, two)
+no_ipv6 grammar text groups h (inr (inl is)) = no_mixed grammar text groups h is.1
+no_ipv6 grammar text groups (few, (few_too, none)) (inr (inr is)) =
+    none is.head_text is.tail_text (is.spelled ∙ append_assoc is.head_text (58 ∷ 58 ∷ []) is.tail_text)
 
 pub no_address : (grammar : Grammar) (text : List ℕ) (x : Address) → HasFewSigns text → IsAddressText grammar text x
     → ⊥
@@ -208,17 +223,19 @@ no_user grammar text place h (within, inr is) =
 
 no_slash : (grammar : Grammar) (w : Word) (text place : List ℕ) → HasFewSigns text
     → IsCutAt 47 (IsAtSlash grammar w place) text → ⊥
-no_slash grammar w text place h (within, inl is) =
+no_slash grammar w text place h (within, inl (inl is)) =
     lone_address grammar (before_first (λ c. c == 47) text) place (front_of_cut 47 text h) is.0
-no_slash grammar w text place h (within, inr (inl is)) =
+no_slash grammar w text place h (within, inl (inr (inl is))) =
     no_host grammar (drop 1 (after_first (λ c. c == 47) text)) place
     (few_drop 1 (after_first (λ c. c == 47) text) (back_of_cut 47 text h)) is.1
-no_slash grammar w text place h (within, inr (inr (inl is))) =
+no_slash grammar w text place h (within, inl (inr (inr (inl is)))) =
     no_host grammar (after_first (λ c. c == 47) text) place (back_of_cut 47 text h) is.2
-no_slash grammar w text place h (within, inr (inr (inr (other, name, inl is)))) =
+no_slash grammar w text place h (within, inl (inr (inr (inr (other, name, inl is))))) =
     no_front grammar (after_first (λ c. c == 47) text) place (back_of_cut 47 text h) is
-no_slash grammar w text place h (within, inr (inr (inr (other, name, inr is)))) =
+no_slash grammar w text place h (within, inl (inr (inr (inr (other, name, inr is))))) =
     no_host grammar (after_first (λ c. c == 47) text) place (back_of_cut 47 text h) is.1
+no_slash grammar w text place h (within, inr (not_first, is)) =
+    lone_address grammar (before_first (λ c. c == 47) text) place (front_of_cut 47 text h) is.0
 
 no_colon : (grammar : Grammar) (text place : List ℕ) → HasFewSigns text → IsCutAt 58 (IsAtColon grammar place) text → ⊥
 no_colon grammar text place h (within, inl is) =

@@ -1,16 +1,24 @@
 -- The private steps of finding the place of an entry in a word.
 -- Only private contracts use these.
-use Rattle.std.specs.Prelude.{◌≡◌, ◌<◌, ◌≤◌, ◌==◌, ℕ, List, length, Option, MatchOption}
+use Rattle.std.specs.Prelude.{◌≡◌, ◌≢◌, ◌<◌, ◌≤◌, ◌==◌, ℕ, List, ◌∷◌, ◌++◌, length, Option, MatchOption}
 use Rattle.std.specs.List.{after_first, before_first, count_by, position_or_len}
 use Rattle.ipnet.specs.declared.parser.Grammar.{Grammar}
 use Rattle.ipnet_lists.specs.Entries.{IsEntryText}
 use Rattle.ipnet_lists.specs.EntryOf.{entry_range, IsWrittenAs}
 use Rattle.netset_words.specs.declared.host.Place.{Place}
 
--- The text has fewer than three "." and fewer than two ":", so no part of it is an address.
--- Example: `12:34` and `192.0.2`, and not `12:34:56` or `192.0.2.7`.
+-- The text has no "::".
+abbrev pub HasNoPair : List ℕ → Type 0
+HasNoPair text = (front back : List ℕ) → text ≢ front ++ 58 ∷ 58 ∷ back
+
+-- The text has fewer than seven ":", and no "::". Example: `12:34:56` and `aa:bb:cc:dd:ee:ff`, and not `::1`.
+abbrev pub HasFewColons : List ℕ → Type 0
+HasFewColons text = (count_by (λ b. b == 58) text ≤ 6) × HasNoPair text
+
+-- The text also has fewer than three ".", so no part of it is an address: an IPv6 address without "::" has seven ":",
+-- or ends in an IPv4 address. Example: `12:34:56` and `192.0.2`, and not `::1` or `192.0.2.7`.
 abbrev pub HasFewSigns : List ℕ → Type 0
-HasFewSigns text = (count_by (λ b. b == 46) text ≤ 2) × (count_by (λ b. b == 58) text ≤ 1)
+HasFewSigns text = (count_by (λ b. b == 46) text ≤ 2) × HasFewColons text
 
 -- The text is cut at its first sign.
 pub record AreParts (sign : ℕ) (text front back : List ℕ) : Type 0 where

@@ -3,7 +3,7 @@
 --
 -- A "/" and digits are a prefix length only if the word, without the signs at its end, is an entry of a list.
 -- Everywhere else they are a port or a path, and the place is the address.
-use Rattle.std.specs.Prelude.{◌≡◌, ◌≢◌, ◌⊎◌, ◌<◌, ℕ, ◌+◌, ◌-◌, Bool, ◌||◌, ◌&&◌, ◌==◌, true, false}
+use Rattle.std.specs.Prelude.{◌≡◌, ◌≢◌, ◌⊎◌, ◌<◌, ℕ, ◌+◌, ◌-◌, Bool, ◌||◌, ◌&&◌, ◌==◌, not, true, false}
 use Rattle.std.specs.Prelude.{List, [], ◌∷◌, ◌++◌, length, slice_index, take, drop, codes, if◌then◌else◌}
 use Rattle.std.specs.Char.{is_ascii_alphabetic, is_ascii_alphanumeric, is_ascii_digit}
 use Rattle.std.specs.List.{before_first, list_all, list_any, suffix_len}
@@ -132,10 +132,41 @@ IsAfterSlash grammar w place front back =
     ⊎ ((begins_with_slash back ≡ false) × (front ≡ []) × IsHost grammar back place)
     ⊎ ((begins_with_slash back ≡ false) × (is_name front ≡ true) × IsNamed grammar w place front back)
 
--- At "/": an address before a port, or an address after "/". Example: `203.0.113.9/443`, `http://203.0.113.9/`.
+-- The text up to its first letter, or the whole text.
+abbrev pub before_letter : List ℕ → List ℕ
+before_letter = before_first is_ascii_alphabetic
+
+-- The byte is a digit or "/".
+abbrev pub is_digit_or_slash : ℕ → Bool
+is_digit_or_slash b = is_ascii_digit b || (b == 47)
+
+-- The text has a letter, and only digits and "/" before it. Example: `2026/11/x.html`, `24/x` and `24h`; not `24/28`.
+abbrev pub begins_with_digits : List ℕ → Bool
+begins_with_digits text = list_any is_ascii_alphabetic text && list_all is_digit_or_slash (before_letter text)
+
+-- The text has no digit before its first letter, or it has a letter and before it only digits and "/".
+-- Example: `index.html`, `.env`, `-/x`, `24/x` and the empty text; not `24-x`, `24.x`, `-64` or `255.0.255.0`, in which
+-- a person may see a length or a mask.
+abbrev pub is_path : List ℕ → Bool
+is_path text = not (list_any is_ascii_digit (before_letter text)) || begins_with_digits text
+
+-- Both texts have a ":". Example: the address and the mask of `fe80::/ffc0::`.
+abbrev pub have_colons : (front back : List ℕ) → Bool
+have_colons front back = list_any (λ b. b == 58) front && list_any (λ b. b == 58) back
+
+-- An address before "/", and a path after it, and not an IPv6 mask.
+-- Example: `203.0.113.9/wp-login.php`, `2001:db8::9/`, `10.0.0.1/24/x`.
+abbrev pub IsBeforePath : Grammar → (place front back : List ℕ) → Type 0
+IsBeforePath grammar place front back =
+    IsOnlyAddress grammar front place × (is_path back ≡ true) × (have_colons front back ≡ false)
+
+-- At "/": an address before a port, or an address after "/"; or else an address before a path.
+-- Example: `203.0.113.9/443`, `http://203.0.113.9/`, `203.0.113.9/index.html`. In `203.0.113.9//198.51.100.7`,
+-- `198.51.100.7` is the place.
 abbrev pub IsAtSlash : Grammar → (w : Word) → (place front back : List ℕ) → Type 0
 IsAtSlash grammar w place front back =
-    IsBeforePort grammar place front back ⊎ IsAfterSlash grammar w place front back
+    Else (λ z. IsBeforePort grammar z front back ⊎ IsAfterSlash grammar w z front back)
+    (λ z. IsBeforePath grammar z front back) place
 
 -- At ":": an IPv4 address before it, or a host after a name.
 -- Example: `203.0.113.9:443`, `203.0.113.9:/export`, `outside:203.0.113.9/443`.
@@ -170,7 +201,8 @@ IsInside grammar w =
     (Else (IsBeforeLastPort grammar (trimmed w.text)) (IsAtDot grammar w))))
 
 -- The word has this place: it is an entry, or else it is one without its last signs, or else an entry is inside it.
--- Example: `10.0.0.0/8` in `10.0.0.0/8.`; `10.1.2.3` in `outside:10.1.2.3/22`; no place in `12:34:56` or `1.3.6.1.4.1`.
+-- Example: `10.0.0.0/8` in `10.0.0.0/8.`; `10.1.2.3` in `outside:10.1.2.3/22` and `10.1.2.3/x`; no place in `12:34:56`,
+-- `1.3.6.1.4.1` or `10.1.2.3/24-x`.
 abbrev pub IsPlace : Grammar → (w : Word) → (place : List ℕ) → Type 0
 IsPlace grammar w =
     Else (IsWhole grammar w.text) (Else (IsWhole grammar (trimmed w.text)) (IsInside grammar w))

@@ -5,10 +5,11 @@ ghost use Rattle.ipnet_base.specs.Address.{ip_address};
 ghost use Rattle.ipnet_lists.specs.Causes.{IsCutAt};
 ghost use Rattle.ipnet_lists.specs.Entries.{IsAddressText};
 ghost use Rattle.netset_words.specs.Places as places;
-ghost use Rattle.netset_words.specs.Places.{AreLastParts, IsBefore, IsBeforeLastPort, IsBeforePort, IsHost};
-ghost use Rattle.netset_words.specs.Places.{IsOnlyAddress, IsOnlyIpv4, IsPort, IsSomeAddress, IsWhole};
-ghost use Rattle.netset_words.specs.PlaceSteps.{AreParts, Finds, HasFewSigns};
+ghost use Rattle.netset_words.specs.Places.{AreLastParts, IsBefore, IsBeforeLastPort, IsBeforePath, IsBeforePort};
+ghost use Rattle.netset_words.specs.Places.{IsHost, IsOnlyAddress, IsOnlyIpv4, IsPort, IsSomeAddress, IsWhole};
+ghost use Rattle.netset_words.specs.PlaceSteps.{AreParts, Finds, HasFewColons, HasFewSigns, HasNoPair};
 
+use crate::path::{have_colons, is_path};
 use ipnet::{Grammar, IpAddr};
 use ipnet_lists::{Entry, are_digits, parse_address, read_text};
 use memchr::{memchr, memchr2, memrchr};
@@ -44,7 +45,34 @@ fn has_separator(text: &[u8]) -> bool
     text.iter().any(|byte| *byte == b'.' || *byte == b':')
 }
 
-/// Whether the text has three "." or two ":", as each address has.
+/// Whether the text has "::".
+fn has_pair(text: &[u8]) -> bool
+    ensures { result ≡ false → HasNoPair text.now }
+{
+    for index in 1..text.len() {
+        if text[index - 1] == b':' && text[index] == b':' {
+            return true;
+        }
+    }
+    false
+}
+
+/// Whether the text has seven ":" or "::", as each IPv6 address has that does not end in an IPv4 address.
+#[inline]
+fn has_colons(text: &[u8]) -> bool
+    ensures { result ≡ false → HasFewColons text.now }
+{
+    let count = sign_count(text, b':');
+    if count < 2 {
+        return false;
+    }
+    if count > 6 {
+        return true;
+    }
+    has_pair(text)
+}
+
+/// Whether the text has three ".", seven ":" or "::", as each address has. The time `12:34:56` has none of these.
 #[inline]
 pub(crate) fn has_signs(text: &[u8]) -> bool
     ensures { result ≡ false → HasFewSigns text.now }
@@ -52,7 +80,10 @@ pub(crate) fn has_signs(text: &[u8]) -> bool
     if !has_separator(text) {
         return false;
     }
-    sign_count(text, b'.') > 2 || sign_count(text, b':') > 1
+    if sign_count(text, b'.') > 2 {
+        return true;
+    }
+    has_colons(text)
 }
 
 /// Returns the parts of the text before and after the first such sign.
@@ -152,6 +183,22 @@ pub(crate) fn before_port<'a>(front: &'a [u8], back: &[u8], grammar: Grammar) ->
         return None;
     }
     read_address(front, grammar)
+}
+
+/// Reads an address before "/" and a path.
+pub(crate) fn before_path<'a>(front: &'a [u8], back: &[u8], grammar: Grammar) -> Option<Place<'a>>
+    ensures { Finds grammar (λ place. IsBeforePath grammar place front.now back.now) result }
+{
+    let Some(place) = read_address(front, grammar) else {
+        return None;
+    };
+    if !is_path(back) {
+        return None;
+    }
+    if have_colons(front, back) {
+        return None;
+    }
+    Some(place)
 }
 
 /// Reads an address before "/" and a port.

@@ -11,6 +11,7 @@ pub mod lines_program;
 mod log_entry;
 pub mod log_line;
 mod mapped;
+mod path;
 mod place;
 pub mod refused_word;
 mod word;

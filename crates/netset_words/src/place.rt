@@ -11,8 +11,8 @@ ghost use Rattle.netset_words.specs.Words.{first_gap, words_of};
 ghost use Rattle.netset_words.specs.WordSteps.{word_of};
 
 use crate::host::{
-    Parts, Place, before_colon, before_last_port, before_port, cut_at, cut_at_last, has_signs,
-    read_address, read_host, read_ipv4, read_whole,
+    Parts, Place, before_colon, before_last_port, before_path, before_port, cut_at, cut_at_last,
+    has_signs, read_address, read_host, read_ipv4, read_whole,
 };
 use crate::word::{NextWord, next_word};
 use ipnet::Grammar;
@@ -185,7 +185,7 @@ fn after_slash<'a>(word: NextWord<'a>, parts: Parts<'a>, grammar: Grammar) -> Op
     read_named(word, parts, grammar)
 }
 
-/// Reads an address before "/" and a port, or after "/".
+/// Reads an address before "/" and a port, or after "/", or else before "/" and a path.
 fn at_slash<'a>(word: NextWord<'a>, text: &'a [u8], grammar: Grammar) -> Option<Place<'a>>
     ensures { Finds grammar (λ place. IsCutAt 47 (IsAtSlash grammar (word_of word.entry) place) text.now) result }
 {
@@ -195,7 +195,10 @@ fn at_slash<'a>(word: NextWord<'a>, text: &'a [u8], grammar: Grammar) -> Option<
     if let Some(place) = before_port(parts.front, parts.back, grammar) {
         return Some(place);
     }
-    after_slash(word, parts, grammar)
+    if let Some(place) = after_slash(word, parts, grammar) {
+        return Some(place);
+    }
+    before_path(parts.front, parts.back, grammar)
 }
 
 /// Reads an IPv4 address before ":", or a host after a name and ":".
@@ -284,6 +287,7 @@ fn read_inside<'a>(word: NextWord<'a>, body: &'a [u8], grammar: Grammar) -> Opti
 /// 10.0.0.0/8.             10.0.0.0/8
 /// outside:10.1.2.3/22     10.1.2.3
 /// http://10.1.2.3:80/x    10.1.2.3
+/// 10.1.2.3/index.html     10.1.2.3
 /// 12:34:56                None
 /// ```
 pub(crate) fn read_place<'a>(word: NextWord<'a>, grammar: Grammar) -> Option<Place<'a>>

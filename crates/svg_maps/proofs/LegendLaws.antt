@@ -5,7 +5,7 @@ use Rattle.std.proofs.Common.{inr, string_bytes, refl, sym, ap, ◌∙◌, subst
 use Rattle.std.proofs.lemmas.List.{take_more, map_push, map-append}
 use Rattle.std.proofs.lemmas.List.Elements.{filter-append, Contains-append_right}
 use Rattle.ipnet_base.proofs.ListLaws.{contains_here}
-use Rattle.ipnet_maps.specs.declared.drawing.Layer.{Layer}
+use Rattle.ipnet_maps.specs.declared.layers.Layer.{Layer}
 use Rattle.svg_maps.specs.declared.label.Label.{Label}
 use Rattle.svg_maps.specs.declared.label.Swatch.{Swatch}
 use Rattle.svg_maps.specs.Legends.{row_of, has_cells, layer_row, legend_rows, class_words, HasLine}

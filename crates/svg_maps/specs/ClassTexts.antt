@@ -1,7 +1,7 @@
 -- The names of the classes of a map in its style sheet.
 use Rattle.std.specs.Prelude.{ℕ, List, ◌++◌, codes, decimal}
-use Rattle.ipnet_maps.specs.declared.drawing.Class.{Class}
-use Rattle.ipnet_maps.specs.declared.drawing.Class.TheVariants as Classes
+use Rattle.ipnet_maps.specs.declared.class.Class.{Class}
+use Rattle.ipnet_maps.specs.declared.class.Class.TheVariants as Classes
 
 -- The name of the class. Example: `s4` for cells of which one set has all addresses, and `l0 pale` for cells of which
 -- the first of several sets has a part.

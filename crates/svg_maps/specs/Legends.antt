@@ -4,9 +4,9 @@ use Rattle.std.specs.Prelude.{Option, Some, None, Contains, codes, decimal, slic
 use Rattle.ipnet_base.specs.Address.{IPv4, IPv6, Address}
 use Rattle.ipnet_base.specs.Network.{Network}
 use Rattle.ipnet_bars.specs.Outsides.{IsOutsideOf}
-use Rattle.ipnet_maps.specs.declared.drawing.Class.{Class}
-use Rattle.ipnet_maps.specs.declared.drawing.Class.TheVariants as Classes
-use Rattle.ipnet_maps.specs.declared.drawing.Layer.{Layer}
+use Rattle.ipnet_maps.specs.declared.class.Class.{Class}
+use Rattle.ipnet_maps.specs.declared.class.Class.TheVariants as Classes
+use Rattle.ipnet_maps.specs.declared.layers.Layer.{Layer}
 use Rattle.ipnet_sets.specs.Members.{IsCountOf}
 use Rattle.svg_maps.specs.declared.label.Label.{Label}
 use Rattle.svg_maps.specs.declared.label.Swatch.{Swatch}

@@ -7,7 +7,7 @@ ghost use Rattle.ipnet_bars.specs.Shares.{tenths};
 ghost use Rattle.svg_maps.specs.Counts.{three_digits, grouped, number_text, quantity_text};
 
 use ipnet::IpNet;
-use ipnet_bars::{host_bits_of, tenths_of};
+use ipnet_bars::share_of;
 use std::alloc::AllocError;
 
 /// How many addresses a network of length 64 has.
@@ -89,17 +89,6 @@ pub(crate) fn push_quantity(text: &mut String, count: Option<u128>) -> Result<()
             text.push_str("18,446,744,073,709,551,616 /64s")?;
             Ok(())
         }
-    }
-}
-
-/// The share of the network that the count is, in tenths of a per cent.
-fn share_of(count: Option<u128>, network: &IpNet) -> u16
-    requires { counted count ≤ block_size (ip_network network.now) }
-    ensures { result ≡ tenths (counted count) (block_size (ip_network network.now)) }
-{
-    match count {
-        Some(count) => tenths_of(count, host_bits_of(network)),
-        None => 1000,
     }
 }
 

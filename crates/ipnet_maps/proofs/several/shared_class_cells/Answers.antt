@@ -1,6 +1,6 @@
 use Rattle.std.proofs.Common.{[], ◌∷◌, ◌++◌, refl, ap, ◌∙◌}
 use Rattle.ipnet_sets.specs.Members.{IsMember}
-use Rattle.ipnet_maps.specs.declared.drawing.Class.TheVariants.{Overlap, Several, PartOf, WholeOf}
+use Rattle.ipnet_maps.specs.declared.class.Class.TheVariants.{Overlap, Several, PartOf, WholeOf}
 use Rattle.ipnet_maps.specs.declared.layers.ClassCells.{ClassCells}
 use Rattle.ipnet_maps.proofs.SeveralLaws.{overlap_cells, several_cells, part_class, whole_class}
 use Rattle.ipnet_maps.proofs.SeveralLaws.{cells_start, cells_more}

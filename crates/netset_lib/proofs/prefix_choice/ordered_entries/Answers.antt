@@ -17,9 +17,13 @@ same_number-requires c =
 
 pub returns-in-Some-clause-fault : goal.returns-in-Some-clause-fault
 returns-in-Some-clause-fault c = (
-  map entry_of c.sort_unstable_by_key.new.self.items,
-  IsPermutation-map entry_of c.args.entries.items _ c.sort_unstable_by_key.ensures.permutation,
-  subst (λ z. AreSideBySide (map entry_of z) c.in-Some.number) c.as_slice-3.ensures.value c.in-Some.ensures.some,
+  subst (λ z. All (λ e. e.number ≡ None → ⊥) (map entry_of z)) c.as_slice-2.ensures.value
+      (c.all_numbered.ensures.0 c.if-not-all_numbered.false),
+  (
+    map entry_of c.sort_unstable_by_key.new.self.items,
+    IsPermutation-map entry_of c.args.entries.items _ c.sort_unstable_by_key.ensures.permutation,
+    subst (λ z. AreSideBySide (map entry_of z) c.in-Some.number) c.as_slice-3.ensures.value c.in-Some.ensures.some,
+  ),
 )
 
 pub returns-clause-ordered : goal.returns-clause-ordered

@@ -2,7 +2,8 @@ use Rattle.std.proofs.Common.{Some}
 use Rattle.netset_words.specs.Places.{IsAtSlash, IsAfterSlash, IsBeforePort}
 use Rattle.netset_words.specs.WordSteps.{word_of}
 use Rattle.netset_words.proofs.Cases.{match_none}
-use Rattle.netset_words.proofs.PlaceLaws.{cut_finds, no_cut, none_found, or_first, or_second}
+use Rattle.netset_words.proofs.PlaceLaws.{AtSlashFirst, ToPath, cut_finds, else_first, else_second, no_cut, none_found}
+use Rattle.netset_words.proofs.PlaceLaws.{none_of_two, or_first, or_second}
 use Rattle.netset_words.proofs.place.at_slash.Goals as goal
 
 pub returns-in_default : goal.returns-in_default
@@ -18,8 +19,22 @@ returns-in-Some-before_port c =
     let back = c.in-Some.parts.back.now in
     let place = c.in-Some-before_port.place in
     cut_finds g 47 (IsAtSlash g w) c.args.text.now front back (Some place) c.in-Some.ensures
+    (else_first g (AtSlashFirst g w front back) (ToPath g front back) place
     (or_first g (λ z. IsBeforePort g z front back) (λ z. IsAfterSlash g w z front back) place
-    c.in-Some-before_port.ensures)
+    c.in-Some-before_port.ensures))
+
+pub returns-in-Some-after_slash : goal.returns-in-Some-after_slash
+returns-in-Some-after_slash c =
+    let g = c.args.grammar in
+    let w = word_of c.args.word in
+    let front = c.in-Some.parts.front.now in
+    let back = c.in-Some.parts.back.now in
+    let place = c.in-Some-after_slash.place in
+    cut_finds g 47 (IsAtSlash g w) c.args.text.now front back (Some place) c.in-Some.ensures
+    (else_first g (AtSlashFirst g w front back) (ToPath g front back) place
+    (or_second g (λ z. IsBeforePort g z front back) (λ z. IsAfterSlash g w z front back) (Some place)
+    (none_found g (λ z. IsBeforePort g z front back) c.before_port.result c.before_port.ensures
+    c.in_default-before_port.not-Some) c.in-Some-after_slash.ensures))
 
 pub returns : goal.returns
 returns c =
@@ -27,7 +42,11 @@ returns c =
     let w = word_of c.args.word in
     let front = c.in-Some.parts.front.now in
     let back = c.in-Some.parts.back.now in
-    cut_finds g 47 (IsAtSlash g w) c.args.text.now front back c.after_slash.result c.in-Some.ensures
-    (or_second g (λ z. IsBeforePort g z front back) (λ z. IsAfterSlash g w z front back) c.after_slash.result
+    let r = c.before_path.result in
+    cut_finds g 47 (IsAtSlash g w) c.args.text.now front back r c.in-Some.ensures
+    (else_second g (AtSlashFirst g w front back) (ToPath g front back) r
+    (none_of_two g (λ z. IsBeforePort g z front back) (λ z. IsAfterSlash g w z front back)
     (none_found g (λ z. IsBeforePort g z front back) c.before_port.result c.before_port.ensures
-    c.in_default-before_port.not-Some) c.after_slash.ensures)
+    c.in_default-before_port.not-Some)
+    (none_found g (λ z. IsAfterSlash g w z front back) c.after_slash.result c.after_slash.ensures
+    c.in_default-after_slash.not-Some)) c.before_path.ensures)

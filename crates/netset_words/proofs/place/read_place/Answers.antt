@@ -1,4 +1,4 @@
-use Rattle.std.proofs.Common.{sym, ◌∙◌, subst, Some}
+use Rattle.std.proofs.Common.{subst, Some}
 use Rattle.netset_words.specs.Places.{Else, IsInside, IsWhole, trimmed}
 use Rattle.netset_words.specs.PlaceSteps.{Finds}
 use Rattle.netset_words.specs.WordSteps.{word_of}
