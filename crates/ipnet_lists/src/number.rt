@@ -1,5 +1,6 @@
 //! The numbers of lines and of lists.
-ghost use Rattle.std.specs.Prelude.{◌≡◌, ◌+◌, IfOk};
+ghost use Rattle.std.below.core.specs.declared.int.usize.TheConstants.{MAX};
+ghost use Rattle.std.specs.Prelude.{◌≡◌, ◌+◌, IfOk, OnErr};
 
 use std::alloc::AllocError;
 
@@ -9,7 +10,8 @@ use std::alloc::AllocError;
 /// after 2: 3; after usize::MAX: an error
 /// ```
 pub fn next_number(number: usize) -> Result<usize, AllocError>
-    ensures { IfOk result (λ next. next ≡ number + 1) }
+    ensures next { IfOk result (λ next. next ≡ number + 1) }
+    ensures full { OnErr result (number ≡ MAX) }
 {
     match number.checked_add(1) {
         Some(next) => Ok(next),

@@ -1,5 +1,6 @@
 //! Lists, read through a window, so that their bytes are not kept.
 ghost use Rattle.std.specs.Prelude.{◌≡◌, ◌+◌, ◌<◌, [], length, OnOk, IfOk};
+ghost use Rattle.ipnet_lists.specs.declared.reading.ReadFailure.TheVariants.{Unreadable, Memory};
 ghost use Rattle.ipnet_text.specs.Inputs.{GaveWhole};
 ghost use Rattle.ipnet_text.specs.Window.{held};
 
@@ -25,12 +26,16 @@ pub enum ReadFailure {
 }
 
 impl From<AllocError> for ReadFailure {
+    ghost from_gives = { λ _ result. result ≡ Memory };
+
     fn from(_: AllocError) -> ReadFailure {
         ReadFailure::Memory
     }
 }
 
 impl From<ReadError> for ReadFailure {
+    ghost from_gives = { λ _ result. result ≡ Unreadable };
+
     fn from(_: ReadError) -> ReadFailure {
         ReadFailure::Unreadable
     }
