@@ -11,8 +11,8 @@ use Rattle.netset_lib.specs.declared.network_entry.NetworkCause.{NetworkCause}
 use Rattle.netset_lib.specs.declared.network_entry.NetworkCause.TheVariants as Networks
 use Rattle.netset_lib.specs.declared.prefix_line.PrefixCause.{PrefixCause}
 use Rattle.netset_lib.specs.declared.prefix_line.PrefixCause.TheVariants as Prefixes
-use Rattle.netset_lib.specs.declared.rule_line.RuleCause.{RuleCause}
-use Rattle.netset_lib.specs.declared.rule_line.RuleCause.TheVariants as Rules
+use Rattle.netset_lib.specs.declared.rule_cause.RuleCause.{RuleCause}
+use Rattle.netset_lib.specs.declared.rule_cause.RuleCause.TheVariants as Rules
 
 -- Why a text is not an entry.
 abbrev pub entry_reason : Option Cause → List ℕ

@@ -12,7 +12,7 @@ use Rattle.ipnet_sets.specs.Members.{IsMember}
 use Rattle.ipnet_rules.specs.UnreachedRules.{IsUnreached, AreUnreached}
 use Rattle.ipnet_lists.specs.declared.content_line.ListFailure.{ListFailure}
 use Rattle.ipnet_lists.specs.declared.content_line.ListFailure.TheVariants as Failures
-use Rattle.netset_lib.specs.declared.rule_line.RuleCause.{RuleCause}
+use Rattle.netset_lib.specs.declared.rule_cause.RuleCause.{RuleCause}
 use Rattle.netset_lib.specs.declared.rule_list.RuleList.{RuleList}
 use Rattle.ipnet_lists.specs.ContentLines.{ContentLine}
 use Rattle.netset_lib.specs.RuleContentsOf.{WasRuleListRead}

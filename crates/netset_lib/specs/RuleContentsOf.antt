@@ -4,7 +4,7 @@ use Rattle.ipnet.specs.declared.parser.Grammar.{Grammar}
 use Rattle.ipnet_lists.specs.ContentLines.{ContentLine}
 use Rattle.ipnet_lists.specs.Lists.{RefusalFor}
 use Rattle.ipnet_lists.specs.RefusedLines.{AreRefused}
-use Rattle.netset_lib.specs.declared.rule_line.RuleCause.{RuleCause}
+use Rattle.netset_lib.specs.declared.rule_cause.RuleCause.{RuleCause}
 use Rattle.netset_lib.specs.declared.rule_list.RuleLine.{RuleLine}
 use Rattle.netset_lib.specs.declared.rule_list.RuleList.{RuleList}
 use Rattle.netset_lib.specs.RuleLines.{RuleContents, IsRuleList}

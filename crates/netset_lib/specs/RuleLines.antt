@@ -6,9 +6,9 @@ use Rattle.ipnet_rules.specs.declared.rules.Action.{Action}
 use Rattle.ipnet_rules.specs.declared.rules.Action.TheVariants.{Permit, Deny}
 use Rattle.ipnet_rules.specs.declared.rules.Rule.{Rule}
 use Rattle.ipnet_rules.specs.Rules.{Matches}
-use Rattle.netset_lib.specs.declared.rule_line.RuleCause.{RuleCause}
-use Rattle.netset_lib.specs.declared.rule_line.RuleCause.TheVariants.{UnknownWord, NoEntry, TwoEntries, BadEntry}
-use Rattle.netset_lib.specs.declared.rule_line.RuleCause.TheVariants.{NoHost, Netmask, EitherMask, NoMask}
+use Rattle.netset_lib.specs.declared.rule_cause.RuleCause.{RuleCause}
+use Rattle.netset_lib.specs.declared.rule_cause.RuleCause.TheVariants.{UnknownWord, NoEntry, TwoEntries, BadEntry}
+use Rattle.netset_lib.specs.declared.rule_cause.RuleCause.TheVariants.{NoHost, Netmask, EitherMask, NoMask}
 use Rattle.ipnet_lists.specs.Causes.{IsNetmaskNumber, IsReportedCause}
 use Rattle.ipnet_lists.specs.Entries.{IsNoEntry}
 use Rattle.ipnet_lists.specs.declared.cause.Cause.TheVariants.{CarriageReturn}

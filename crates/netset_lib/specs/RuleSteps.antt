@@ -2,9 +2,9 @@
 -- Only private contracts use these.
 use Rattle.std.specs.Prelude.{◌≡◌, ◌≢◌, ℕ, List, [], ◌∷◌, ◌++◌, codes}
 use Rattle.ipnet.specs.declared.parser.Grammar.{Grammar}
-use Rattle.netset_lib.specs.declared.rule_line.RuleCause.{RuleCause}
-use Rattle.netset_lib.specs.declared.rule_line.RuleCause.TheVariants.{UnknownWord, NoEntry, TwoEntries, BadEntry}
-use Rattle.netset_lib.specs.declared.rule_line.RuleCause.TheVariants.{NoHost, Netmask, EitherMask, NoMask}
+use Rattle.netset_lib.specs.declared.rule_cause.RuleCause.{RuleCause}
+use Rattle.netset_lib.specs.declared.rule_cause.RuleCause.TheVariants.{UnknownWord, NoEntry, TwoEntries, BadEntry}
+use Rattle.netset_lib.specs.declared.rule_cause.RuleCause.TheVariants.{NoHost, Netmask, EitherMask, NoMask}
 use Rattle.ipnet_lists.specs.Causes.{IsNetmaskNumber, IsReportedCause}
 use Rattle.ipnet_lists.specs.ContentLines.{ContentLine}
 use Rattle.ipnet_lists.specs.Words.{leading_word}

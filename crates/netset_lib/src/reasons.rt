@@ -7,7 +7,7 @@ ghost use Rattle.netset_lib.specs.ListReports.{ExplainsNetwork, ExplainsPrefix};
 use crate::change_line::ChangeCause;
 use crate::network_entry::NetworkCause;
 use crate::prefix_line::PrefixCause;
-use crate::rule_line::RuleCause;
+use crate::rule_cause::RuleCause;
 use ipnet_lists::{Cause, Explanation, LineCause, NO_ENTRY};
 use ipnet_rules::PrefixRuleError;
 

@@ -14,7 +14,7 @@ ghost use Rattle.netset_lib.specs.RuleAddresses.{IsEitherMask, IsTwoWordText, Is
 ghost use Rattle.netset_lib.specs.RuleAddresses.{NamesAddresses, NamesNone, WriteWildcard};
 ghost use Rattle.netset_lib.specs.RuleSteps.{IsAddressesCause, IsMaskCause};
 
-use crate::rule_line::RuleCause;
+use crate::rule_cause::RuleCause;
 use ipnet::{Grammar, IpAddr, IpNet, Ipv4Addr, Ipv4Net};
 use ipnet_lists::{Entry, cause_of, cut_word, first_blank, is_netmask, parse_address, read_text};
 use ipnet_rules::Addresses;

@@ -9,7 +9,7 @@ ghost use Rattle.netset_lib.specs.RuleContentsOf.{contents_of, line_of_rule};
 ghost use Rattle.netset_lib.specs.RuleWriting.{rule_lines};
 
 use crate::numbered::push_numbered;
-use crate::rule_line::RuleCause;
+use crate::rule_cause::RuleCause;
 use crate::rule_list::{RuleLine, RuleList};
 use ipnet_lists::{ListFailure, Refused};
 use ipnet_rules::{Action, Rule, Rules, Unreached};

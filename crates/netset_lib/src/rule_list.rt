@@ -5,9 +5,10 @@ ghost use Rattle.ipnet_text.specs.Inputs.{GaveWhole};
 ghost use Rattle.netset_lib.specs.RuleContentsOf.{WasRuleListRead, contents_of};
 ghost use Rattle.netset_lib.specs.RuleLines.{IsRefusedRule};
 ghost use Rattle.netset_lib.specs.RuleSteps.{AddsRule};
-ghost use Rattle.netset_lib.specs.declared.rule_line.RuleCause.TheVariants.{BadEntry};
+ghost use Rattle.netset_lib.specs.declared.rule_cause.RuleCause.TheVariants.{BadEntry};
 
-use crate::rule_line::{RuleCause, read_rule};
+use crate::rule_cause::RuleCause;
+use crate::rule_line::read_rule;
 use ipnet::Grammar;
 use ipnet_lists::{Cause, ContentLine, LineHandler, ReadFailure, Refusals, read_bytes, read_lines};
 use ipnet_rules::Rule;
