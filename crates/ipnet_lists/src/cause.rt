@@ -4,7 +4,8 @@ ghost use Rattle.std.specs.Str.{IsUtf8};
 ghost use Rattle.ipnet_lists.specs.Entries.{IsNoEntry};
 ghost use Rattle.ipnet_lists.specs.Causes.{Explains, IsReportedCause, IsFirstOf, causes};
 
-use crate::cause_bytes::{has_byte, has_star, is_all_word, is_host_name, is_no_ipv4};
+use crate::bytes::has_byte;
+use crate::cause_bytes::{has_star, is_all_word, is_host_name, is_no_ipv4};
 use crate::cause_follows::{is_dashed, is_followed};
 use crate::cause_parts::{Parts, is_cut_so, is_entry};
 use crate::cause_words::{has_mask_word, has_two_entries};

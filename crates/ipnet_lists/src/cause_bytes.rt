@@ -5,22 +5,8 @@ ghost use Rattle.std.specs.List.{before_first, list_all, list_any};
 ghost use Rattle.ipnet_lists.specs.Causes.{Has, IsAllWord, IsDottedName, IsHostName, IsName, IsNoIpv4};
 ghost use Rattle.ipnet_lists.specs.Causes.{host_part, is_dotted, is_name};
 
+use crate::bytes::has_byte;
 use crate::cause_parts::is_ipv4;
-use memchr::memchr;
-
-/// Whether one of the bytes is this one.
-///
-/// ```text
-/// b"10.0.0.1" and b'.': true
-/// ```
-pub fn has_byte(text: &[u8], wanted: u8) -> bool
-    ensures { result ≡ list_any (λ b. b == wanted) text.now }
-{
-    match memchr(wanted, text) {
-        Some(_) => true,
-        None => false,
-    }
-}
 
 /// Whether the text has a "*".
 pub(crate) fn has_star(text: &str) -> bool

@@ -6,7 +6,7 @@ ghost use Rattle.ipnet_lists.specs.Causes as causes;
 ghost use Rattle.ipnet_lists.specs.Causes.{AreEnds, GoesOn, HasRemark, IsCutAt, IsDashed, IsFollowed};
 ghost use Rattle.ipnet_lists.specs.Causes.{IsRangeRemark, IsRemark, IsSomeEntry};
 
-use crate::cause_bytes::has_byte;
+use crate::bytes::has_byte;
 use crate::cause_words::is_entry_word;
 use crate::entry::read_range;
 use crate::word::{after_leading, leading_word};

@@ -1,7 +1,5 @@
 //! Causes in the parts of a text before and after a byte.
 ghost use Rattle.std.specs.Prelude.{◌≡◌, ◌<◌, ◌↔◌, [], IsTrue};
-ghost use Rattle.std.specs.Char.{is_ascii_digit};
-ghost use Rattle.std.specs.List.{list_all};
 ghost use Rattle.ipnet_base.specs.Address.{IPv4, IPv6, ip_address};
 ghost use Rattle.ipnet_lists.specs.Entries.{ReadsAs, after_blanks, before_blanks};
 ghost use Rattle.ipnet_lists.specs.Causes.{AreAddresses, AreApart, AreBackwards, AreEntries, AreIpv4};
@@ -9,6 +7,7 @@ ghost use Rattle.ipnet_lists.specs.Causes.{IsCutAt, IsEnclosed, IsExcluded, IsOf
 ghost use Rattle.ipnet_lists.specs.Causes.{IsTooLong, WritesAbove};
 ghost use Rattle.ipnet_lists.specs.CauseSteps.{ArePartsSo, WriteEnds, ends_of};
 
+use crate::bytes::are_digits;
 use crate::entry::{parse_address, read_entry};
 use ipnet::{Grammar, IpAddr};
 
@@ -77,17 +76,6 @@ fn is_ipv6(text: &str) -> bool
         Some(IpAddr::V6(_)) => true,
         None => false,
     }
-}
-
-/// Whether all bytes are decimal digits.
-///
-/// ```text
-/// b"080" and b"": true; b"8a": false
-/// ```
-pub fn are_digits(text: &[u8]) -> bool
-    ensures { result ≡ list_all is_ascii_digit text.now }
-{
-    text.iter().all(|byte| byte.is_ascii_digit())
 }
 
 /// Whether the text is only decimal digits, of a number above this one.

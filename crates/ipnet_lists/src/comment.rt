@@ -6,7 +6,7 @@ ghost use Rattle.ipnet_lists.specs.Comments.{Opens, IsCommentAt, BeginsWithEntry
 ghost use Rattle.ipnet_lists.specs.Comments.{BeginsWithRule, HidesEntry};
 ghost use Rattle.ipnet_lists.specs.Lists.{IsContents};
 
-use crate::cause_bytes::has_byte;
+use crate::bytes::has_byte;
 use crate::cause_words::is_entry_word;
 use crate::word::{after_leading, from_word, leading_word, two_words};
 use memchr::{memchr, memchr2};

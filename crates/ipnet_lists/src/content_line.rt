@@ -9,7 +9,7 @@ ghost use Rattle.ipnet_lists.specs.RefusedLines.{AreRefused};
 ghost use Rattle.ipnet_lists.specs.RefusedParts.{refusal_in};
 ghost use Rattle.ipnet_lists.specs.declared.content_line.ListFailure.TheVariants.{Memory};
 
-use crate::cause_bytes::has_byte;
+use crate::bytes::has_byte;
 use crate::comment::contents_of;
 use crate::mark::skip_mark;
 use crate::number::next_number;

@@ -10,7 +10,7 @@ ghost use Rattle.ipnet_lists.specs.Entries.{IsMaskedBy, ReadsAs, WriteMasked};
 ghost use Rattle.ipnet_lists.specs.EntryOf.{entry_range, IsWrittenAs};
 ghost use Rattle.ipnet_lists.specs.EntrySteps.{HasEnds};
 
-use crate::cause_bytes::has_byte;
+use crate::bytes::has_byte;
 use arrayvec::ArrayString;
 use ipnet::{
     Grammar, IpAddr, IpNet, IpSubnets, Ipv4Addr, Ipv4Net, Ipv4Subnets, Ipv6Addr, Ipv6Subnets,

@@ -2,6 +2,7 @@
 #![tactic(auto)]
 
 mod address_text;
+mod bytes;
 pub mod cause;
 mod cause_bytes;
 mod cause_follows;
@@ -24,9 +25,9 @@ mod set_lines;
 mod word;
 
 pub use address_text::ip_addr_text;
+pub use bytes::{are_digits, has_byte};
 pub use cause::{Cause, NotEntry, cause_of};
-pub use cause_bytes::has_byte;
-pub use cause_parts::{are_digits, is_entry};
+pub use cause_parts::is_entry;
 pub use cause_words::{has_mask_word, is_netmask};
 pub use comment::{comment_start, contents_of};
 pub use content_line::{ContentLine, LineHandler, ListFailure, has_lines, read_lines};

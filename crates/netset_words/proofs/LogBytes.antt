@@ -15,7 +15,7 @@ use Rattle.ipnet_text.proofs.ClosedLines.{closed_append}
 use Rattle.ipnet_lists.proofs.LineEnds.{ended, ended_closed, only, before_end, no_end, to_end}
 use Rattle.netset_words.specs.declared.line_filter.LineFilter.{LineFilter}
 use Rattle.netset_words.specs.declared.line_filter.Rest.TheVariants as Rests
-use Rattle.netset_words.specs.declared.log_line.LinesRequest.{LinesRequest}
+use Rattle.netset_words.specs.declared.lines_request.LinesRequest.{LinesRequest}
 use Rattle.ipnet_lists.specs.RefusedLines.{AreRefused}
 use Rattle.netset_words.specs.LogLines.{LogResult, AreLogLines, treated_front}
 use Rattle.netset_words.specs.FilterSteps.{IsFilterUpTo, IsLogUpTo, ReadsUpTo, GoesOn, ReadsEnd}

@@ -11,7 +11,7 @@ use Rattle.netset_words.specs.declared.line_filter.LineAnswers.{LineAnswers}
 use Rattle.netset_words.specs.declared.line_filter.LineFilter.{LineFilter}
 use Rattle.netset_words.specs.declared.line_filter.Rest.{Rest}
 use Rattle.netset_words.specs.declared.line_filter.Rest.TheVariants as Rests
-use Rattle.netset_words.specs.declared.log_line.LinesRequest.{LinesRequest}
+use Rattle.netset_words.specs.declared.lines_request.LinesRequest.{LinesRequest}
 use Rattle.netset_words.specs.declared.log_line.Treatment.{Treatment}
 use Rattle.netset_words.specs.declared.log_line.Treatment.TheVariants as Treatments
 use Rattle.netset_words.specs.declared.log_line.Verdict.{Verdict}

@@ -21,7 +21,7 @@ use Rattle.ipnet_lists.specs.declared.entry.Entry.TheVariants as Entries
 use Rattle.ipnet_lists.specs.Entries.{IsEntryText, IsIpv4Text}
 use Rattle.ipnet_lists.specs.EntryOf.{entry_range}
 use Rattle.netset_lib.specs.Filtering.{HasAddresses}
-use Rattle.netset_words.specs.declared.log_line.LinesRequest.{LinesRequest}
+use Rattle.netset_words.specs.declared.lines_request.LinesRequest.{LinesRequest}
 use Rattle.netset_words.specs.declared.log_line.Verdict.{Verdict}
 use Rattle.netset_words.specs.declared.log_line.Verdict.TheVariants as Verdicts
 use Rattle.netset_words.specs.LogEntries.{IsNoEntryWord}

@@ -16,7 +16,7 @@ use Rattle.ipnet_text.specs.declared.window.Window.{Window}
 use Rattle.ipnet_text.specs.Window.{held}
 use Rattle.ipnet_lists.specs.Lists.{after_mark}
 use Rattle.netset_words.specs.declared.line_filter.LineFilter.{LineFilter}
-use Rattle.netset_words.specs.declared.log_line.LinesRequest.{LinesRequest}
+use Rattle.netset_words.specs.declared.lines_request.LinesRequest.{LinesRequest}
 use Rattle.netset_words.specs.FilterSteps.{IsFilterUpTo, IsLogUpTo, IsTaken}
 use Rattle.netset_words.specs.LogLines.{IsLogLine, joined, no_result, result_of, treated_front}
 use Rattle.netset_words.specs.Logs.{IsFrontPrinted}

@@ -9,7 +9,7 @@ use Rattle.ipnet_text.specs.declared.window.Window.{Window}
 use Rattle.ipnet_text.specs.Window.{held}
 use Rattle.ipnet_lists.specs.Marks.{IsPastMark}
 use Rattle.netset_words.specs.declared.line_filter.LineFilter.{LineFilter}
-use Rattle.netset_words.specs.declared.log_line.LinesRequest.{LinesRequest}
+use Rattle.netset_words.specs.declared.lines_request.LinesRequest.{LinesRequest}
 use Rattle.netset_words.specs.FilterSteps.{IsFilterUpTo, IsLogUpTo, IsTaken, IsStreamed}
 use Rattle.netset_words.proofs.InputReading.{IsInputUpTo, input_begins, input_moves, input_grows, input_ends}
 

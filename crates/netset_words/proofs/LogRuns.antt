@@ -11,7 +11,7 @@ use Rattle.netset_lib.specs.Filters.{IsOnSide}
 use Rattle.ipnet_lists.specs.Lists.{after_mark}
 use Rattle.netset_words.specs.declared.line_filter.LineFilter.{LineFilter}
 use Rattle.netset_words.specs.declared.lines_program.FilteredLog.{FilteredLog}
-use Rattle.netset_words.specs.declared.log_line.LinesRequest.{LinesRequest}
+use Rattle.netset_words.specs.declared.lines_request.LinesRequest.{LinesRequest}
 use Rattle.netset_words.specs.Extracts.{WordRefusal}
 use Rattle.netset_words.specs.FilterSteps.{IsStreamed}
 use Rattle.netset_words.specs.LogLines.{LogResult}

@@ -2,7 +2,7 @@
 use Rattle.std.specs.Prelude.{ℕ, List}
 use Rattle.ipnet_base.specs.Ranges.{AddressRange}
 use Rattle.ipnet.specs.declared.parser.Grammar.{Grammar}
-use Rattle.netset_words.specs.declared.log_line.LinesRequest.{LinesRequest}
+use Rattle.netset_words.specs.declared.lines_request.LinesRequest.{LinesRequest}
 use Rattle.netset_words.specs.Places.{IsPlace, HasNoPlace, IsRangeOf}
 use Rattle.netset_words.specs.Words.{Word}
 

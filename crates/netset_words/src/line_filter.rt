@@ -6,16 +6,15 @@ ghost use Rattle.std.specs.List.{suffix_len};
 ghost use Rattle.ipnet_sets.specs.Members.{IsMember};
 ghost use Rattle.ipnet_sets.specs.declared.set.IpSet.{IpSet};
 ghost use Rattle.ipnet.specs.Lines.{lines_of};
-ghost use Rattle.netset_words.specs.declared.log_line.LinesRequest.{LinesRequest};
+ghost use Rattle.netset_words.specs.declared.lines_request.LinesRequest.{LinesRequest};
 ghost use Rattle.netset_words.specs.declared.line_filter.Rest.TheVariants.{Kept};
 ghost use Rattle.ipnet_lists.specs.RefusedLines.{HasMore};
 ghost use Rattle.netset_words.specs.LogLines.{LogResult, IsShortLine, has_none, is_printed, report_of};
 ghost use Rattle.netset_words.specs.LogSteps.{AddsResult, rest_of, after_front};
 ghost use Rattle.netset_words.specs.Words.{cuts};
 
-use crate::log_line::{
-    LinesRequest, Treatment, Verdict, front_treatment, verdict_on, whole_treatment,
-};
+use crate::lines_request::LinesRequest;
+use crate::log_line::{Treatment, Verdict, front_treatment, verdict_on, whole_treatment};
 use crate::refused_word::{RefusedWords, WordCause};
 use crate::word::is_cut;
 use ipnet_lists::{RefusedPart, next_number};

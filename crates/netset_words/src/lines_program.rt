@@ -7,7 +7,7 @@ ghost use Rattle.ipnet_sets.specs.Members.{IsMember};
 ghost use Rattle.ipnet_sets.specs.declared.set.IpSet.{IpSet};
 ghost use Rattle.ipnet_text.specs.Inputs.{GaveWhole};
 ghost use Rattle.ipnet_lists.specs.Lists.{after_mark};
-ghost use Rattle.netset_words.specs.declared.log_line.LinesRequest.{LinesRequest};
+ghost use Rattle.netset_words.specs.declared.lines_request.LinesRequest.{LinesRequest};
 ghost use Rattle.netset_words.specs.LogLines.{LogResult};
 ghost use Rattle.netset_words.specs.Logs.{IsLogFiltered, IsLogFilteredButSome, IsLogFilteredInPart, IsFrontPrinted};
 ghost use Rattle.netset_words.specs.Logs.{IsFilterFor, HasCounts};

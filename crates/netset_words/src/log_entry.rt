@@ -7,7 +7,7 @@ ghost use Rattle.netset_words.specs.LogEntries.{IsLogEntry, IsNoEntryWord};
 ghost use Rattle.netset_words.specs.Places.{IsRangeOf};
 ghost use Rattle.netset_words.specs.WordSteps.{word_of};
 
-use crate::log_line::LinesRequest;
+use crate::lines_request::LinesRequest;
 use crate::mapped::mapped_ipv4;
 use crate::place::read_place;
 use crate::word::NextWord;

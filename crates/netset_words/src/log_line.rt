@@ -2,7 +2,7 @@
 ghost use Rattle.std.specs.Prelude.{◌≡◌, ◌<◌, ◌↔◌, All, length, IsTrue, IfSome, MatchOption};
 ghost use Rattle.ipnet_base.specs.Address.{ip_address};
 ghost use Rattle.ipnet_sets.specs.Members.{IsMember};
-ghost use Rattle.netset_words.specs.declared.log_line.LinesRequest.{LinesRequest};
+ghost use Rattle.netset_words.specs.declared.lines_request.LinesRequest.{LinesRequest};
 ghost use Rattle.ipnet_lists.specs.EntryOf.{entry_range};
 ghost use Rattle.ipnet_lists.specs.declared.entry.Entry.TheVariants as Entries;
 ghost use Rattle.netset_words.specs.LogEntries.{IsNoEntryWord};
@@ -10,29 +10,14 @@ ghost use Rattle.netset_words.specs.LogLines.{IsVerdict, LiesIn, treated, treate
 ghost use Rattle.netset_words.specs.LogSteps.{IsNextLogEntry};
 ghost use Rattle.netset_words.specs.Words.{words_of};
 
+use crate::lines_request::LinesRequest;
 use crate::log_entry::read_log_entry;
 use crate::word::{is_cut, next_word};
-use ipnet::{Grammar, IpAddr};
+use ipnet::IpAddr;
 use ipnet_lists::Entry;
 use ipnet_sets::IpSet;
 use ipnet_text::ipv4_addr_at;
-use netset_lib::Side;
 use netset_lib::filter::{address_fits, covers_entry};
-
-/// Which lines of a log are printed.
-#[derive(Clone, Copy, Debug, PartialEq, Eq)]
-pub struct LinesRequest {
-    /// The grammar of the entries.
-    pub grammar: Grammar,
-    /// Whether an entry has to lie inside the set or outside it.
-    pub side: Side,
-    /// Whether any entry of a line may choose it, or only the first.
-    pub any: bool,
-    /// Whether the lines that are not chosen are printed, instead of those that are.
-    pub others: bool,
-    /// Whether an IPv4-mapped address is the IPv4 address.
-    pub mapped: bool,
-}
 
 /// Whether a text is chosen by its entries.
 #[derive(Clone, Copy)]

@@ -1,7 +1,7 @@
 use Rattle.std.proofs.Common.{◌≡◌, []}
 use Rattle.std.specs.Io.KnownBytes.{Keeps}
 use Rattle.ipnet_sets.specs.declared.set.IpSet.{IpSet}
-use Rattle.netset_words.specs.declared.log_line.LinesRequest.{LinesRequest}
+use Rattle.netset_words.specs.declared.lines_request.LinesRequest.{LinesRequest}
 use Rattle.netset_words.specs.FilterSteps.{IsLogUpTo}
 use Rattle.netset_words.proofs.LogReading.{IsLogReading}
 use Rattle.netset_words.proofs.lines_program.read_log.Given as goal

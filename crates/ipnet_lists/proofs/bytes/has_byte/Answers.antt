@@ -1,6 +1,6 @@
 use Rattle.std.proofs.Common.{sym}
 use Rattle.ipnet_lists.proofs.ByteLaws.{found_byte, no_byte}
-use Rattle.ipnet_lists.proofs.cause_bytes.has_byte.Goals as goal
+use Rattle.ipnet_lists.proofs.bytes.has_byte.Goals as goal
 
 pub returns-in-Some : goal.returns-in-Some
 returns-in-Some c =
