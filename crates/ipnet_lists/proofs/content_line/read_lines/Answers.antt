@@ -21,7 +21,7 @@ lines-preserved g c =
     (after_mark c.args.bytes.now) c.args.made.now c.lines.number c.in_ok-number.number c.lines.rest.now
     c.first_line_of_bytes.result.0.now c.contents_of-text.result.now c.first_line_of_bytes.result.1.now c.lines.made
     c.take_line.new.made c.lines.refused c.take_line.new.refused c.lines.invariant c.first_line_of_bytes.ensures.lines
-    c.in_ok-number.ensures c.contents_of-text.ensures c.in_ok-take_line.ensures
+    c.in_ok-number.ensures.next c.contents_of-text.ensures c.in_ok-take_line.ensures
 
 pub returns : goal.returns
 returns g c =

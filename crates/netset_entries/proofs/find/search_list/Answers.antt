@@ -10,7 +10,7 @@ lines-preserved c =
     before_more (search_of c.args.search.now) c.args.name.now (after_mark c.args.bytes.now) c.lines.number
     c.in_ok-number.number c.lines.rest.now c.first_line_of_bytes.result.0.now c.first_line_of_bytes.result.1.now
     c.lines.found c.search_line.new.found c.lines.invariant c.first_line_of_bytes.ensures.lines
-    c.in_ok-number.ensures c.in_ok-search_line.ensures
+    c.in_ok-number.ensures.next c.in_ok-search_line.ensures
 
 pub returns : goal.returns
 returns c =

@@ -23,5 +23,5 @@ returns g c =
     OnOk_then c.push.result c.push.ensures
     (λ made. reads_one old _ text text before after
     (plain_contents text (plain_entry old.grammar text range c.requires.entry))
-    (adds_entry old _ text refl refl c.in_ok-number.ensures before after range c.requires.some
+    (adds_entry old _ text refl refl c.in_ok-number.ensures.next before after range c.requires.some
     (word_is_entry old.grammar text range c.requires.entry) refl refl made))

@@ -14,7 +14,7 @@ returns-then-is_empty g c =
     let text = c.contents_of-text.result.now in
     let made = g.C.Collector.is_made c.args.collector.now c.args.made.now in
     reads_one c.args.self.now _ c.args.line.now text made made c.contents_of-text.ensures
-    (adds_empty c.args.self.now _ text refl refl c.in_ok-number.ensures made
+    (adds_empty c.args.self.now _ text refl refl c.in_ok-number.ensures.next made
     (no_bytes (length text) c.if-is_empty.ensures) refl refl)
 
 pub push-requires : goal.push-requires
@@ -33,7 +33,7 @@ returns-in-Some g c =
     let is : IsEntryText old.grammar text (found_range f) = c.in-Some.ensures.reads.some in
     OnOk_then c.push.result c.push.ensures
     (λ made. reads_one old _ c.args.line.now text before after c.contents_of-text.ensures
-    (adds_entry old _ text refl refl c.in_ok-number.ensures before after (found_range f) some is refl refl made))
+    (adds_entry old _ text refl refl c.in_ok-number.ensures.next before after (found_range f) some is refl refl made))
 
 pub returns-in-None : goal.returns-in-None
 returns-in-None g c =
@@ -43,7 +43,7 @@ returns-in-None g c =
     let none : IsNoEntry old.grammar text = c.in-None.ensures.reads.none.0 refl in
     OnOk_then c.push-in-None.result c.push-in-None.ensures
     (λ more. reads_one old _ c.args.line.now text made made c.contents_of-text.ensures
-    (adds_refusal old _ text refl refl c.in_ok-number.ensures made
+    (adds_refusal old _ text refl refl c.in_ok-number.ensures.next made
     (some_bytes (length text) c.if-is_empty.ensures) none
     (subst (λ n. HasMore old.refused c.push-in-None.new.self (refusal_at old.grammar old.list n text ∷ []))
-    c.in_ok-number.ensures more) refl))
+    c.in_ok-number.ensures.next more) refl))

@@ -81,5 +81,5 @@ returns c = λ how set written least lines cur h.
     (subst (λ m. c.room_after.result + m ≡ 1048576) size c.room_after.ensures) c.requires.long
     (c.as_slice-front.ensures.value ∙ c.in_ok-extend_from_slice.ensures.items) c.whole_len.ensures
     c.verdict_on-verdict.ensures c.front_treatment-treatment.ensures c.in_ok-printed.ensures.text
-    c.in_ok-printed.ensures.printed refl refl c.in_ok-number.ensures c.in_ok-report_front.ensures
+    c.in_ok-printed.ensures.printed refl refl c.in_ok-number.ensures.next c.in_ok-report_front.ensures
     c.requires.kept c.rest_after-self.ensures c.clear.ensures.items

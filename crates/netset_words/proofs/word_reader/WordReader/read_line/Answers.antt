@@ -12,7 +12,7 @@ use Rattle.netset_words.proofs.word_reader.WordReader.read_line.Goals as goal
 pub returns-then-has_byte : goal.returns-then-has_byte
 returns-then-has_byte c =
     let old = c.args.self.now in
-    let next : c.in_ok-number.number ≡ old.line + 1 = c.in_ok-number.ensures in
+    let next : c.in_ok-number.number ≡ old.line + 1 = c.in_ok-number.ensures.next in
     OnOk_then c.push.result c.push.ensures
     (λ added. nul_line old _ c.args.line.now (record { same_request = refl; same_list = refl; next = next })
     (sym c.has_byte.ensures ∙ c.if-has_byte.true) refl refl
@@ -22,7 +22,7 @@ returns-then-has_byte c =
 pub returns-in-Some : goal.returns-in-Some
 returns-in-Some c =
     let old = c.args.self.now in
-    let next : c.in_ok-number.number ≡ old.line + 1 = c.in_ok-number.ensures in
+    let next : c.in_ok-number.number ≡ old.line + 1 = c.in_ok-number.ensures.next in
     let (items, are, up_to) = c.in_ok-state.ensures in
     let mask = c.in-Some.mask in
     let (more, first) = match_some c.in_ok-state.state.mask mask (mask_texts items ≡ [])
@@ -45,7 +45,7 @@ returns-in-None c =
     (λ m. (more : List (List ℕ)) × (mask_texts items ≡ m.now ∷ more)) up_to.mask
     (λ m e. let clash = sym e ∙ c.in-None.is in absurd cc) in
     word_line old _ c.args.line.now items c.in_ok-state.state
-    (record { same_request = refl; same_list = refl; next = c.in_ok-number.ensures })
+    (record { same_request = refl; same_list = refl; next = c.in_ok-number.ensures.next })
     (λ nul. let clash : true ≡ false = sym nul ∙ sym c.has_byte.ensures ∙ c.if-has_byte.false in absurd cc) are up_to
     refl
     (subst (HasMore old.refused old.refused) (sym (ap (mask_refusals old.list (old.line + 1)) none))
