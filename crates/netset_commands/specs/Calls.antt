@@ -7,7 +7,7 @@ use Rattle.netset_commands.specs.Arguments.{values_of}
 use Rattle.netset_commands.specs.declared.arguments.ArgumentFailure.{ArgumentFailure}
 use Rattle.netset_commands.specs.declared.arguments.ArgumentFailure.TheVariants.{InputTwice, ControlCharacter}
 use Rattle.netset_commands.specs.declared.arguments.ArgumentFailure.TheVariants.{NoCommand, LineBreak, Memory}
-use Rattle.netset_commands.specs.declared.arguments.TwoNames.{TwoNames}
+use Rattle.netset_commands.specs.declared.named_lists.TwoNames.{TwoNames}
 use Rattle.netset_lib.specs.declared.command.Flags.{Flags}
 
 -- These are the flags of the command line.

@@ -1,9 +1,8 @@
 //! The command `apply`: its arguments, and its run.
 ghost use Rattle.std.specs.Prelude.{◌≡◌, ◌≤◌, IfErr};
 
-use crate::arguments::{
-    FIRST_LIST, OTHERS, RANGES_FLAG, SHARED, SKIP_BAD_FLAG, flags_of, two_or_report,
-};
+use crate::arguments::{FIRST_LIST, OTHERS, RANGES_FLAG, SHARED, SKIP_BAD_FLAG, flags_of};
+use crate::named_lists::two_or_report;
 use crate::reading::{finish_lists, set_reader};
 use crate::table::{ARGUMENT, Argument, Form, Subcommand};
 use clap::ArgMatches;

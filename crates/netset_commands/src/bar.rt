@@ -8,11 +8,11 @@ ghost use Rattle.netset_commands.specs.Words.{IsFrameOf, ArePictured, mark_choic
 ghost use Rattle.netset_pictures.specs.BarAnswers.{width_text};
 
 use crate::arguments::{
-    ANY_LISTS, ArgumentFailure, SHARED, SKIPPING, flags_of, is_set, names_or_report,
-    reads_input_twice, report_argument_failure,
+    ANY_LISTS, ArgumentFailure, SHARED, SKIPPING, flags_of, is_set, report_argument_failure,
 };
 use crate::entry_options::ENTRY_OPTION;
 use crate::listing::network_or_report;
+use crate::named_lists::{names_or_report, reads_input_twice};
 use crate::reading::{read_pair, read_sets};
 use crate::table::{ARGUMENT, Argument, Form, Subcommand};
 use clap::ArgMatches;

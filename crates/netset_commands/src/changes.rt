@@ -1,8 +1,9 @@
 //! The command `changes`: its arguments, and its run.
 ghost use Rattle.std.specs.Prelude.{◌≤◌};
 
-use crate::arguments::{FIRST_LIST, OTHER_LIST, SHARED, SKIPPING, two_or_report};
+use crate::arguments::{FIRST_LIST, OTHER_LIST, SHARED, SKIPPING};
 use crate::entry_options::ENTRY_OR_OTHER;
+use crate::named_lists::two_or_report;
 use crate::reading::read_pair;
 use crate::table::{Argument, Form, Subcommand};
 use clap::ArgMatches;

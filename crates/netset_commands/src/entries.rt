@@ -3,10 +3,9 @@ ghost use Rattle.std.specs.Prelude.{◌≢◌, ◌≤◌, ◌<◌, ◌⊎◌, �
 ghost use Rattle.clap.specs.Matches.{found_of, first_value};
 ghost use Rattle.netset_commands.specs.Arguments.{entries_of};
 
-use crate::arguments::{
-    FIRST, ONE_LIST, OTHER_LIST, OTHERS, SHARED, SKIPPING, flags_of, two_or_report,
-};
-use crate::entry_options::{ENTRY_OR_FIRST, ENTRY_OR_OTHER, has_entries, last_name};
+use crate::arguments::{FIRST, ONE_LIST, OTHER_LIST, OTHERS, SHARED, SKIPPING, flags_of};
+use crate::entry_options::{ENTRY_OR_FIRST, ENTRY_OR_OTHER, has_entries};
+use crate::named_lists::{last_name, two_or_report};
 use crate::reading::{last_bytes, read_only_set, two_bytes};
 use crate::table::{Argument, Subcommand};
 use clap::ArgMatches;

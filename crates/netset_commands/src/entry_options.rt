@@ -1,14 +1,13 @@
 //! The options `-e`: entries on the command line, which are one list, the last.
 ghost use Rattle.std.specs.Prelude.{◌≡◌, ◌↔◌, ◌<◌, ◌++◌, ◌∷◌, [], map, length, All, IsTrue, IfOk, IfErr, OnOk};
 ghost use Rattle.std.specs.Prelude.{string_bytes};
-ghost use Rattle.netset_commands.specs.Arguments.{IsLastName, entries_of};
+ghost use Rattle.netset_commands.specs.Arguments.{entries_of};
 ghost use Rattle.netset_commands.specs.EntryOptions.{IsEntryFailure, IsEntryText, IsOneLine, entry_lines};
 
-use crate::arguments::{ArgumentFailure, FIRST, OTHERS, name_of_list, report_argument_failure};
+use crate::arguments::{ArgumentFailure, FIRST, OTHERS, report_argument_failure};
 use crate::table::{ARGUMENT, Argument, Form};
 use clap::ArgMatches;
 use ipnet_lists::has_byte;
-use netset_files::ENTRY_LIST;
 use std::alloc::{AllocError, Global};
 
 /// The id of the entries.
@@ -41,18 +40,6 @@ pub fn has_entries(matches: &ArgMatches) -> bool
 {
     let entries = matches.get_strs(ENTRY).unwrap_or(&[]);
     !entries.is_empty()
-}
-
-/// The name of the last list, which has this id: "-e" if there are entries; or else the name that is given, or "-" for
-/// standard input.
-pub fn last_name<'a>(matches: &ArgMatches<'a>, id: &str) -> &'a str
-    ensures { IsLastName matches.now id.now result.now }
-{
-    if has_entries(matches) {
-        ENTRY_LIST
-    } else {
-        name_of_list(matches, id)
-    }
 }
 
 /// Appends the entry as a line.

@@ -6,9 +6,9 @@ ghost use Rattle.netset_lib.specs.Commands.{grammar_of};
 ghost use Rattle.netset_lib.specs.declared.command.Flags.{Flags};
 
 use crate::arguments::{
-    ANY_LISTS, ArgumentFailure, FIRST, MAPPED, SHARED, flags_of, is_set, reads_input_twice,
-    report_argument_failure,
+    ANY_LISTS, ArgumentFailure, FIRST, MAPPED, SHARED, flags_of, is_set, report_argument_failure,
 };
+use crate::named_lists::reads_input_twice;
 use crate::reading::report_only;
 use crate::table::{ARGUMENT, Argument, Form, Subcommand};
 use clap::ArgMatches;

@@ -4,9 +4,9 @@ ghost use Rattle.ipnet_lists.specs.EntryOf.{IsWrittenAs};
 ghost use Rattle.netset_commands.specs.FindOptions.{chosen_relation};
 
 use crate::arguments::{
-    ArgumentFailure, FIRST, OTHERS, SHARED, check_names, flags_of, is_set, reads_input_twice,
-    report_argument_failure,
+    ArgumentFailure, FIRST, OTHERS, SHARED, flags_of, is_set, report_argument_failure,
 };
+use crate::named_lists::{check_names, reads_input_twice};
 use crate::table::{ARGUMENT, Argument, Form, Subcommand};
 use clap::ArgMatches;
 use ipnet::Grammar;

@@ -2,11 +2,9 @@
 ghost use Rattle.std.specs.Prelude.{◌≡◌, ◌≤◌, codes, IfOk, IfErr};
 ghost use Rattle.netset_commands.specs.FitOptions.{AreFitNames, limit_of, IsFitRequest, IsNumberGiven};
 
-use crate::arguments::{
-    ANY_LISTS, ArgumentFailure, SHARED, SKIPPING, names_of, reads_input_twice,
-    report_argument_failure,
-};
+use crate::arguments::{ANY_LISTS, ArgumentFailure, SHARED, SKIPPING, report_argument_failure};
 use crate::entry_options::{ENTRY_OPTION, entries_or_report};
+use crate::named_lists::{names_of, reads_input_twice};
 use crate::reading::{finish_lists, set_reader};
 use crate::table::{ARGUMENT, Argument, Form, Subcommand};
 use clap::ArgMatches;

@@ -15,6 +15,7 @@ mod forms;
 mod info;
 mod listing;
 mod map;
+mod named_lists;
 mod noted;
 mod origins;
 mod pairs;

@@ -8,11 +8,11 @@ ghost use Rattle.svg_maps.specs.declared.style.Theme.{Theme};
 ghost use Rattle.svg_maps.specs.declared.style.Theme.TheVariants.{Auto};
 
 use crate::arguments::{
-    ANY_LISTS, ArgumentFailure, SHARED, flags_of, is_set, names_or_report, reads_input,
-    report_argument_failure,
+    ANY_LISTS, ArgumentFailure, SHARED, flags_of, is_set, report_argument_failure,
 };
 use crate::bar::{COMPARE, FRAME, are_compared, frame_of};
 use crate::entry_options::{ENTRY_OPTION, entries_or_report};
+use crate::named_lists::{names_or_report, reads_input};
 use crate::noted::{NotedReader, TitledEntries, entries_of};
 use crate::reading::{finish, set_reader};
 use crate::table::{ARGUMENT, Argument, Form, Subcommand};

@@ -2,7 +2,8 @@
 ghost use Rattle.std.specs.Prelude.{◌≡◌, ◌≤◌, IfErr};
 ghost use Rattle.netset_commands.specs.Words.{IsOnly};
 
-use crate::arguments::{FIRST_LIST, OTHER_LIST, SHARED, flags_of, is_set, two_or_report};
+use crate::arguments::{FIRST_LIST, OTHER_LIST, SHARED, flags_of, is_set};
+use crate::named_lists::two_or_report;
 use crate::table::{ARGUMENT, Argument, Form, Subcommand};
 use clap::ArgMatches;
 use ipnet::Grammar;

@@ -2,7 +2,8 @@
 ghost use Rattle.std.specs.Prelude.{◌≤◌, codes};
 ghost use Rattle.netset_commands.specs.Arguments.{IsFlag};
 
-use crate::arguments::{check_names, is_set, names_or_report, report_argument_failure};
+use crate::arguments::{is_set, report_argument_failure};
+use crate::named_lists::{check_names, names_or_report};
 use crate::reading::read_sets;
 use crate::table::{ARGUMENT, Argument, Form};
 use clap::ArgMatches;

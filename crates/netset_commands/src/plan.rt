@@ -3,11 +3,11 @@ ghost use Rattle.std.specs.Prelude.{◌≡◌, ◌≤◌, IfErr, IfOk};
 ghost use Rattle.netset_commands.specs.Words.{AreLengths};
 
 use crate::arguments::{
-    ArgumentFailure, FIRST, FIRST_LIST, SHARED, SKIPPING, families_of, name_of_list,
-    report_argument_failure,
+    ArgumentFailure, FIRST, FIRST_LIST, SHARED, SKIPPING, families_of, report_argument_failure,
 };
 use crate::bar::{BAR, PLAN_BAR, bar_form_of};
 use crate::listing::length_or_report;
+use crate::named_lists::name_of_list;
 use crate::reading::read_set;
 use crate::table::{ARGUMENT, Argument, Form, Subcommand};
 use clap::ArgMatches;

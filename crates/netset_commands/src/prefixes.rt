@@ -3,8 +3,9 @@ ghost use Rattle.std.specs.Prelude.{◌≡◌, ◌≤◌, codes};
 ghost use Rattle.clap.specs.Matches.{first_value, found_of};
 ghost use Rattle.netset_lib.specs.PrefixEntryOf.{lent_text};
 
-use crate::arguments::{FIRST_LIST, OTHER_LIST, SHARED, flags_of, two_or_report};
+use crate::arguments::{FIRST_LIST, OTHER_LIST, SHARED, flags_of};
 use crate::entry_options::ENTRY_OR_OTHER;
+use crate::named_lists::two_or_report;
 use crate::reading::two_bytes;
 use crate::table::{ARGUMENT, Argument, Form, Subcommand};
 use clap::ArgMatches;

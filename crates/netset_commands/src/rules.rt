@@ -2,8 +2,9 @@
 ghost use Rattle.std.specs.Prelude.{◌≡◌, ◌≤◌, IfErr};
 ghost use Rattle.netset_commands.specs.Arguments.{IsDefault};
 
-use crate::arguments::{FIRST, SHARED, flags_of, name_of_list};
+use crate::arguments::{FIRST, SHARED, flags_of};
 use crate::forms::{ANSWER_FORM, form_of};
+use crate::named_lists::name_of_list;
 use crate::table::{ARGUMENT, Argument, Form, Subcommand};
 use clap::ArgMatches;
 use ipnet_rules::Action;

@@ -3,10 +3,11 @@ ghost use Rattle.std.specs.Prelude.{◌≡◌, ◌≤◌, IfOk, IfErr};
 ghost use Rattle.netset_commands.specs.SelectOptions.{IsLengthGiven, IsSelectRequest, bounds_of};
 
 use crate::arguments::{
-    ANY_LISTS, ArgumentFailure, SHARED, flags_of, is_set, names_or_report, report_argument_failure,
+    ANY_LISTS, ArgumentFailure, SHARED, flags_of, is_set, report_argument_failure,
 };
 use crate::entry_options::{ENTRY_OPTION, entries_or_report};
 use crate::listing::length_or_report;
+use crate::named_lists::names_or_report;
 use crate::reading::report_only;
 use crate::table::{ARGUMENT, Argument, Form, Subcommand};
 use clap::ArgMatches;

@@ -2,7 +2,8 @@
 ghost use Rattle.std.specs.Prelude.{◌≤◌, codes};
 ghost use Rattle.netset_commands.specs.Arguments.{IsFlag};
 
-use crate::arguments::{flags_of, two_or_report};
+use crate::arguments::flags_of;
+use crate::named_lists::two_or_report;
 use crate::reading::two_bytes;
 use crate::table::{ARGUMENT, Argument, Form};
 use clap::ArgMatches;

@@ -5,7 +5,8 @@ ghost use Rattle.netset_commands.specs.Calls.{AreFlags};
 ghost use Rattle.netset_lib.specs.Commands.{grammar_of, side_of};
 ghost use Rattle.netset_lib.specs.declared.command.Flags.{Flags};
 
-use crate::arguments::{MAPPED, flags_of, is_set, two_or_report};
+use crate::arguments::{MAPPED, flags_of, is_set};
+use crate::named_lists::two_or_report;
 use crate::reading::read_set;
 use crate::table::{ARGUMENT, Argument, Form};
 use clap::ArgMatches;

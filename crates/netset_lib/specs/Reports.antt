@@ -5,8 +5,8 @@ use Rattle.netset_lib.specs.declared.failure.Failure.{Failure}
 use Rattle.netset_lib.specs.declared.failure.Failure.TheVariants as Failures
 use Rattle.netset_lib.specs.declared.prefix_choice.ChoiceFault.{ChoiceFault}
 use Rattle.netset_lib.specs.declared.prefix_choice.ChoiceFault.TheVariants as Choices
-use Rattle.netset_lib.specs.declared.write.PieceFailure.{PieceFailure}
-use Rattle.netset_lib.specs.declared.write.PieceFailure.TheVariants as Pieces
+use Rattle.netset_lib.specs.declared.piece_failure.PieceFailure.{PieceFailure}
+use Rattle.netset_lib.specs.declared.piece_failure.PieceFailure.TheVariants as Pieces
 
 -- The line that reports these words. Example: `netset: out of memory`, and a line feed (10).
 abbrev pub words_line : List ℕ → List ℕ

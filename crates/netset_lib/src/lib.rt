@@ -22,6 +22,7 @@ pub mod numbered;
 pub mod operation;
 pub mod operation_program;
 pub mod output;
+pub mod piece_failure;
 pub mod plan;
 pub mod plan_program;
 pub mod prefix_answer;

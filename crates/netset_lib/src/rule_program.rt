@@ -3,11 +3,11 @@ ghost use Rattle.std.specs.Prelude.{◌≡◌};
 ghost use Rattle.netset_lib.specs.RuleAnswers.{IsUnreachedText, IsRuleFailure, AreReached};
 ghost use Rattle.netset_lib.specs.Runs.{IsFault};
 
+use crate::piece_failure::PieceFailure;
 use crate::rule_cause::RuleCause;
 use crate::rule_list::RuleList;
 use crate::rule_writing::{prepare, write_unreached};
 use crate::runs::{Command, Fault};
-use crate::write::PieceFailure;
 use ipnet_lists::ListFailure;
 use std::io::Write;
 

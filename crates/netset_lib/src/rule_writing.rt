@@ -10,10 +10,11 @@ ghost use Rattle.netset_lib.specs.RuleAnswers.{AreUnreachedLines, IsRuleFailure}
 ghost use Rattle.netset_lib.specs.RuleContentsOf.{contents_of, line_of_rule};
 ghost use Rattle.netset_lib.specs.RuleWriting.{AreAnswered, IsPrepared, rule_lines, contents_in};
 
+use crate::piece_failure::PieceFailure;
 use crate::rule_answer::push_rule;
 use crate::rule_cause::RuleCause;
 use crate::rule_list::{RuleLine, RuleList};
-use crate::write::{PieceFailure, write_and_flush, write_if_long};
+use crate::write::{write_and_flush, write_if_long};
 use ipnet_lists::ListFailure;
 use ipnet_rules::{Decisions, Rule, Unreached};
 use std::alloc::{AllocError, Global};
