@@ -225,11 +225,7 @@ const SEARCHES: &[Subcommand] = &[
 const SPACE_COMMANDS: &[Subcommand] = &[PLAN_COMMAND, BAR_COMMAND, MAP_COMMAND];
 
 /// The commands about the networks around a list, and within a limit.
-const LIMIT_COMMANDS: &[Subcommand] = &[
-    SUPERNET_COMMAND,
-    FIT_COMMAND,
-    SHORTEN_COMMAND,
-];
+const LIMIT_COMMANDS: &[Subcommand] = &[SUPERNET_COMMAND, FIT_COMMAND, SHORTEN_COMMAND];
 
 /// The commands about entries and networks.
 const ENTRY_COMMANDS: &[Subcommand] = &[
