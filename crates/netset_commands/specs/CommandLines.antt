@@ -66,7 +66,10 @@ entry_names = codes "redundant" ∷ codes "overlaps" ∷ codes "find" ∷ codes 
 abbrev pub rule_names : List (List ℕ)
 rule_names = codes "permitted" ∷ codes "unreached" ∷ codes "prefix-list" ∷ codes "origins" ∷ []
 
+-- The commands about addresses and entries, in the order in which help lists them.
+abbrev pub list_commands : List (List ℕ)
+list_commands = (operation_names ++ count_names) ++ search_names
+
 -- The commands of the program, in the order in which help lists them.
 abbrev pub all_commands : List (List ℕ)
-all_commands = (((((operation_names ++ count_names) ++ search_names) ++ space_names) ++ limit_names) ++ entry_names)
-    ++ rule_names
+all_commands = (((list_commands ++ space_names) ++ limit_names) ++ entry_names) ++ rule_names

@@ -3,8 +3,8 @@ ghost use Rattle.std.specs.Prelude.{◌≡◌, ◌++◌, IfOk};
 ghost use Rattle.clap.specs.Built.{IsParsedFrom};
 ghost use Rattle.clap.specs.declared.builder.command.Command.{Command};
 ghost use Rattle.netset_commands.specs.CommandLines.{all_commands, command_names, count_names, entry_names};
-ghost use Rattle.netset_commands.specs.CommandLines.{limit_names, names_in, operation_names, rule_names};
-ghost use Rattle.netset_commands.specs.CommandLines.{search_names, space_names};
+ghost use Rattle.netset_commands.specs.CommandLines.{limit_names, list_commands, names_in, operation_names};
+ghost use Rattle.netset_commands.specs.CommandLines.{rule_names, search_names, space_names};
 
 use crate::apply::APPLY_COMMAND;
 use crate::arguments::{
@@ -317,10 +317,10 @@ fn with_commands<'a>(
     Ok(command)
 }
 
-/// The command line of the program with this version, with its commands in the order in which help lists them.
+/// The command line of the program with this version, with the commands about addresses and entries.
 #[inline(never)]
-fn command<'a>(alloc: Global, version: &'a str) -> Result<Command<'a>, AllocError>
-    ensures { IfOk result (λ r. command_names r ≡ all_commands) }
+fn list_command<'a>(alloc: Global, version: &'a str) -> Result<Command<'a>, AllocError>
+    ensures { IfOk result (λ r. command_names r ≡ list_commands) }
 {
     let command = Command::new(alloc, "netset")
         .version(version)
@@ -329,7 +329,15 @@ fn command<'a>(alloc: Global, version: &'a str) -> Result<Command<'a>, AllocErro
         .arg_required_else_help(true);
     let command = with_commands(alloc, command, operations())?;
     let command = with_commands(alloc, command, counts())?;
-    let command = with_commands(alloc, command, searches())?;
+    with_commands(alloc, command, searches())
+}
+
+/// The command line of the program with this version, with its commands in the order in which help lists them.
+#[inline(never)]
+fn command<'a>(alloc: Global, version: &'a str) -> Result<Command<'a>, AllocError>
+    ensures { IfOk result (λ r. command_names r ≡ all_commands) }
+{
+    let command = list_command(alloc, version)?;
     let command = with_commands(alloc, command, space_commands())?;
     let command = with_commands(alloc, command, limit_commands())?;
     let command = with_commands(alloc, command, entry_commands())?;
