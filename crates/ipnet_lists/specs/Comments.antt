@@ -1,7 +1,8 @@
 -- The comments of lines, in all kinds of lists: how a comment begins, and which comments hide an entry.
-use Rattle.std.specs.Prelude.{◌≡◌, ◌≢◌, ◌⊎◌, ◌<◌, ◌≤◌, ℕ, ◌-◌, ◌==◌, true, List, [], length, slice_index, codes}
-use Rattle.std.specs.Char.{is_ascii_whitespace}
-use Rattle.std.specs.List.{before_first}
+use Rattle.std.specs.Prelude.{◌≡◌, ◌≢◌, ◌⊎◌, ◌<◌, ◌≤◌, ℕ, ◌-◌, ◌==◌, true, List, [], ◌++◌, length, slice_index}
+use Rattle.std.specs.Prelude.{codes}
+use Rattle.std.specs.Char.{is_ascii_digit, is_ascii_whitespace}
+use Rattle.std.specs.List.{before_first, list_all}
 use Rattle.ipnet_lists.specs.Causes.{IsSomeEntry}
 use Rattle.ipnet_lists.specs.Words.{after_leading, from_word, leading, two_words}
 
@@ -41,11 +42,33 @@ IsAddressesWord word =
 
 -- The text begins with a rule or a change. Example: `deny 10.1.0.0/16`, `permit any`, `+ 10.1.0.0/16`; not
 -- `deny list of May`.
-abbrev pub BeginsWithRule : List ℕ → Type 0
-BeginsWithRule text =
+abbrev pub BeginsWithAction : List ℕ → Type 0
+BeginsWithAction text =
     IsRuleStart (leading text) × (BeginsWithEntry (after_leading text) ⊎ IsAddressesWord (leading (after_leading text)))
 
--- The comment begins with ";" (59), and its text begins with an entry, a rule or a change.
+-- The text begins with the words of a router's prefix list. Example: `ip prefix-list A permit 10.1.0.0/16`.
+abbrev pub BeginsWithPrefixList : List ℕ → Type 0
+BeginsWithPrefixList text = ((leading text ≡ codes "ip") ⊎ (leading text ≡ codes "ipv6"))
+    × (leading (after_leading text) ≡ codes "prefix-list")
+
+-- The text is decimal digits. Example: `64496`.
+abbrev pub IsDigits : List ℕ → Type 0
+IsDigits text = (text ≢ []) × (list_all is_ascii_digit text ≡ true)
+
+-- The word is the number of an AS, with the letters `AS` before it or without. Example: `AS64496`, `64496`.
+abbrev pub IsAsWord : List ℕ → Type 0
+IsAsWord word = IsDigits word ⊎ ((digits : List ℕ) × (word ≡ codes "AS" ++ digits) × IsDigits digits)
+
+-- The text begins with the number of an AS and an entry, as a VRP does. Example: `AS64496,10.1.0.0/16,16`.
+abbrev pub BeginsWithVrp : List ℕ → Type 0
+BeginsWithVrp text = IsAsWord (leading text) × BeginsWithEntry (after_leading text)
+
+-- The text begins with a rule, a change, the words of a router's prefix list, or a VRP.
+abbrev pub BeginsWithRule : List ℕ → Type 0
+BeginsWithRule text = BeginsWithAction text ⊎ (BeginsWithPrefixList text ⊎ BeginsWithVrp text)
+
+-- The comment begins with ";" (59), and its text begins with an entry, a rule, a change, the words of a router's prefix
+-- list, or a VRP.
 -- Example: `; 10.1.0.0/16 # ours`, `; deny 10.1.0.0/16`; not `; office`, `# 10.1.0.0/16`.
 pub record HidesEntry (comment : List ℕ) : Type 0 where
   pub some : comment ≢ []

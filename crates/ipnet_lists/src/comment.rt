@@ -3,10 +3,11 @@ ghost use Rattle.std.specs.Prelude.{◌≡◌, ◌==◌, ◌↔◌, ◌<◌, len
 ghost use Rattle.std.specs.List.{before_first};
 ghost use Rattle.ipnet_lists.specs.Comments as comments;
 ghost use Rattle.ipnet_lists.specs.Comments.{Opens, IsCommentAt, BeginsWithEntry, IsRuleStart, IsAddressesWord};
-ghost use Rattle.ipnet_lists.specs.Comments.{BeginsWithRule, HidesEntry};
+ghost use Rattle.ipnet_lists.specs.Comments.{BeginsWithAction, BeginsWithPrefixList, BeginsWithRule, BeginsWithVrp};
+ghost use Rattle.ipnet_lists.specs.Comments.{HidesEntry, IsAsWord, IsDigits};
 ghost use Rattle.ipnet_lists.specs.Lists.{IsContents};
 
-use crate::bytes::has_byte;
+use crate::bytes::{are_digits, has_byte};
 use crate::cause_words::is_entry_word;
 use crate::word::{after_leading, from_word, leading_word, two_words};
 use memchr::{memchr, memchr2};
@@ -87,8 +88,8 @@ fn is_addresses_word(word: &[u8]) -> bool
 }
 
 /// Whether the text begins with a rule or a change.
-fn begins_with_rule(text: &[u8]) -> bool
-    ensures { IsTrue result ↔ BeginsWithRule text.now }
+fn begins_with_action(text: &[u8]) -> bool
+    ensures { IsTrue result ↔ BeginsWithAction text.now }
 {
     if !is_rule_start(leading_word(text)) {
         return false;
@@ -97,7 +98,49 @@ fn begins_with_rule(text: &[u8]) -> bool
     begins_with_entry(rest) || is_addresses_word(leading_word(rest))
 }
 
-/// Whether the comment begins with ";", and its text with an entry, a rule or a change.
+/// Whether the text begins with the words of a router's prefix list.
+fn begins_with_prefix_list(text: &[u8]) -> bool
+    ensures { IsTrue result ↔ BeginsWithPrefixList text.now }
+{
+    let word = leading_word(text);
+    if word != b"ip".as_slice() && word != b"ipv6".as_slice() {
+        return false;
+    }
+    leading_word(after_leading(text)) == b"prefix-list".as_slice()
+}
+
+/// Whether the text is decimal digits.
+fn is_number(text: &[u8]) -> bool
+    ensures { IsTrue result ↔ IsDigits text.now }
+{
+    !text.is_empty() && are_digits(text)
+}
+
+/// Whether the word is the number of an AS.
+fn is_as_word(word: &[u8]) -> bool
+    ensures { IsTrue result ↔ IsAsWord word.now }
+{
+    match word.strip_prefix(b"AS") {
+        Some(digits) => is_number(digits),
+        None => is_number(word),
+    }
+}
+
+/// Whether the text begins with a VRP: the number of an AS, and an entry.
+fn begins_with_vrp(text: &[u8]) -> bool
+    ensures { IsTrue result ↔ BeginsWithVrp text.now }
+{
+    is_as_word(leading_word(text)) && begins_with_entry(after_leading(text))
+}
+
+/// Whether the text begins with a rule, a change, the words of a router's prefix list, or a VRP.
+fn begins_with_rule(text: &[u8]) -> bool
+    ensures { IsTrue result ↔ BeginsWithRule text.now }
+{
+    begins_with_action(text) || begins_with_prefix_list(text) || begins_with_vrp(text)
+}
+
+/// Whether the comment begins with ";", and its text with an entry, or with a line of another kind of list.
 fn hides_entry(comment: &[u8]) -> bool
     ensures { IsTrue result ↔ HidesEntry comment.now }
 {
@@ -109,7 +152,7 @@ fn hides_entry(comment: &[u8]) -> bool
 }
 
 /// Returns the contents of the line: the text before its comment, or the whole line if the comment hides an entry, a
-/// rule or a change, or if a carriage return is between other bytes than blanks. Otherwise a line that is only a
+/// rule, a change or a VRP, or if a carriage return is between other bytes than blanks. Otherwise a line that is only a
 /// comment has no contents, whatever is in the comment.
 ///
 /// ```text
