@@ -146,7 +146,8 @@ fn is_allowed<L: ListReader>(
     refused: usize,
     reports: Reports,
 ) -> bool
-    ensures exact { IsTrue result ↔ ((L.holds reader.now ≡ true) ⊎ ((L.refused reader.now ≢ refused)
+    ensures exact { IsTrue result ↔ ((L.holds reader.now ≡ true)
+        ⊎ (((reports.skips_bad ≡ false) × (L.refused reader.now ≢ refused))
         ⊎ ((name.now ≡ standard_input) ⊎ (reports.empties ≢ Refuse)))) }
     ensures allowed { reports.empties ≢ Refuse → IsTrue result }
 {
