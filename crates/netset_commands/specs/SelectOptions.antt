@@ -1,11 +1,15 @@
 -- The options of `select`.
-use Rattle.std.specs.Prelude.{◌≡◌, ℕ, List, Option, Some, None, codes}
+use Rattle.std.specs.Prelude.{◌≡◌, ◌∷◌, ◌++◌, ℕ, List, [], Option, Some, None, codes, length}
 use Rattle.clap.specs.declared.parser.matches.ArgMatches.{ArgMatches}
 use Rattle.clap.specs.Matches.{found_of, first_value}
+use Rattle.ipnet_text.specs.Inputs.{GaveWhole}
 use Rattle.netset_commands.specs.Arguments.{IsFlag}
 use Rattle.netset_commands.specs.Calls.{AreFlags}
 use Rattle.netset_entries.specs.declared.choice.LengthBounds.{LengthBounds}
+use Rattle.netset_entries.specs.SelectSteps.{WereSelected, IsNoted, has_entry}
 use Rattle.netset_entries.specs.declared.selected.SelectRequest.{SelectRequest}
+use Rattle.netset_entries.specs.declared.selection.Selection.{Selection}
+use Rattle.netset_files.specs.ListReads.{Left}
 use Rattle.netset_lib.specs.Commands.{grammar_of, families_of}
 use Rattle.netset_lib.specs.PlanAnswers.{IsLengthText}
 use Rattle.netset_lib.specs.declared.command.Flags.{Flags}
@@ -37,3 +41,10 @@ pub record IsSelectRequest (matches : ArgMatches) (request : SelectRequest) : Ty
   pub lengths : request.choice.lengths ≡ bounds_of longer shorter
   pub sort : IsFlag matches (codes "sort") request.sort
   pub unique : IsFlag matches (codes "unique") request.unique
+
+-- The selection has read one list more than before.
+abbrev pub SelectsNext : Left → Left → Selection → Selection → Type 0
+SelectsNext left left_after old new = (request : SelectRequest) → (lists : List (List ℕ))
+    → WereSelected request lists old
+    → ((bytes : List ℕ) × GaveWhole left left_after bytes × WereSelected request (lists ++ bytes ∷ []) new
+    × IsNoted request.grammar (length lists) bytes (has_entry new))

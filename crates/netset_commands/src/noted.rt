@@ -56,11 +56,16 @@ impl<R: Read> Read for NotedInput<'_, R> {
 impl ListReader for NotedReader {
     type List = IpSet;
 
-    ghost use Rattle.netset_lib.specs.SetReaders.{has_entry, refused_count};
+    ghost use Rattle.std.specs.Prelude.{None};
+    ghost use Rattle.ipnet_lists.specs.Lists.{HaveAddresses};
+    ghost use Rattle.ipnet_sets.specs.Members.{IsMember};
+    ghost use Rattle.netset_lib.specs.SetReaders.{ReadsNext, has_entry, refused_count};
 
     ghost refused = { λ noted. refused_count noted.sets };
 
     ghost holds = { λ noted. has_entry noted.sets };
+
+    ghost reads = { λ _ _ old set new. ReadsNext (HaveAddresses (IsMember set)) None None old.sets new.sets };
 
     fn read<R: Read>(self, input: &mut R) -> Result<(NotedReader, IpSet), ReadFailure> {
         let NotedReader {

@@ -1,5 +1,5 @@
 //! A run of the program: its arguments, its output and its command.
-ghost use Rattle.std.specs.Prelude.{◌≡◌, ◌≤◌, true, codes, IfErr};
+ghost use Rattle.std.specs.Prelude.{◌≡◌, ◌≤◌, ◌⊎◌, true, codes, IfErr};
 ghost use Rattle.netset_commands.specs.Arguments.{IsFlag};
 ghost use Rattle.netset_commands.specs.Calls.{AreFlags};
 ghost use Rattle.netset_files.specs.Statuses.{IsExitStatus, IsUsualStatus};
@@ -134,25 +134,24 @@ pub fn run(rt: &HostRuntime, version: &'static str) -> u8
 /// escaped, and then parsed again.
 #[inline(never)]
 fn print_fault(rt: &HostRuntime, error: &clap::Error, words: &[String], version: &'static str) -> u8
-    ensures { IsUsualStatus result }
+    ensures { result ≡ 2 }
 {
     if let Ok(shown) = escaped(rt.alloc(), words) {
         if let Err(fault) = matches_of(rt.alloc(), shown.as_slice(), version) {
-            return print_usage(rt, &fault);
+            let _ = fault.print(rt);
+            return 2;
         }
     }
-    print_usage(rt, error)
+    let _ = error.print(rt);
+    2
 }
 
-/// Prints help, the version or what is wrong with the arguments, and returns the status.
+/// Prints help or the version, and returns the status.
 fn print_usage(rt: &HostRuntime, error: &clap::Error) -> u8
-    ensures { IsUsualStatus result }
+    ensures usual { IsUsualStatus result }
+    ensures exact { (result ≡ 0) ⊎ ((result ≡ 2) ⊎ (result ≡ 141)) }
 {
-    let result = error.print(rt);
-    if error.use_stderr() {
-        return 2;
-    }
-    match result {
+    match error.print(rt) {
         Ok(()) => 0,
         Err(fault) if fault.kind() == ErrorKind::BrokenPipe => CLOSED,
         Err(_) => {

@@ -87,11 +87,14 @@ struct SelectedLists {
 impl ListReader for SelectedLists {
     type List = ();
 
+    ghost use Rattle.netset_commands.specs.SelectOptions.{SelectsNext};
     ghost use Rattle.netset_entries.specs.SelectSteps.{has_entry, refused_count};
 
     ghost refused = { λ lists. refused_count lists.selection };
 
     ghost holds = { λ lists. has_entry lists.selection };
+
+    ghost reads = { λ left left_after old _ new. SelectsNext left left_after old.selection new.selection };
 
     fn read<R: Read>(self, input: &mut R) -> Result<(SelectedLists, ()), ReadFailure> {
         let selection = self.selection.read(input)?;
