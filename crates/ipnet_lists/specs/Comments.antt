@@ -81,8 +81,8 @@ BeginsWithRouting text = BeginsWithPrefixWords text ⊎ BeginsWithVrp text
 abbrev pub BeginsWithRule : List ℕ → Type 0
 BeginsWithRule text = BeginsWithAction text ⊎ BeginsWithRouting text
 
--- The comment begins with ";" (59), and its text begins with an entry, a rule, a change, words of a router's prefix list,
--- or a VRP.
+-- The comment begins with ";" (59), and its text begins with an entry, a rule, a change, words of a router's prefix
+-- list, or a VRP.
 -- Example: `; 10.1.0.0/16 # ours`, `; deny 10.1.0.0/16`; not `; office`, `# 10.1.0.0/16`.
 pub record HidesEntry (comment : List ℕ) : Type 0 where
   pub some : comment ≢ []

@@ -3,9 +3,9 @@ ghost use Rattle.std.specs.Prelude.{◌≡◌, ◌==◌, ◌↔◌, ◌<◌, len
 ghost use Rattle.std.specs.List.{before_first};
 ghost use Rattle.ipnet_lists.specs.Comments as comments;
 ghost use Rattle.ipnet_lists.specs.Comments.{Opens, IsCommentAt, BeginsWithEntry, IsRuleStart, IsAddressesWord};
-ghost use Rattle.ipnet_lists.specs.Comments.{BeginsWithAction, BeginsWithBound, BeginsWithPrefixList, BeginsWithPrefixWords};
-ghost use Rattle.ipnet_lists.specs.Comments.{BeginsWithRouting, BeginsWithRule, BeginsWithVrp, HidesEntry, IsAsWord};
-ghost use Rattle.ipnet_lists.specs.Comments.{IsDigits};
+ghost use Rattle.ipnet_lists.specs.Comments.{BeginsWithAction, BeginsWithBound, BeginsWithPrefixList};
+ghost use Rattle.ipnet_lists.specs.Comments.{BeginsWithPrefixWords, BeginsWithRouting, BeginsWithRule, BeginsWithVrp};
+ghost use Rattle.ipnet_lists.specs.Comments.{HidesEntry, IsAsWord, IsDigits};
 ghost use Rattle.ipnet_lists.specs.Lists.{IsContents};
 
 use crate::bytes::{are_digits, has_byte};
