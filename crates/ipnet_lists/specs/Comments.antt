@@ -43,9 +43,9 @@ IsAddressesWord word = (word ≡ codes "any") ⊎ ((word ≡ codes "all") ⊎ ((
 
 -- The text begins with a rule or a change. Example: `deny 10.1.0.0/16`, `permit any`, `+ 10.1.0.0/16`; not
 -- `deny list of May`.
-abbrev pub BeginsWithAction : List ℕ → Type 0
-BeginsWithAction text =
-    IsRuleStart (leading text) × (BeginsWithEntry (after_leading text) ⊎ IsAddressesWord (leading (after_leading text)))
+pub record BeginsWithAction (text : List ℕ) : Type 0 where
+  pub start : IsRuleStart (leading text)
+  pub named : BeginsWithEntry (after_leading text) ⊎ IsAddressesWord (leading (after_leading text))
 
 -- The text begins with the words of a router's prefix list. Example: `ip prefix-list A permit 10.1.0.0/16`.
 abbrev pub BeginsWithPrefixList : List ℕ → Type 0
@@ -66,8 +66,8 @@ abbrev pub BeginsWithPrefixWords : List ℕ → Type 0
 BeginsWithPrefixWords text = BeginsWithPrefixList text ⊎ BeginsWithBound text
 
 -- The word is the number of an AS, with the letters `AS` before it or without. Example: `AS64496`, `64496`.
-abbrev pub IsAsWord : List ℕ → Type 0
-IsAsWord word = IsDigits word ⊎ ((digits : List ℕ) × (word ≡ codes "AS" ++ digits) × IsDigits digits)
+pub record IsAsWord (word : List ℕ) : Type 0 where
+  pub number : IsDigits word ⊎ ((digits : List ℕ) × (word ≡ codes "AS" ++ digits) × IsDigits digits)
 
 -- The text begins with the number of an AS and an entry, as a VRP does. Example: `AS64496,10.1.0.0/16,16`.
 abbrev pub BeginsWithVrp : List ℕ → Type 0
