@@ -41,15 +41,21 @@ abbrev pub operation_names : List (List ℕ)
 operation_names = codes "union" ∷ codes "intersection" ∷ codes "difference" ∷ codes "symmetric-difference"
     ∷ codes "complement" ∷ []
 
--- The commands that ask about lists, in the order in which help lists them.
-abbrev pub query_names : List (List ℕ)
-query_names = codes "count" ∷ codes "compare" ∷ codes "changes" ∷ codes "apply" ∷ codes "extract" ∷ codes "filter"
-    ∷ codes "route" ∷ []
+-- The commands that count and compare lists, and change one, in the order in which help lists them.
+abbrev pub count_names : List (List ℕ)
+count_names = codes "count" ∷ codes "compare" ∷ codes "changes" ∷ codes "apply" ∷ []
 
--- The commands about free space, pictures and limits, in the order in which help lists them.
+-- The commands that ask about the entries of a text or a list, in the order in which help lists them.
+abbrev pub search_names : List (List ℕ)
+search_names = codes "extract" ∷ codes "filter" ∷ codes "route" ∷ []
+
+-- The commands about free space, and pictures, in the order in which help lists them.
 abbrev pub space_names : List (List ℕ)
-space_names = codes "plan" ∷ codes "bar" ∷ codes "map" ∷ codes "supernet" ∷ codes "fit"
-    ∷ codes "shorten" ∷ []
+space_names = codes "plan" ∷ codes "bar" ∷ codes "map" ∷ []
+
+-- The commands about the networks around a list, and within a limit, in the order in which help lists them.
+abbrev pub limit_names : List (List ℕ)
+limit_names = codes "supernet" ∷ codes "fit" ∷ codes "shorten" ∷ []
 
 -- The commands about entries and networks, in the order in which help lists them.
 abbrev pub entry_names : List (List ℕ)
@@ -60,6 +66,10 @@ entry_names = codes "redundant" ∷ codes "overlaps" ∷ codes "find" ∷ codes 
 abbrev pub rule_names : List (List ℕ)
 rule_names = codes "permitted" ∷ codes "unreached" ∷ codes "prefix-list" ∷ codes "origins" ∷ []
 
+-- The commands about addresses and entries, in the order in which help lists them.
+abbrev pub list_commands : List (List ℕ)
+list_commands = (operation_names ++ count_names) ++ search_names
+
 -- The commands of the program, in the order in which help lists them.
 abbrev pub all_commands : List (List ℕ)
-all_commands = (((operation_names ++ query_names) ++ space_names) ++ entry_names) ++ rule_names
+all_commands = (((list_commands ++ space_names) ++ limit_names) ++ entry_names) ++ rule_names

@@ -2,8 +2,9 @@
 ghost use Rattle.std.specs.Prelude.{◌≡◌, ◌++◌, IfOk};
 ghost use Rattle.clap.specs.Built.{IsParsedFrom};
 ghost use Rattle.clap.specs.declared.builder.command.Command.{Command};
-ghost use Rattle.netset_commands.specs.CommandLines.{all_commands, command_names, names_in, space_names};
-ghost use Rattle.netset_commands.specs.CommandLines.{entry_names, operation_names, query_names, rule_names};
+ghost use Rattle.netset_commands.specs.CommandLines.{all_commands, command_names, count_names, entry_names};
+ghost use Rattle.netset_commands.specs.CommandLines.{limit_names, list_commands, names_in, operation_names};
+ghost use Rattle.netset_commands.specs.CommandLines.{rule_names, search_names, space_names};
 
 use crate::apply::APPLY_COMMAND;
 use crate::arguments::{
@@ -189,8 +190,8 @@ const OPERATIONS: &[Subcommand] = &[
     },
 ];
 
-/// The commands that ask about lists.
-const QUERIES: &[Subcommand] = &[
+/// The commands that count and compare lists, and change one.
+const COUNTS: &[Subcommand] = &[
     Subcommand {
         name: COUNT,
         about: "For each list its name, and how many IPv4 and IPv6 addresses it has, with tabs between; then the total",
@@ -203,6 +204,10 @@ const QUERIES: &[Subcommand] = &[
     },
     CHANGES_COMMAND,
     APPLY_COMMAND,
+];
+
+/// The commands that ask about the entries of a text or a list.
+const SEARCHES: &[Subcommand] = &[
     EXTRACT_COMMAND,
     Subcommand {
         name: FILTER,
@@ -216,15 +221,11 @@ const QUERIES: &[Subcommand] = &[
     },
 ];
 
-/// The commands about free space, pictures and limits.
-const SPACE_COMMANDS: &[Subcommand] = &[
-    PLAN_COMMAND,
-    BAR_COMMAND,
-    MAP_COMMAND,
-    SUPERNET_COMMAND,
-    FIT_COMMAND,
-    SHORTEN_COMMAND,
-];
+/// The commands about free space, and pictures.
+const SPACE_COMMANDS: &[Subcommand] = &[PLAN_COMMAND, BAR_COMMAND, MAP_COMMAND];
+
+/// The commands about the networks around a list, and within a limit.
+const LIMIT_COMMANDS: &[Subcommand] = &[SUPERNET_COMMAND, FIT_COMMAND, SHORTEN_COMMAND];
 
 /// The commands about entries and networks.
 const ENTRY_COMMANDS: &[Subcommand] = &[
@@ -253,20 +254,36 @@ fn operations() -> &'static [Subcommand]
     OPERATIONS
 }
 
-/// The commands that ask about lists.
+/// The commands that count and compare lists, and change one.
 #[inline(never)]
-fn queries() -> &'static [Subcommand]
-    ensures { names_in result.now ≡ query_names }
+fn counts() -> &'static [Subcommand]
+    ensures { names_in result.now ≡ count_names }
 {
-    QUERIES
+    COUNTS
 }
 
-/// The commands about free space, pictures and limits.
+/// The commands that ask about the entries of a text or a list.
+#[inline(never)]
+fn searches() -> &'static [Subcommand]
+    ensures { names_in result.now ≡ search_names }
+{
+    SEARCHES
+}
+
+/// The commands about free space, and pictures.
 #[inline(never)]
 fn space_commands() -> &'static [Subcommand]
     ensures { names_in result.now ≡ space_names }
 {
     SPACE_COMMANDS
+}
+
+/// The commands about the networks around a list, and within a limit.
+#[inline(never)]
+fn limit_commands() -> &'static [Subcommand]
+    ensures { names_in result.now ≡ limit_names }
+{
+    LIMIT_COMMANDS
 }
 
 /// The commands about entries and networks.
@@ -300,10 +317,10 @@ fn with_commands<'a>(
     Ok(command)
 }
 
-/// The command line of the program with this version, with its commands in the order in which help lists them.
+/// The command line of the program with this version, with the commands about addresses and entries.
 #[inline(never)]
-fn command<'a>(alloc: Global, version: &'a str) -> Result<Command<'a>, AllocError>
-    ensures { IfOk result (λ r. command_names r ≡ all_commands) }
+fn list_command<'a>(alloc: Global, version: &'a str) -> Result<Command<'a>, AllocError>
+    ensures { IfOk result (λ r. command_names r ≡ list_commands) }
 {
     let command = Command::new(alloc, "netset")
         .version(version)
@@ -311,8 +328,18 @@ fn command<'a>(alloc: Global, version: &'a str) -> Result<Command<'a>, AllocErro
         .subcommand_required(true)
         .arg_required_else_help(true);
     let command = with_commands(alloc, command, operations())?;
-    let command = with_commands(alloc, command, queries())?;
+    let command = with_commands(alloc, command, counts())?;
+    with_commands(alloc, command, searches())
+}
+
+/// The command line of the program with this version, with its commands in the order in which help lists them.
+#[inline(never)]
+fn command<'a>(alloc: Global, version: &'a str) -> Result<Command<'a>, AllocError>
+    ensures { IfOk result (λ r. command_names r ≡ all_commands) }
+{
+    let command = list_command(alloc, version)?;
     let command = with_commands(alloc, command, space_commands())?;
+    let command = with_commands(alloc, command, limit_commands())?;
     let command = with_commands(alloc, command, entry_commands())?;
     with_commands(alloc, command, rule_commands())
 }
