@@ -1,6 +1,6 @@
 //! The command `select`: its arguments, and its run.
 ghost use Rattle.std.specs.Prelude.{◌≡◌, ◌≤◌, IfOk, IfErr};
-ghost use Rattle.netset_commands.specs.SelectOptions.{IsLengthGiven, IsSelectRequest, bounds_of};
+ghost use Rattle.netset_commands.specs.SelectOptions.{IsLengthGiven, AreBoundsGiven, IsSelectRequest, bounds_of};
 
 use crate::arguments::{
     ANY_LISTS, ArgumentFailure, SHARED, flags_of, is_set, report_argument_failure,
@@ -14,8 +14,9 @@ use clap::ArgMatches;
 use ipnet_lists::ReadFailure;
 use netset_entries::{EntryChoice, LengthBounds, SelectRequest, Selection};
 use netset_files::{ListReader, Lists, Reports, Writers};
+use netset_lib::reports::long_words;
 use netset_lib::{families, run_text};
-use std::io::Read;
+use std::io::{Read, Write};
 
 /// The name of the command.
 pub const SELECT: &str = "select";
@@ -24,6 +25,14 @@ pub const SELECT: &str = "select";
 const LONGER: &str = "longer";
 
 const SHORTER: &str = "shorter";
+
+const IPV4_LONGER: &str = "ipv4-longer";
+
+const IPV4_SHORTER: &str = "ipv4-shorter";
+
+const IPV6_LONGER: &str = "ipv6-longer";
+
+const IPV6_SHORTER: &str = "ipv6-shorter";
 
 const SORT: &str = "sort";
 
@@ -55,6 +64,30 @@ const SELECT_ARGUMENTS: &[Argument] = &[
         id: SHORTER,
         form: Form::Value(SHORTER, "LEN"),
         help: "Print only entries with at most this prefix length; ranges that are not a network have none",
+        ..ARGUMENT
+    },
+    Argument {
+        id: IPV4_LONGER,
+        form: Form::Value(IPV4_LONGER, "LEN"),
+        help: "As --longer for the IPv4 entries; it does not matter for the IPv6 entries",
+        ..ARGUMENT
+    },
+    Argument {
+        id: IPV4_SHORTER,
+        form: Form::Value(IPV4_SHORTER, "LEN"),
+        help: "As --shorter for the IPv4 entries",
+        ..ARGUMENT
+    },
+    Argument {
+        id: IPV6_LONGER,
+        form: Form::Value(IPV6_LONGER, "LEN"),
+        help: "As --longer for the IPv6 entries; it does not matter for the IPv4 entries",
+        ..ARGUMENT
+    },
+    Argument {
+        id: IPV6_SHORTER,
+        form: Form::Value(IPV6_SHORTER, "LEN"),
+        help: "As --shorter for the IPv6 entries",
         ..ARGUMENT
     },
     Argument {
@@ -107,15 +140,30 @@ impl ListReader for SelectedLists {
     }
 }
 
-/// Reads the prefix length of the option, or `None` if it is omitted. If the word is not one, it is reported, and the
-/// error is the exit status.
-fn length_of(rt: &HostRuntime, matches: &ArgMatches, id: &str) -> Result<Option<u8>, u8>
-    ensures length { IfOk result (IsLengthGiven matches.now id.now) }
+/// Prints that the prefix length is above the greatest of its family, and returns the status.
+fn report_long(rt: &HostRuntime, length: u8, greatest: u8) -> u8
+    ensures { result ≡ 2 }
+{
+    let words = long_words(length, greatest);
+    let _ = writeln!(rt.stderr(), "netset: {words}");
+    2
+}
+
+/// Reads the prefix length of the option, or `None` if it is omitted. If the word is not one, or if it is above
+/// `greatest`, it is reported, and the error is the exit status.
+fn length_of(
+    rt: &HostRuntime,
+    matches: &ArgMatches,
+    id: &str,
+    greatest: u8,
+) -> Result<Option<u8>, u8>
+    ensures length { IfOk result (IsLengthGiven matches.now id.now greatest) }
     ensures failed { IfErr result (λ status. status ≡ 2) }
 {
     match matches.get_str(id) {
         Some(word) => match length_or_report(rt, word) {
-            Some(length) => Ok(Some(length)),
+            Some(length) if length <= greatest => Ok(Some(length)),
+            Some(length) => Err(report_long(rt, length, greatest)),
             None => Err(2),
         },
         None => Ok(None),
@@ -134,17 +182,38 @@ fn bounds_of(longer: Option<u8>, shorter: Option<u8>) -> Option<LengthBounds>
     }
 }
 
-/// Reads the options. If a word is not a prefix length, it is reported, and the error is the exit status.
+/// Reads the bounds that two options give. The prefix lengths are at most `greatest`. If a word is not such a length, it
+/// is reported, and the error is the exit status.
+fn bounds_given(
+    rt: &HostRuntime,
+    matches: &ArgMatches,
+    longer: &str,
+    shorter: &str,
+    greatest: u8,
+) -> Result<Option<LengthBounds>, u8>
+    ensures bounds { IfOk result (AreBoundsGiven matches.now longer.now shorter.now greatest) }
+    ensures failed { IfErr result (λ status. status ≡ 2) }
+{
+    let longer = length_of(rt, matches, longer, greatest)?;
+    let shorter = length_of(rt, matches, shorter, greatest)?;
+    Ok(bounds_of(longer, shorter))
+}
+
+/// Reads the options. If a word is not a prefix length of its family, that is reported, and the error is the exit
+/// status.
 fn request_of(rt: &HostRuntime, matches: &ArgMatches) -> Result<SelectRequest, u8>
     ensures request { IfOk result (IsSelectRequest matches.now) }
     ensures failed { IfErr result (λ status. status ≡ 2) }
 {
     let flags = flags_of(matches);
-    let longer = length_of(rt, matches, LONGER)?;
-    let shorter = length_of(rt, matches, SHORTER)?;
+    let lengths = bounds_given(rt, matches, LONGER, SHORTER, 128)?;
+    let ipv4_lengths = bounds_given(rt, matches, IPV4_LONGER, IPV4_SHORTER, 32)?;
+    let ipv6_lengths = bounds_given(rt, matches, IPV6_LONGER, IPV6_SHORTER, 128)?;
     let choice = EntryChoice {
         families: families(flags.ipv4, flags.ipv6),
-        lengths: bounds_of(longer, shorter),
+        lengths,
+        ipv4_lengths,
+        ipv6_lengths,
     };
     Ok(SelectRequest {
         grammar: flags.grammar(),
