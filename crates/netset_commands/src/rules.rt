@@ -2,9 +2,7 @@
 ghost use Rattle.std.specs.Prelude.{◌≡◌, ◌≤◌, IfErr};
 ghost use Rattle.netset_commands.specs.Arguments.{IsDefault};
 
-use crate::arguments::{
-    ArgumentFailure, FIRST, SHARED, flags_of, report_argument_failure,
-};
+use crate::arguments::{ArgumentFailure, FIRST, SHARED, flags_of, report_argument_failure};
 use crate::forms::{ANSWER_FORM, form_of, needs_address};
 use crate::named_lists::{name_of_list, reads_input_twice};
 use crate::table::{ARGUMENT, Argument, Form, Subcommand};
