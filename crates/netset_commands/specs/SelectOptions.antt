@@ -10,12 +10,16 @@ use Rattle.netset_lib.specs.Commands.{grammar_of, families_of}
 use Rattle.netset_lib.specs.PlanAnswers.{IsLengthText}
 use Rattle.netset_lib.specs.declared.command.Flags.{Flags}
 
--- The value of the option with this id is this prefix length, which is at most `greatest`; or there is neither.
--- Example: 24 for `--longer 24`.
-abbrev pub IsLengthGiven : ArgMatches → List ℕ → (greatest : ℕ) → Option ℕ → Type 0
-IsLengthGiven matches id greatest None = first_value (found_of matches) id ≡ None
-IsLengthGiven matches id greatest (Some n) =
-    (word : List ℕ) × (first_value (found_of matches) id ≡ Some word) × IsLengthText word n × (n ≤ greatest)
+-- The value of the option with this id is this prefix length, or there is neither. Example: 24 for `--longer 24`.
+abbrev pub IsLengthGiven : ArgMatches → List ℕ → Option ℕ → Type 0
+IsLengthGiven matches id None = first_value (found_of matches) id ≡ None
+IsLengthGiven matches id (Some n) =
+    (word : List ℕ) × (first_value (found_of matches) id ≡ Some word) × IsLengthText word n
+
+-- The prefix length is at most the greatest one of its family, or there is none.
+abbrev pub IsAtMost : (greatest : ℕ) → Option ℕ → Type 0
+IsAtMost greatest None = Unit {0}
+IsAtMost greatest (Some n) = n ≤ greatest
 
 -- The bounds of prefix lengths: at least the first length, and at most the second; 0 and 128 if one is not given.
 abbrev pub bounds_of : (longer shorter : Option ℕ) → Option LengthBounds
@@ -29,9 +33,11 @@ bounds_of (Some longer) (Some shorter) = Some (record { least = longer; most = s
 pub record AreBoundsGiven (matches : ArgMatches) (longer_id shorter_id : List ℕ) (greatest : ℕ)
     (bounds : Option LengthBounds) : Type 0 where
   pub longer : Option ℕ
-  pub longer_given : IsLengthGiven matches longer_id greatest longer
+  pub longer_given : IsLengthGiven matches longer_id longer
+  pub longer_most : IsAtMost greatest longer
   pub shorter : Option ℕ
-  pub shorter_given : IsLengthGiven matches shorter_id greatest shorter
+  pub shorter_given : IsLengthGiven matches shorter_id shorter
+  pub shorter_most : IsAtMost greatest shorter
   pub are : bounds ≡ bounds_of longer shorter
 
 -- This is the request of a command line.

@@ -1,6 +1,7 @@
 //! The command `select`: its arguments, and its run.
-ghost use Rattle.std.specs.Prelude.{◌≡◌, ◌≤◌, IfOk, IfErr};
-ghost use Rattle.netset_commands.specs.SelectOptions.{IsLengthGiven, AreBoundsGiven, IsSelectRequest, bounds_of};
+ghost use Rattle.std.specs.Prelude.{◌≡◌, ◌≤◌, ◌↔◌, IfOk, IfErr, IsOk};
+ghost use Rattle.netset_commands.specs.SelectOptions.{IsLengthGiven, IsAtMost, AreBoundsGiven, IsSelectRequest};
+ghost use Rattle.netset_commands.specs.SelectOptions.{bounds_of};
 
 use crate::arguments::{
     ANY_LISTS, ArgumentFailure, SHARED, flags_of, is_set, report_argument_failure,
@@ -140,34 +141,35 @@ impl ListReader for SelectedLists {
     }
 }
 
-/// Prints that the prefix length is above the greatest of its family, and returns the status.
-fn report_long(rt: &HostRuntime, length: u8, greatest: u8) -> u8
-    ensures { result ≡ 2 }
-{
-    let words = long_words(length, greatest);
-    let _ = writeln!(rt.stderr(), "netset: {words}");
-    2
-}
-
-/// Reads the prefix length of the option, or `None` if it is omitted. If the word is not one, or if it is above
-/// `greatest`, it is reported, and the error is the exit status.
-fn length_of(
-    rt: &HostRuntime,
-    matches: &ArgMatches,
-    id: &str,
-    greatest: u8,
-) -> Result<Option<u8>, u8>
-    ensures length { IfOk result (IsLengthGiven matches.now id.now greatest) }
+/// Reads the prefix length of the option, or `None` if it is omitted. If the word is not one, it is reported, and the
+/// error is the exit status.
+fn length_of(rt: &HostRuntime, matches: &ArgMatches, id: &str) -> Result<Option<u8>, u8>
+    ensures length { IfOk result (IsLengthGiven matches.now id.now) }
     ensures failed { IfErr result (λ status. status ≡ 2) }
 {
     match matches.get_str(id) {
         Some(word) => match length_or_report(rt, word) {
-            Some(length) if length <= greatest => Ok(Some(length)),
-            Some(length) => Err(report_long(rt, length, greatest)),
+            Some(length) => Ok(Some(length)),
             None => Err(2),
         },
         None => Ok(None),
     }
+}
+
+/// Refuses a prefix length above the greatest of its family. It is reported, and the error is the exit status.
+fn check_length(rt: &HostRuntime, length: Option<u8>, greatest: u8) -> Result<(), u8>
+    ensures within { IsOk result ↔ IsAtMost greatest length }
+    ensures failed { IfErr result (λ status. status ≡ 2) }
+{
+    let Some(length) = length else {
+        return Ok(());
+    };
+    if length <= greatest {
+        return Ok(());
+    }
+    let words = long_words(length, greatest);
+    let _ = writeln!(rt.stderr(), "netset: {words}");
+    Err(2)
 }
 
 /// The bounds of the prefix lengths, if one of them is given.
@@ -194,8 +196,10 @@ fn bounds_given(
     ensures bounds { IfOk result (AreBoundsGiven matches.now longer.now shorter.now greatest) }
     ensures failed { IfErr result (λ status. status ≡ 2) }
 {
-    let longer = length_of(rt, matches, longer, greatest)?;
-    let shorter = length_of(rt, matches, shorter, greatest)?;
+    let longer = length_of(rt, matches, longer)?;
+    let shorter = length_of(rt, matches, shorter)?;
+    check_length(rt, longer, greatest)?;
+    check_length(rt, shorter, greatest)?;
     Ok(bounds_of(longer, shorter))
 }
 

@@ -101,13 +101,14 @@ fn is_in_bounds(lengths: Option<LengthBounds>, entry: Entry) -> bool
 impl EntryChoice {
     ghost use Rattle.netset_entries.specs.Choices.{IsChosen};
 
-    /// The bounds of the prefix lengths that are only for the family of the entry.
-    fn bounds_for(&self, entry: Entry) -> Option<LengthBounds>
-        ensures { result ≡ bounds_for self.now (entry_range entry).family }
+    /// Returns whether the prefix length of the entry is in the bounds that are only for its family. If there are none,
+    /// it is.
+    fn is_in_own_bounds(&self, entry: Entry) -> bool
+        ensures { IsTrue result ↔ IsInBounds (bounds_for self.now (entry_range entry).family) (entry_range entry) }
     {
         match entry.ends().0 {
-            IpAddr::V4(_) => self.ipv4_lengths,
-            IpAddr::V6(_) => self.ipv6_lengths,
+            IpAddr::V4(_) => is_in_bounds(self.ipv4_lengths, entry),
+            IpAddr::V6(_) => is_in_bounds(self.ipv6_lengths, entry),
         }
     }
 
@@ -122,6 +123,6 @@ impl EntryChoice {
     {
         is_of_families(self.families, entry)
             && is_in_bounds(self.lengths, entry)
-            && is_in_bounds(self.bounds_for(entry), entry)
+            && self.is_in_own_bounds(entry)
     }
 }

@@ -1,7 +1,6 @@
 //! The addresses that one list of rules permits and another does not, as a command.
-ghost use Rattle.std.specs.Prelude.{◌≡◌, ◌↔◌, ℕ, List, IfOk, IfErr, OnOk};
+ghost use Rattle.std.specs.Prelude.{◌≡◌, ℕ, List, IfOk, IfErr};
 ghost use Rattle.ipnet.specs.declared.parser.Grammar.{Grammar};
-ghost use Rattle.ipnet_base.specs.Address.{Address};
 ghost use Rattle.ipnet_sets.specs.Members.{IsMember};
 ghost use Rattle.ipnet_sets.specs.declared.set.IpSet.{IpSet};
 ghost use Rattle.ipnet_text.specs.Outputs.{IsWritten, IsFrontWritten};
@@ -55,6 +54,7 @@ impl Report for RulePairFailure {
 }
 
 /// Returns the set of the addresses that the rules of the list permit and the others do not.
+#[tactic(auto, using(crate::proofs::FormLaws::difference_permitted))]
 fn newly_permitted(
     list: RuleList,
     except: RuleList,

@@ -7,5 +7,4 @@ returns-in-Some-length_or_report-clause-length c = (
   c.in-Some.word.now,
   sym c.get_str.ensures ∙ ap (option_map (λ s. s.now)) c.in-Some.is,
   c.in-Some-length_or_report.ensures,
-  omega (arith, c.in-Some-length_or_report),
 )
