@@ -184,8 +184,8 @@ fn bounds_of(longer: Option<u8>, shorter: Option<u8>) -> Option<LengthBounds>
     }
 }
 
-/// Reads the bounds that two options give. The prefix lengths are at most `greatest`. If a word is not such a length, it
-/// is reported, and the error is the exit status.
+/// Reads the bounds that two options give. The prefix lengths are at most `greatest`. If a word is not such a length,
+/// that is reported, and the error is the exit status.
 fn bounds_given(
     rt: &HostRuntime,
     matches: &ArgMatches,

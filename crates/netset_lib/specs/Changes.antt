@@ -48,8 +48,8 @@ pub record AreChangeLines (Before After : Address → Type 0) (text : List ℕ) 
   pub exact : AreChanges before after changes
   pub spelled : text ≡ text_of_changes changes
 
--- The text is the changes of addresses, one a line: the maximal blocks of the addresses that only the second set has are
--- added, and the maximal blocks of the addresses that only the first has are removed.
+-- The text is the changes of addresses, one a line: the maximal blocks of the addresses that only the second set has
+-- are added, and the maximal blocks of the addresses that only the first has are removed.
 -- Example: from 10.0.0.0-10.0.0.2 to 10.0.0.1-10.0.0.3, `- 10.0.0.0/32` and `+ 10.0.0.3/32`.
 abbrev pub AreAddressChanges : (Before After : Address → Type 0) → List ℕ → Type 0
 AreAddressChanges Before After = AreChangeLines (IsOnlyIn Before After) (IsOnlyIn After Before)

@@ -12,8 +12,8 @@ returns-in-Ok-write_form-clause-whole g c =
     let of = c.args.self in
     whole_weaker (λ text right grammar bytes except h k.
     text_of_edit of.default of.form grammar bytes except (contents_of of.list) (contents_of of.except)
-    (all_rules grammar bytes of.list h c.in-Ok.ensures.none) (all_rules grammar except of.except k c.in-Ok.ensures.others)
-    c.in-Ok.set c.in-Ok.ensures.set text right)
+    (all_rules grammar bytes of.list h c.in-Ok.ensures.none)
+    (all_rules grammar except of.except k c.in-Ok.ensures.others) c.in-Ok.set c.in-Ok.ensures.set text right)
     (g.W.Write.contents c.args.out.now) (g.W.Write.contents c.write_form.new.out) c.in-Ok-write_form.ensures.whole
 
 pub returns-in-Ok-write_form-clause-outcome : goal.returns-in-Ok-write_form-clause-outcome
