@@ -115,8 +115,8 @@ impl EntryChoice {
     /// Returns whether the entry is chosen.
     ///
     /// ```text
-    /// Both and 8 to 24:               10.0.0.0/8 and 10.0.0.0-10.255.255.255 are, 10.0.0.1 is not
-    /// Both, and 8 to 24 for IPv6:     fd00::/8 and 10.0.0.1 are, ::1 is not
+    /// Both and 8 to 24:           10.0.0.0/8 and 10.0.0.0-10.255.255.255 are, 10.0.0.1 is not
+    /// Both, and 8 to 24 for IPv6: fd00::/8 and 10.0.0.1 are, ::1 is not
     /// ```
     pub fn has(&self, entry: Entry) -> bool
         ensures { IsTrue result ↔ IsChosen self.now (entry_range entry) }
