@@ -103,6 +103,7 @@ impl EntryChoice {
 
     /// Returns whether the prefix length of the entry is in the bounds that are only for its family. If there are none,
     /// it is.
+    #[tactic(auto, using(crate::proofs::ChoiceLaws::own_ipv4, crate::proofs::ChoiceLaws::own_ipv6))]
     fn is_in_own_bounds(&self, entry: Entry) -> bool
         ensures { IsTrue result ↔ IsInBounds (bounds_for self.now (entry_range entry).family) (entry_range entry) }
     {

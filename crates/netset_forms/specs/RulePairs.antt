@@ -1,7 +1,8 @@
 -- Two lists of rules of which the first permits what the second does not: the set, and why there is none.
-use Rattle.std.specs.Prelude.{◌≡◌, ◌≢◌, ◌↔◌, ℕ, List, Option, codes, drop}
+use Rattle.std.specs.Prelude.{◌≡◌, ◌↔◌, ℕ, List, Option, codes, drop}
 use Rattle.ipnet_base.specs.Address.{Address}
 use Rattle.ipnet_lists.specs.Lists.{RefusalFor}
+use Rattle.ipnet_lists.specs.declared.content_line.ListFailure.TheVariants.{Refused}
 use Rattle.ipnet_lists.specs.Names.{Names}
 use Rattle.ipnet_lists.specs.Reports.{OfNew, IsReport, IsReportBegun}
 use Rattle.ipnet_rules.specs.declared.rules.Action.{Action}
@@ -12,6 +13,7 @@ use Rattle.netset_forms.specs.declared.newly_permitted.RulePairFailure.{RulePair
 use Rattle.netset_forms.specs.declared.newly_permitted.RulePairFailure.TheVariants.{First, Second, Memory}
 use Rattle.netset_forms.specs.FormAnswers.{IsNewlyPermitted}
 use Rattle.netset_lib.specs.Reasons.{Explains, rule_reason}
+use Rattle.netset_lib.specs.RuleAnswers.{IsRuleFailure}
 use Rattle.netset_lib.specs.Reports.{memory_line}
 use Rattle.netset_lib.specs.declared.rule_cause.RuleCause.{RuleCause}
 use Rattle.netset_lib.specs.declared.rule_list.RuleList.{RuleList}
@@ -21,13 +23,16 @@ abbrev pub IsNewlyPermittedSet : Action → (rules except : List Rule) → IpSet
 IsNewlyPermittedSet default rules except set =
     (x : Address) → IsMember set x ↔ IsNewlyPermitted rules except default x
 
+-- No line of the list is refused.
+abbrev pub HasNoRefusedRule : RuleList → Type 0
+HasNoRefusedRule list = list.refused.count ≡ 0
+
 -- Why there is no such set: the first list has refused lines, or only the second has. If the first has none, memory may
 -- run out; when it does is not specified.
 abbrev pub IsPairFailure : (list except : RuleList) → RulePairFailure → Type 0
-IsPairFailure list except (First lines) = (list.refused.count ≢ 0) × (lines ≡ list.refused)
-IsPairFailure list except (Second lines) =
-    (list.refused.count ≡ 0) × (except.refused.count ≢ 0) × (lines ≡ except.refused)
-IsPairFailure list except Memory = list.refused.count ≡ 0
+IsPairFailure list except (First lines) = IsRuleFailure list (Refused lines)
+IsPairFailure list except (Second lines) = HasNoRefusedRule list × IsRuleFailure except (Refused lines)
+IsPairFailure list except Memory = HasNoRefusedRule list
 
 -- The words for a line of a list of rules.
 abbrev pub ExplainsRule : RuleCause → List ℕ → List ℕ → Option (List ℕ) → Type 0

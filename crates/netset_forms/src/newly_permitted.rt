@@ -6,7 +6,8 @@ ghost use Rattle.ipnet_sets.specs.declared.set.IpSet.{IpSet};
 ghost use Rattle.ipnet_text.specs.Outputs.{IsWritten, IsFrontWritten};
 ghost use Rattle.netset_forms.specs.FormAnswers.{IsEnoughIf, IsNewlyPermitted, IsNewlyPermittedForm};
 ghost use Rattle.netset_forms.specs.Forms.{IsAskedFailure};
-ghost use Rattle.netset_forms.specs.RulePairs.{IsPairFailure, IsPairReport, IsPairBegun, IsNewlyPermittedSet};
+ghost use Rattle.netset_forms.specs.RulePairs.{HasNoRefusedRule, IsPairFailure, IsPairReport, IsPairBegun};
+ghost use Rattle.netset_forms.specs.RulePairs.{IsNewlyPermittedSet};
 ghost use Rattle.netset_lib.specs.RuleContentsOf.{WasRuleListRead, contents_of};
 ghost use Rattle.netset_lib.specs.Runs.{IsFault};
 
@@ -60,8 +61,8 @@ fn newly_permitted(
     except: RuleList,
     default: Action,
 ) -> Result<IpSet, RulePairFailure>
-    ensures none { IfOk result (λ _. list.refused.count ≡ 0) }
-    ensures others { IfOk result (λ _. except.refused.count ≡ 0) }
+    ensures none { IfOk result (λ _. HasNoRefusedRule list) }
+    ensures others { IfOk result (λ _. HasNoRefusedRule except) }
     ensures set { IfOk result
         (IsNewlyPermittedSet default (contents_of list).rules (contents_of except).rules) }
     ensures failure { IfErr result (IsPairFailure list except) }

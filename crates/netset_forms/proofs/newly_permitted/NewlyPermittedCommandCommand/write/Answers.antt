@@ -21,7 +21,7 @@ returns-in-Ok-write_form-clause-outcome g c =
     let of = c.args.self in
     enough_same of.needs_address of.form (IsMember c.in-Ok.set)
     (IsNewlyPermitted (contents_of of.list).rules (contents_of of.except).rules of.default) c.in-Ok.ensures.set
-    c.is_enough.result c.is_enough.ensures
+    c.is_enough-succeeds.result c.is_enough-succeeds.ensures
 
 pub returns-in-Err-write_form-clause-front : goal.returns-in-Err-write_form-clause-front
 returns-in-Err-write_form-clause-front g c =

@@ -13,7 +13,7 @@ returns-in-Ok-write_form-clause-whole g c =
 pub returns-in-Ok-write_form-clause-outcome : goal.returns-in-Ok-write_form-clause-outcome
 returns-in-Ok-write_form-clause-outcome g c =
     enough_same c.args.self.needs_address c.args.self.form (IsMember c.in-Ok.set) (IsInCombined c.args.self.combination)
-    c.in-Ok.ensures.combined.1 c.is_enough.result c.is_enough.ensures
+    c.in-Ok.ensures.combined.1 c.is_enough-succeeds.result c.is_enough-succeeds.ensures
 
 pub returns-in-Err-write_form-clause-front : goal.returns-in-Err-write_form-clause-front
 returns-in-Err-write_form-clause-front g c =

@@ -19,7 +19,7 @@ pub returns-in-Ok-write_form-clause-outcome : goal.returns-in-Ok-write_form-clau
 returns-in-Ok-write_form-clause-outcome g c =
     let of = c.args.self in
     enough_same of.needs_address of.form (IsMember c.in-Ok.set) (IsPermittedBy (contents_of of.list).rules of.default)
-    c.in-Ok.ensures.set c.is_enough.result c.is_enough.ensures
+    c.in-Ok.ensures.set c.is_enough-succeeds.result c.is_enough-succeeds.ensures
 
 pub returns-in-Err-write_form-clause-front : goal.returns-in-Err-write_form-clause-front
 returns-in-Err-write_form-clause-front g c =
