@@ -55,6 +55,6 @@ abbrev pub AreAddressChanges : (Before After : Address → Type 0) → List ℕ 
 AreAddressChanges Before After = AreChangeLines (IsOnlyIn Before After) (IsOnlyIn After Before)
 
 -- The text is the changes of addresses, or of the networks of the two sets.
-abbrev pub AreAskedChanges : (of_addresses : Bool) → (Before After : Address → Type 0) → List ℕ → Type 0
-AreAskedChanges true = AreAddressChanges
-AreAskedChanges false = AreChangeLines
+pub record AreAskedChanges (of_addresses : Bool) (Before After : Address → Type 0) (text : List ℕ) : Type 0 where
+  pub addresses : of_addresses ≡ true → AreAddressChanges Before After text
+  pub networks : of_addresses ≡ false → AreChangeLines Before After text

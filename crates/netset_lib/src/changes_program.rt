@@ -1,7 +1,7 @@
 //! The command `changes` of the program.
-ghost use Rattle.std.specs.Prelude.{◌≡◌, ◌↔◌, IsTrue};
+ghost use Rattle.std.specs.Prelude.{◌≡◌, ◌↔◌, true, false, IsTrue, IfOk, string_bytes};
 ghost use Rattle.ipnet_sets.specs.Members.{IsMember};
-ghost use Rattle.netset_lib.specs.Changes.{AreAskedChanges};
+ghost use Rattle.netset_lib.specs.Changes.{AreAddressChanges, AreAskedChanges, AreChangeLines};
 ghost use Rattle.netset_lib.specs.Counts.{HaveSame};
 ghost use Rattle.netset_lib.specs.declared.failure.Failure.TheVariants.{Memory};
 
@@ -9,7 +9,26 @@ use crate::changes::{address_changes_text, changes_text};
 use crate::failure::Failure;
 use crate::runs::TextCommand;
 use ipnet_sets::IpSet;
-use std::alloc::Global;
+use std::alloc::{AllocError, Global};
+
+/// Returns the changes of addresses, or those of networks. Fails if memory runs out.
+fn asked_changes_text(
+    alloc: Global,
+    of_addresses: bool,
+    before: &IpSet,
+    after: &IpSet,
+) -> Result<String, AllocError>
+    ensures addresses { IfOk result (λ text. of_addresses ≡ true
+        → AreAddressChanges (IsMember before.now) (IsMember after.now) (string_bytes text)) }
+    ensures networks { IfOk result (λ text. of_addresses ≡ false
+        → AreChangeLines (IsMember before.now) (IsMember after.now) (string_bytes text)) }
+{
+    if of_addresses {
+        address_changes_text(alloc, before, after)
+    } else {
+        changes_text(alloc, before, after)
+    }
+}
 
 /// The changes from the networks of the first set to the networks of the second, as `changes_text` makes them; or the
 /// changes of addresses, as `address_changes_text` makes them.
@@ -55,11 +74,7 @@ impl TextCommand for ChangesCommand {
             after,
             of_addresses,
         } = self;
-        let text = if of_addresses {
-            address_changes_text(alloc, &before, &after)?
-        } else {
-            changes_text(alloc, &before, &after)?
-        };
+        let text = asked_changes_text(alloc, of_addresses, &before, &after)?;
         Ok((text, before == after))
     }
 }
