@@ -11,7 +11,7 @@ use crate::runs::TextCommand;
 use ipnet_sets::IpSet;
 use std::alloc::{AllocError, Global};
 
-/// Returns the changes of addresses, or those of networks. Fails if memory runs out.
+/// Returns the changes of addresses, or the changes of networks. Fails if memory runs out.
 fn asked_changes_text(
     alloc: Global,
     of_addresses: bool,
