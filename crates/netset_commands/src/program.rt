@@ -49,6 +49,7 @@ use crate::find::find_entries;
 use crate::fit::FIT;
 use crate::fit::fit_lists;
 use crate::forms::form_of;
+use crate::forms::needs_address;
 use crate::info::INFO;
 use crate::info::print_facts;
 use crate::listing::HOSTS;
@@ -101,7 +102,6 @@ use netset_files::read_first;
 use netset_files::status_after;
 use netset_files::stream_list;
 use netset_forms::FormCommand;
-use netset_forms::FormRequest;
 use netset_lib::Answer;
 use netset_lib::Combination;
 use netset_lib::CompareCommand;
@@ -269,7 +269,15 @@ fn combine_lists(
         Err(status) => return status,
     };
     match read_sets(rt, matches, names, writers) {
-        Ok(sets) => print_set(rt, combination_of(name, sets), form, names, writers),
+        Ok(sets) => {
+            let command = FormCommand {
+                alloc: rt.alloc(),
+                combination: combination_of(name, sets),
+                form,
+                needs_address: needs_address(matches),
+            };
+            print_set(command, names, writers)
+        }
         Err(status) => status,
     }
 }
@@ -306,8 +314,13 @@ fn print_symmetric_difference(
     };
     match read_pair(rt, matches, &names, writers) {
         Ok((first, second)) => {
-            let combination = Combination::SymmetricDifference(first, second);
-            print_set(rt, combination, form, &names, writers)
+            let command = FormCommand {
+                alloc: rt.alloc(),
+                combination: Combination::SymmetricDifference(first, second),
+                form,
+                needs_address: needs_address(matches),
+            };
+            print_set(command, &names, writers)
         }
         Err(status) => status,
     }
@@ -325,28 +338,22 @@ fn print_complement(rt: &HostRuntime, matches: &ArgMatches, writers: &mut Writer
     let name = last_name(matches, FIRST);
     match read_only_set(rt, matches, name, writers) {
         Ok(set) => {
-            let combination = Combination::Complement(families_of(matches), set);
-            print_set(rt, combination, form, &[name], writers)
+            let command = FormCommand {
+                alloc: rt.alloc(),
+                combination: Combination::Complement(families_of(matches), set),
+                form,
+                needs_address: needs_address(matches),
+            };
+            print_set(command, &[name], writers)
         }
         Err(status) => status,
     }
 }
 
-/// Prints the result of the operation in this form, and returns the status.
-fn print_set(
-    rt: &HostRuntime,
-    combination: Combination,
-    form: FormRequest<'_>,
-    names: &[&str],
-    writers: &mut Writers<'_>,
-) -> u8
+/// Prints the result of the operation, and returns the status.
+fn print_set(command: FormCommand<'_>, names: &[&str], writers: &mut Writers<'_>) -> u8
     ensures { result ≤ 2 }
 {
-    let command = FormCommand {
-        alloc: rt.alloc(),
-        combination,
-        form,
-    };
     netset_lib::run(command, names, &mut writers.answer, &mut writers.faults)
 }
 

@@ -57,7 +57,7 @@ pub use answerer::Answerer;
 pub use apply::changed_text;
 pub use apply_program::ApplyCommand;
 pub use change_line::ChangeCause;
-pub use changes::changes_text;
+pub use changes::{address_changes_text, changes_text};
 pub use changes_program::ChangesCommand;
 pub use command::{Flags, families};
 pub use counts::push_counts;
