@@ -69,25 +69,47 @@ fn size_of(entry: Entry) -> Option<u128>
     }
 }
 
-/// The sum of a thousand counts, divided by the size and rounded down. The sum may have more bits than a word, so only
-/// what is left after the last whole size is kept of it.
+/// A sum of counts: the number of whole sizes in it, and the rest.
+#[derive(Clone, Copy)]
+struct Sum {
+    whole: u16,
+    rest: u128,
+}
+
+/// The sum with one count more.
+fn with_count(sum: Sum, count: u128, size: u128) -> Sum
+    requires part { count ≤ size }
+    requires rest { sum.rest < size }
+    requires few { sum.whole < 1000 }
+    ensures sum { result.whole * size + result.rest ≡ sum.whole * size + sum.rest + count }
+    ensures rest { result.rest < size }
+    ensures few { result.whole ≤ sum.whole + 1 }
+{
+    let room = size - sum.rest;
+    if count < room {
+        Sum {
+            whole: sum.whole,
+            rest: sum.rest + count,
+        }
+    } else {
+        Sum {
+            whole: sum.whole + 1,
+            rest: count - room,
+        }
+    }
+}
+
+/// The sum of a thousand counts, divided by the size and rounded down. The sum may have more bits than a word.
 fn thousand_counts(count: u128, size: u128) -> u16
     requires part { count ≤ size }
     requires some { 0 < size }
     ensures { result ≡ count * 1000 / size }
 {
-    let mut whole = 0;
-    let mut rest = 0;
-    for _ in 0..1000 {
-        let room = size - rest;
-        if count < room {
-            rest += count;
-        } else {
-            whole += 1;
-            rest = count - room;
-        }
+    let mut sum = Sum { whole: 0, rest: 0 };
+    for _ in 0..1000u16 {
+        sum = with_count(sum, count, size);
     }
-    whole
+    sum.whole
 }
 
 /// The thousand times the count, divided by the size and rounded down.
@@ -111,7 +133,8 @@ fn tenths_in(count: u128, size: u128) -> u16
     if count == 0 {
         return 0;
     }
-    thousandths_in(count, size).max(1)
+    let share = thousandths_in(count, size);
+    if share == 0 { 1 } else { share }
 }
 
 /// The share of the size that the count is, in tenths of a per cent; `None` is 2^128.
