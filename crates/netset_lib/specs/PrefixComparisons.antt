@@ -1,5 +1,5 @@
 -- The comparison of two prefix lists: the first network that only one of them permits.
-use Rattle.std.specs.Prelude.{◌≡◌, ◌↔◌, ◌⊎◌, ◌∷◌, ◌++◌, ℕ, zero, suc, List, [], Bool, IsTrue, Option, codes, drop}
+use Rattle.std.specs.Prelude.{◌≡◌, ◌↔◌, ◌⊎◌, ◌∷◌, ◌++◌, ℕ, List, [], Bool, IsTrue, Option, codes, drop}
 use Rattle.std.specs.List.{concat}
 use Rattle.ipnet_base.specs.Network.{Network}
 use Rattle.ipnet.specs.CanonicalTexts.{canonical_text}
@@ -8,7 +8,8 @@ use Rattle.ipnet_lists.specs.Lists.{RefusalFor}
 use Rattle.ipnet_lists.specs.Names.{Names, name_at}
 use Rattle.ipnet_lists.specs.RefusedLines.{AreRefused}
 use Rattle.ipnet_lists.specs.Reports.{OfNew, IsReport, IsReportBegun, escaped}
-use Rattle.ipnet_rules.specs.PrefixLists.{IsFirstDifference, IsRoutePermitted, PermitSameRoutes}
+use Rattle.ipnet_rules.specs.PrefixLists.{IsFirstDifference, IsPermittedByOne, IsRoutePermitted}
+use Rattle.ipnet_rules.specs.PrefixLists.{PermitSameRoutes}
 use Rattle.ipnet_rules.specs.declared.prefix_list.PrefixRule.{PrefixRule}
 use Rattle.netset_lib.specs.ListReports.{ExplainsPrefix}
 use Rattle.netset_lib.specs.PrefixAnswers.{HasRefusedPrefixes}
@@ -29,19 +30,25 @@ pub record HasListRules (grammar : Grammar) (bytes : List ℕ) (name : Option (L
 abbrev pub only_line : List ℕ → Network → List ℕ
 only_line which n = codes "only the " ++ which ++ codes " permits: " ++ canonical_text n ++ 10 ∷ []
 
--- Which of the two lists permits the network: `first`, and the second does not; or `second`, and the first does not.
-abbrev pub IsOnlyOf : List PrefixRule → List PrefixRule → Network → List ℕ → Type 0
-IsOnlyOf first second n which =
-    (IsRoutePermitted first n × ¬ (IsRoutePermitted second n) × (which ≡ codes "first"))
-    ⊎ (IsRoutePermitted second n × ¬ (IsRoutePermitted first n) × (which ≡ codes "second"))
+-- The word for the list that permits a network: `first` if the first list does, and else `second`.
+abbrev pub IsFirstOrSecond : Type 0 → List ℕ → Type 0
+IsFirstOrSecond IsOfFirst which =
+    (IsOfFirst × (which ≡ codes "first")) ⊎ ((¬ IsOfFirst) × (which ≡ codes "second"))
 
--- The lists permit the same networks, and the text is empty; or it is the line of the first of the shortest networks
--- that only one list permits.
+-- The text is the line of a network that only one of the lists permits: of the first of the shortest such networks.
 -- Example: `only the first permits: 10.0.0.0/25` for `permit 10.0.0.0/8 le 25` and `permit 10.0.0.0/8 le 24`.
+pub record IsDifferenceLine (first second : List PrefixRule) (text : List ℕ) : Type 0 where
+  pub network : Network
+  pub of_one : IsPermittedByOne first second network
+  pub is_first : IsFirstDifference first second network
+  pub which : List ℕ
+  pub word : IsFirstOrSecond (IsRoutePermitted first network) which
+  pub spelled : text ≡ only_line which network
+
+-- The lists permit the same networks, and the text is empty; or it is the line of a network that only one permits.
 abbrev pub IsDifferenceText : List PrefixRule → List PrefixRule → List ℕ → Type 0
-IsDifferenceText first second text = (PermitSameRoutes first second × (text ≡ []))
-    ⊎ ((n : Network) × (which : List ℕ) × IsFirstDifference first second n × IsOnlyOf first second n which
-    × (text ≡ only_line which n))
+IsDifferenceText first second text =
+    (PermitSameRoutes first second × (text ≡ [])) ⊎ IsDifferenceLine first second text
 
 -- No line of the two lists is refused, and the text says how they differ.
 pub record IsListsDifference (grammar : Grammar) (name : Option (List ℕ)) (first second text : List ℕ) : Type 0 where

@@ -1,9 +1,11 @@
 //! The comparison of two prefix lists: the first network that only one of them permits.
 ghost use Rattle.std.specs.Prelude.{◌≡◌, IfOk, IfErr, OnOk, string_bytes};
 ghost use Rattle.ipnet_text.specs.Outputs.{IsWritten, IsFrontWritten};
+ghost use Rattle.ipnet.specs.NetworkOf.{ip_network};
+ghost use Rattle.ipnet_rules.specs.PrefixLists.{IsRoutePermitted};
 ghost use Rattle.netset_lib.specs.PrefixComparisons.{HasListRules, IsListFault, IsListsDifference, IsListsOutcome};
 ghost use Rattle.netset_lib.specs.PrefixComparisons.{IsCompareFailure, IsCompareReport, IsCompareBegun};
-ghost use Rattle.netset_lib.specs.PrefixComparisons.{IsDifferenceText, named_line};
+ghost use Rattle.netset_lib.specs.PrefixComparisons.{IsDifferenceText, IsFirstOrSecond, named_line};
 ghost use Rattle.netset_lib.specs.PrefixEntryOf.{lent_text};
 ghost use Rattle.netset_lib.specs.declared.prefix_compare.PrefixCompareFailure.TheVariants.{Memory};
 
@@ -12,7 +14,7 @@ use crate::prefix_choice::{ChoiceFault, rules_of_list};
 use crate::prefix_line::PrefixCause;
 use crate::reports::{OUT_OF_MEMORY, report_words};
 use crate::runs::{Report, TextCommand};
-use ipnet::Grammar;
+use ipnet::{Grammar, IpNet};
 use ipnet_lists::{Part, Refusals, name_of, report_refused, write_parts};
 use ipnet_rules::PrefixList;
 use std::alloc::{AllocError, Global};
@@ -59,6 +61,17 @@ fn read_list(
     }
 }
 
+/// The word for the list that permits the network, if only one does: the first, or else the second.
+fn permitting(first: &PrefixList, network: &IpNet) -> &'static str
+    ensures { IsFirstOrSecond (IsRoutePermitted first.now.list.items (ip_network network.now)) result.now }
+{
+    if first.permits(network) {
+        "first"
+    } else {
+        "second"
+    }
+}
+
 /// Returns the line of the first network that only one of the lists permits, or no text if they permit the same
 /// networks. Fails if memory runs out.
 fn difference_text(
@@ -73,12 +86,9 @@ fn difference_text(
     let Some(network) = first.first_difference(alloc, second)? else {
         return Ok(text);
     };
-    if first.permits(&network) {
-        text.push_str("only the first permits: ")?;
-    } else {
-        text.push_str("only the second permits: ")?;
-    }
-    write!(text, "{network}\n")?;
+    text.push_str("only the ")?;
+    text.push_str(permitting(first, &network))?;
+    write!(text, " permits: {network}\n")?;
     Ok(text)
 }
 
