@@ -1,5 +1,5 @@
 -- Lists that an option takes out of the first list of a command: `--taken` of `plan`, and `--except` of `filter`.
-use Rattle.std.specs.Prelude.{◌≡◌, ◌↔◌, ◌<◌, ◌∷◌, ◌++◌, ℕ, List, map, codes}
+use Rattle.std.specs.Prelude.{◌≡◌, ◌↔◌, ◌<◌, ◌∷◌, ◌++◌, ℕ, Bool, true, false, List, map, codes}
 use Rattle.clap.specs.declared.parser.matches.ArgMatches.{ArgMatches}
 use Rattle.ipnet_base.specs.Address.{Address, Family, IsAddress}
 use Rattle.ipnet_lists.specs.Names.{Names}
@@ -13,6 +13,7 @@ use Rattle.netset_lib.specs.declared.answerer.Answerer.{Answerer}
 use Rattle.netset_lib.specs.declared.answerer.Answerer.TheVariants as Answerers
 use Rattle.netset_lib.specs.declared.filter.Side.{Side}
 use Rattle.netset_lib.specs.declared.operation.Families.{Families}
+use Rattle.netset_lib.specs.declared.operation.Families.TheVariants as Chosen
 
 -- These are the names of the first list, then of the lists that the option with this id takes out of it, and the last
 -- names. At most one list is standard input.
@@ -26,6 +27,13 @@ pub record AreNamesWithout (matches : ArgMatches) (id : List ℕ) (last names : 
 -- Example: 10.0.0.0 to 10.0.0.2 for 10.0.0.0/30, 10.0.0.3 and ::1.
 abbrev pub IsWithout : List IpSet → IpSet → Type 0
 IsWithout sets set = (x : Address) → IsMember set x ↔ IsInFirstAlone IsMember sets x
+
+-- The only family of a pool, by whether it has addresses of IPv4 and of IPv6; or `Both`, which has no plan.
+abbrev pub only_families : Bool → Bool → Families
+only_families true false = Chosen.Ipv4
+only_families false true = Chosen.Ipv6
+only_families true true = Chosen.Both
+only_families false false = Chosen.Both
 
 -- The family of `plan --taken` is the one that the list FREE and the flags choose, however many of its addresses are
 -- taken: with `chosen`, a plan in any addresses has this family.

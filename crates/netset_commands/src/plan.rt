@@ -1,6 +1,6 @@
 //! The command `plan`: its arguments, and its run.
 ghost use Rattle.std.specs.Prelude.{◌≡◌, ◌≤◌, IfErr, IfOk};
-ghost use Rattle.netset_commands.specs.Without.{IsFamilyOfPool};
+ghost use Rattle.netset_commands.specs.Without.{IsFamilyOfPool, only_families};
 ghost use Rattle.netset_commands.specs.Words.{AreLengths};
 
 use crate::arguments::{
@@ -105,6 +105,17 @@ fn bar_of(
     Ok(Some(bar_form_of(rt, matches, writers)?))
 }
 
+/// The only family of a pool, or `Both`, which has no plan, if it has addresses of both families or of none.
+fn only_families(has_ipv4: bool, has_ipv6: bool) -> Families
+    ensures { result ≡ only_families has_ipv4 has_ipv6 }
+{
+    match (has_ipv4, has_ipv6) {
+        (true, false) => Families::Ipv4,
+        (false, true) => Families::Ipv6,
+        (true, true) | (false, false) => Families::Both,
+    }
+}
+
 /// The families by which a plan in the free addresses of the pool has the family that these choose for the pool.
 ///
 /// ```text
@@ -114,11 +125,7 @@ fn families_in(families: Families, pool: &IpSet) -> Families
     ensures { IsFamilyOfPool families pool.now result }
 {
     match families {
-        Families::Named => match (pool.has_ipv4(), pool.has_ipv6()) {
-            (true, false) => Families::Ipv4,
-            (false, true) => Families::Ipv6,
-            _ => Families::Both,
-        },
+        Families::Named => only_families(pool.has_ipv4(), pool.has_ipv6()),
         Families::Ipv4 | Families::Ipv6 | Families::Both => families,
     }
 }

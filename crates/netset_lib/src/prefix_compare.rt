@@ -153,7 +153,7 @@ impl<'a> TextCommand for PrefixCompareCommand<'a> {
 }
 
 /// Reports these words about the list of this name. Bytes of the name that are not printable ASCII are escaped.
-fn report_named<X: Write>(faults: &mut X, name: &str, words: &str) -> io::Result<()>
+fn report_named<'a, X: Write>(faults: &mut X, name: &'a str, words: &'a str) -> io::Result<()>
     ensures whole { OnOk result (IsWritten (λ t. t ≡ named_line name.now words.now)
         (X.contents faults.old) (X.contents faults.new)) }
     ensures front { IsFrontWritten (λ t. t ≡ named_line name.now words.now)
