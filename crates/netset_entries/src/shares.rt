@@ -20,6 +20,16 @@ use std::alloc::{AllocError, Global};
 /// The largest count whose thousandfold is a `u128`.
 const MOST_COUNT: u128 = 340_282_366_920_938_463_463_374_607_431_768_211;
 
+/// The addresses of the set that are from the first to the last address of the entry.
+fn part_between(alloc: Global, set: &IpSet, entry: Entry) -> Result<IpSet, AllocError>
+    ensures { IfOk result (λ part. (x : Address)
+        → IsMember part x ↔ IsInEntry (IsMember set.now) (entry_range entry) x) }
+{
+    let (first, last) = entry.ends();
+    let range = IpSet::from_range(alloc, first, last)?;
+    set.intersection(alloc, &range)
+}
+
 /// The addresses of the set that are in the entry.
 fn part_in(alloc: Global, set: &IpSet, entry: Entry) -> Result<IpSet, AllocError>
     ensures { IfOk result (λ part. (x : Address)
@@ -28,11 +38,7 @@ fn part_in(alloc: Global, set: &IpSet, entry: Entry) -> Result<IpSet, AllocError
     match entry {
         Entry::Network(network) => set.within(alloc, &network),
         Entry::Address(address) => set.within(alloc, &IpNet::from(address)),
-        Entry::Ipv4Range(_, _) | Entry::Ipv6Range(_, _) => {
-            let (first, last) = entry.ends();
-            let range = IpSet::from_range(alloc, first, last)?;
-            set.intersection(alloc, &range)
-        }
+        Entry::Ipv4Range(_, _) | Entry::Ipv6Range(_, _) => part_between(alloc, set, entry),
     }
 }
 

@@ -144,9 +144,9 @@ impl<'a> TextCommand for PrefixCompareCommand<'a> {
             name,
             grammar,
         } = self;
-        let first = read_list(alloc, 0, first, name, grammar)?;
-        let second = read_list(alloc, 1, second, name, grammar)?;
-        let text = difference_text(alloc, &first, &second)?;
+        let ours = read_list(alloc, 0, first, name, grammar)?;
+        let theirs = read_list(alloc, 1, second, name, grammar)?;
+        let text = difference_text(alloc, &ours, &theirs)?;
         let same = text.is_empty();
         Ok((text, same))
     }
