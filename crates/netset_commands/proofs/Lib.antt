@@ -4,3 +4,4 @@ pub mod MapLaws
 pub mod WordLaws
 pub mod OnceLaws
 pub mod EntryLaws
+pub mod WithoutLaws

@@ -10,3 +10,4 @@ pub mod Words
 pub mod InfoWords
 pub mod FindOptions
 pub mod SelectOptions
+pub mod Without

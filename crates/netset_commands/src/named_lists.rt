@@ -38,7 +38,7 @@ pub fn last_name<'a>(matches: &ArgMatches<'a>, id: &str) -> &'a str
 }
 
 /// Appends the values of the argument with this id to the names, in order.
-fn push_values<'a>(
+pub fn push_values<'a>(
     names: &mut Vec<&'a str>,
     matches: &ArgMatches<'a>,
     id: &str,

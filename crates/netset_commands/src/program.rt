@@ -42,6 +42,8 @@ use crate::entries::print_overlaps;
 use crate::entries::print_redundant;
 use crate::entries::print_supernet;
 use crate::entry_options::entries_or_report;
+use crate::except::filter_without;
+use crate::except::has_excepts;
 use crate::extract::EXTRACT;
 use crate::extract::extract_entries;
 use crate::find::FIND;
@@ -66,7 +68,9 @@ use crate::origins::ORIGINS;
 use crate::origins::validate_origins;
 use crate::pairs::compare_pairs;
 use crate::pairs::has_lengths_flag;
+use crate::pairs::pools_of;
 use crate::pairs::print_lengths;
+use crate::pairs::print_shares;
 use crate::plan::PLAN;
 use crate::plan::plan_networks;
 use crate::prefixes::PREFIX_LIST;
@@ -194,7 +198,10 @@ fn run_command(rt: &HostRuntime, name: &str, matches: &ArgMatches, writers: &mut
         SYMMETRIC_DIFFERENCE => print_symmetric_difference(rt, matches, writers),
         COMPLEMENT => print_complement(rt, matches, writers),
         COUNT if has_lengths_flag(matches) => print_lengths(rt, matches, writers),
-        COUNT => count_lists(rt, matches, writers),
+        COUNT => match pools_of(matches) {
+            Some(pools) => print_shares(rt, pools, matches, writers),
+            None => count_lists(rt, matches, writers),
+        },
         COMPARE => compare_lists(rt, matches, writers),
         CHANGES => print_changes(rt, matches, writers),
         APPLY => apply_changes(rt, matches, writers),
@@ -229,6 +236,8 @@ fn run_filter(rt: &HostRuntime, matches: &ArgMatches, writers: &mut Writers<'_>)
 {
     if matches.get_flag(LINES) {
         filter_lines(rt, matches, writers)
+    } else if has_excepts(matches) {
+        filter_without(rt, matches, is_streamed(matches), writers)
     } else {
         run_query(rt, filter_query(matches), matches, writers)
     }

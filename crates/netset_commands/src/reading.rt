@@ -87,23 +87,6 @@ pub fn read_sets(
     Ok(sets)
 }
 
-/// Reads the first list of a command, which has this name, into a set, as `read_sets` does. It is a file or standard
-/// input. `names` are the names of the command's lists.
-pub fn read_set(
-    rt: &HostRuntime,
-    matches: &ArgMatches,
-    name: &str,
-    names: &[&str],
-    writers: &mut Writers<'_>,
-) -> Result<IpSet, u8>
-    ensures { IfErr result (λ status. status ≡ 2) }
-{
-    let lists = Lists::new(set_reader(rt, matches)?, writers.reports);
-    let (lists, set) = lists.read(rt, name)?;
-    finish_lists(lists, names, writers)?;
-    Ok(set)
-}
-
 /// Reads the only list of a command, which has this name, into a set, as `read_sets` does.
 pub fn read_only_set(
     rt: &HostRuntime,

@@ -111,14 +111,40 @@ pub fn read_answers(
         total,
         allowed,
     } = first;
-    let FirstReader { lists, .. } = reader;
+    let lists = Lists {
+        reader: reader.lists,
+        reports,
+        total,
+        allowed,
+    };
+    read_answers_by(rt, lists, answerer, names[1], entries)
+}
+
+/// Reads one list more, which has this name, or these lines if there are `entries`. Returns the reader, whether the
+/// lists may be as they are, as `Lists::into_reader` says, and the answer of the answerer to its entries. If that
+/// fails, it is reported, and the error is the exit status.
+pub fn read_answers_by(
+    rt: &HostRuntime,
+    lists: Lists<SetReader>,
+    answerer: Answerer,
+    name: &str,
+    entries: Option<String>,
+) -> Result<(SetReader, bool, Answer), u8>
+    ensures { IfErr result (λ status. status ≡ 2) }
+{
+    let Lists {
+        reader: lists,
+        reports,
+        total,
+        allowed,
+    } = lists;
     let second = Lists {
         reader: SecondReader { lists, answerer },
         reports,
         total,
         allowed,
     };
-    let (second, answer) = second.read_last(rt, names[1], entries)?;
+    let (second, answer) = second.read_last(rt, name, entries)?;
     let (reader, allowed) = second.into_reader();
     let SecondReader { lists, .. } = reader;
     Ok((lists, allowed, answer))

@@ -27,6 +27,7 @@ pub mod plan;
 pub mod plan_program;
 pub mod prefix_answer;
 pub mod prefix_choice;
+pub mod prefix_compare;
 mod prefix_entry;
 pub mod prefix_line;
 pub mod prefix_program;
@@ -74,6 +75,7 @@ pub use plan::{Plan, PlanFailure, PlanFamily, PlanRequest, plan_networks, plan_t
 pub use plan_program::PlanCommand;
 pub use prefix_answer::{PrefixFailure, Verdicts, prefix_verdicts};
 pub use prefix_choice::ChoiceFault;
+pub use prefix_compare::{PrefixCompareCommand, PrefixCompareFailure};
 pub use prefix_line::PrefixCause;
 pub use prefix_program::PrefixListCommand;
 pub use query::Query;

@@ -1,0 +1,66 @@
+-- Lists that are taken out of the first list of a command.
+use Rattle.std.proofs.Common.{◌≡◌, ◌≢◌, ◌↔◌, ◌∙◌, Bool, true, false, IsTrue, List, refl, sym}
+use Rattle.ipnet_base.specs.Address.{Address, Family, IPv4, IPv6}
+use Rattle.ipnet_sets.specs.Members.{HasFamily, IsMember}
+use Rattle.ipnet_sets.specs.declared.set.IpSet.{IpSet}
+use Rattle.netset_commands.specs.Without.{IsFamilyOfPool, only_families}
+use Rattle.netset_lib.specs.Combinations as Combined
+use Rattle.netset_lib.specs.Combinations.{IsCombineFailure}
+use Rattle.netset_lib.specs.PlanAnswers.{HasOnly}
+use Rattle.netset_lib.specs.declared.failure.Failure.{Failure}
+use Rattle.netset_lib.specs.declared.failure.Failure.TheVariants as Failures
+use Rattle.netset_lib.specs.declared.operation.Combination.{Combination}
+use Rattle.netset_lib.specs.declared.operation.Families.TheVariants as Chosen
+
+-- an operation that has a family fails only if memory runs out
+pub only_memory : (combination : Combination) → Combined.HasFamily combination → (failure : Failure)
+    → IsCombineFailure combination failure → failure ≡ Failures.Memory
+only_memory combination has Failures.NoFamily h = absurd (h has)
+only_memory combination has Failures.Memory h = refl
+
+-- a pool with addresses of one family only
+module _ (pool : IpSet) (f g : Family) (either : (h : Family) → h ≢ g → h ≡ f) (some : HasFamily f pool)
+    (none : ¬ (HasFamily g pool)) where
+  all_of : (x : Address) → IsMember pool x → x.family ≡ f
+  all_of x m = either x.family (λ e. none (x, e, m))
+
+  has_only : HasOnly (IsMember pool) f
+  has_only = let (x, is, m) = some in record { member = x; some = m; only = all_of }
+
+  pub one_family : (k : Family) → (k ≡ f) ↔ HasOnly (IsMember pool) k
+  one_family k = (
+    λ e. rw e has_only,
+    λ h. sym (h.only h.member h.some) ∙ all_of h.member h.some,
+  )
+
+not_ipv6 : (h : Family) → h ≢ IPv6 → h ≡ IPv4
+not_ipv6 IPv4 no = refl
+not_ipv6 IPv6 no = absurd (no refl)
+
+not_ipv4 : (h : Family) → h ≢ IPv4 → h ≡ IPv6
+not_ipv4 IPv4 no = absurd (no refl)
+not_ipv4 IPv6 no = refl
+
+-- a pool with addresses of both families
+no_only : (pool : IpSet) → HasFamily IPv4 pool → HasFamily IPv6 pool → (k : Family) → HasOnly (IsMember pool) k → ⊥
+no_only pool (x, of_ipv4, m) (y, of_ipv6, n) k h =
+    let wrong : IPv4 ≡ IPv6 = sym of_ipv4 ∙ h.only x m ∙ sym (h.only y n) ∙ of_ipv6 in absurd cc
+
+-- a pool without an address
+no_member : (pool : IpSet) → ¬ (HasFamily IPv4 pool) → ¬ (HasFamily IPv6 pool) → (f : Family) (x : Address)
+    → x.family ≡ f → IsMember pool x → ⊥
+no_member pool no4 no6 IPv4 x e m = no4 (x, e, m)
+no_member pool no4 no6 IPv6 x e m = no6 (x, e, m)
+
+pub of_pool : (pool : IpSet) (has4 has6 : Bool) → (IsTrue has4 ↔ HasFamily IPv4 pool)
+    → (IsTrue has6 ↔ HasFamily IPv6 pool) → IsFamilyOfPool Chosen.Named pool (only_families has4 has6)
+of_pool pool true false h4 h6 InFree f =
+    one_family pool IPv4 IPv6 not_ipv6 (h4.0 refl) (λ some. let wrong = h6.1 some in absurd cc) f
+of_pool pool false true h4 h6 InFree f =
+    one_family pool IPv6 IPv4 not_ipv4 (h6.0 refl) (λ some. let wrong = h4.1 some in absurd cc) f
+of_pool pool true true h4 h6 InFree f = (λ no. absurd no, no_only pool (h4.0 refl) (h6.0 refl) f)
+of_pool pool false false h4 h6 InFree f = (
+  λ no. absurd no,
+  λ h. no_member pool (λ some. let wrong = h4.1 some in absurd cc) (λ some. let wrong = h6.1 some in absurd cc)
+      h.member.family h.member refl h.some,
+)
