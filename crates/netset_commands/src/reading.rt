@@ -32,7 +32,7 @@ pub fn set_reader(rt: &HostRuntime, matches: &ArgMatches) -> Result<SetReader, u
 }
 
 /// Ends the reading of the lists of these names. If lines are refused, they are reported, and the error is the exit
-/// status; if bad lines are skipped, there is no error, and `writers` note it.
+/// status. If bad lines are skipped, it returns `Ok` and sets `writers.skipped`.
 pub fn finish(reader: SetReader, names: &[&str], writers: &mut Writers<'_>) -> Result<(), u8>
     ensures refused { writers.old.reports.skips_bad ≡ false → OnOk result (HasNoBadLine reader) }
     ensures noted { writers.new.skipped ≡ false → OnOk result (HasNoBadLine reader) }
