@@ -36,11 +36,11 @@ only_families true true = Chosen.Both
 only_families false false = Chosen.Both
 
 -- The family of `plan --taken` is the one that the list FREE and the flags choose, however many of its addresses are
--- taken: with `chosen`, a plan in any addresses has this family.
+-- taken: with `chosen`, a plan in any set has this family.
 -- Example: `Ipv4` for the pool 10.0.0.0/30 and `Named`; `Both`, which has no family, for the pool of no address.
 abbrev pub IsFamilyOfPool : Families → IpSet → Families → Type 0
-IsFamilyOfPool families pool chosen = (InFree : Address → Type 0) (f : Family)
-    → IsPlanFamily chosen InFree f ↔ IsPlanFamily families (IsMember pool) f
+IsFamilyOfPool families pool chosen = (free : IpSet) (f : Family)
+    → IsPlanFamily chosen (IsMember free) f ↔ IsPlanFamily families (IsMember pool) f
 
 -- The answerer of `filter --except`: it keeps an entry whose addresses are all on this side of the first set without
 -- the others.

@@ -121,6 +121,7 @@ fn only_families(has_ipv4: bool, has_ipv6: bool) -> Families
 /// ```text
 /// Named, and 10.0.0.0/30: Ipv4; Named, and no address: Both, which has no family
 /// ```
+#[tactic(auto, using(crate::proofs::WithoutLaws::of_named))]
 fn families_in(families: Families, pool: &IpSet) -> Families
     ensures { IsFamilyOfPool families pool.now result }
 {

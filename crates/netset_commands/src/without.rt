@@ -56,6 +56,7 @@ pub fn names_without_or_report<'a>(
 /// 10.0.0.0/30, 10.0.0.3 and ::1: 10.0.0.0 to 10.0.0.2
 /// one set: this set
 /// ```
+#[tactic(auto, using(crate::proofs::WithoutLaws::one_set, crate::proofs::WithoutLaws::only_memory))]
 pub fn set_without(alloc: Global, mut sets: Vec<IpSet>) -> Result<IpSet, Failure>
     ensures set { IfOk result (IsWithout sets.entry.items) }
     ensures failed { IfErr result (λ failure. failure ≡ Memory) }
@@ -63,7 +64,7 @@ pub fn set_without(alloc: Global, mut sets: Vec<IpSet>) -> Result<IpSet, Failure
     if sets.len() == 1 {
         return Ok(sets.remove(0));
     }
-    combine(alloc, Combination::Difference(sets))
+    Ok(combine(alloc, Combination::Difference(sets))?)
 }
 
 /// Returns the first of the sets, which have these names, without the addresses of the others. If memory runs out, it
