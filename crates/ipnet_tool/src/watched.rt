@@ -55,7 +55,7 @@ impl<'a, W: Write> Watched<'a, W> {
         *has_failed
     }
 
-    /// Writes all the bytes, and does not flush: it is not flushed after that. If a write fails, the writer has taken a front of the bytes.
+    /// Writes all the bytes. After that it is not flushed. If a write fails, the writer has taken a front of the bytes.
     pub fn put(&mut self, bytes: &[u8]) -> io::Result<()>
         ensures whole { OnOk result
             (Appends (W.contents (writer_of self.old)) (W.contents (writer_of self.new)) bytes.now) }
