@@ -1,5 +1,6 @@
 -- Sets with the same addresses have the same texts, so the text of a set is the text of what it was made of.
-use Rattle.std.proofs.Common.{◌↔◌, ℕ, Bool, true, false, List, [], max, Option, Some, None}
+use Rattle.std.proofs.Common.{◌↔◌, ◌≡◌, ◌∙◌, ℕ, Bool, true, false, IsTrue, List, [], max, Option, Some, None, refl, sym}
+use Rattle.std.proofs.lemmas.Bool.{true≢false}
 use Rattle.std.specs.Borrow.{Bor}
 use Rattle.ipnet_base.specs.Address.{Family, IPv4, IPv6, Address}
 use Rattle.ipnet_base.specs.Network.{Network}
@@ -8,7 +9,7 @@ use Rattle.ipnet.specs.declared.parser.Grammar.{Grammar}
 use Rattle.ipnet_rules.specs.declared.rules.Action.{Action}
 use Rattle.ipnet_rules.specs.declared.rules.Rule.{Rule}
 use Rattle.ipnet_sets.specs.declared.set.IpSet.{IpSet}
-use Rattle.ipnet_sets.specs.Members.{IsMember, IsDifference}
+use Rattle.ipnet_sets.specs.Members.{IsMember, IsDifference, HasFamily}
 use Rattle.netset_lib.specs.declared.operation.Combination.{Combination}
 use Rattle.netset_lib.specs.Combinations.{IsCombined, IsInCombined}
 use Rattle.netset_lib.specs.RuleAnswers.{IsPermittedBy, IsPermittedSet}
@@ -148,6 +149,25 @@ module _ (default : Action) (form : FormRequest) (grammar : Grammar) (bytes : Li
   }
 
 -- ---- whether there is an address
+
+pub any_of_ipv4 : (s : IpSet) (four : Bool) → (IsTrue four ↔ HasFamily IPv4 s) → four ≡ true
+    → IsTrue true ↔ ((x : Address) × IsMember s x)
+any_of_ipv4 s four has yes = (λ _. let (x, (of, m)) = has.0 yes in (x, m), λ _. refl)
+
+ipv6_of_rest : (s : IpSet) (x : Address) (f : Family) → x.family ≡ f → ¬ (HasFamily IPv4 s) → IsMember s x
+    → HasFamily IPv6 s
+ipv6_of_rest s x IPv4 of none m = absurd (none (x, (of, m)))
+ipv6_of_rest s x IPv6 of none m = (x, (of, m))
+
+pub any_of_ipv6 : (s : IpSet) (four six : Bool) → (IsTrue four ↔ HasFamily IPv4 s) → four ≡ false
+    → (IsTrue six ↔ HasFamily IPv6 s) → IsTrue six ↔ ((x : Address) × IsMember s x)
+any_of_ipv6 s four six has no has_six = (
+  λ t. let (x, (of, m)) = has_six.0 t in (x, m),
+  λ (x, m). has_six.1 (ipv6_of_rest s x x.family refl (λ h. absurd (true≢false (sym (has.1 h) ∙ no))) m),
+)
+
+-- whether the set has an address, by whether it has one of each family
+pub ruleset any_address = (any_of_ipv4, any_of_ipv6)
 
 pub enough_same : (needed : Bool) (r : FormRequest) (A B : Address → Type 0) → ((x : Address) → A x ↔ B x)
     → (succeeded : Bool) → IsEnoughIf needed r A succeeded → IsEnoughIf needed r B succeeded
