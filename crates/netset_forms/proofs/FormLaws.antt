@@ -1,6 +1,5 @@
 -- Sets with the same addresses have the same texts, so the text of a set is the text of what it was made of.
-use Rattle.std.proofs.Common.{◌↔◌, ◌≡◌, ◌∙◌, ℕ, Bool, true, false, IsTrue, List, [], max, Option, Some, None, refl, sym}
-use Rattle.std.proofs.lemmas.Bool.{true≢false}
+use Rattle.std.proofs.Common.{◌↔◌, ◌≡◌, ℕ, Bool, true, false, IsTrue, List, [], max, Option, Some, None, subst, sym}
 use Rattle.std.specs.Borrow.{Bor}
 use Rattle.ipnet_base.specs.Address.{Family, IPv4, IPv6, Address}
 use Rattle.ipnet_base.specs.Network.{Network}
@@ -9,7 +8,7 @@ use Rattle.ipnet.specs.declared.parser.Grammar.{Grammar}
 use Rattle.ipnet_rules.specs.declared.rules.Action.{Action}
 use Rattle.ipnet_rules.specs.declared.rules.Rule.{Rule}
 use Rattle.ipnet_sets.specs.declared.set.IpSet.{IpSet}
-use Rattle.ipnet_sets.specs.Members.{IsMember, IsDifference, HasFamily}
+use Rattle.ipnet_sets.specs.Members.{IsMember, IsDifference}
 use Rattle.netset_lib.specs.declared.operation.Combination.{Combination}
 use Rattle.netset_lib.specs.Combinations.{IsCombined, IsInCombined}
 use Rattle.netset_lib.specs.RuleAnswers.{IsPermittedBy, IsPermittedSet}
@@ -150,29 +149,29 @@ module _ (default : Action) (form : FormRequest) (grammar : Grammar) (bytes : Li
 
 -- ---- whether there is an address
 
-pub any_of_ipv4 : (s : IpSet) (four : Bool) → (IsTrue four ↔ HasFamily IPv4 s) → four ≡ true
-    → IsTrue true ↔ ((x : Address) × IsMember s x)
-any_of_ipv4 s four has yes = (λ _. let (x, (of, m)) = has.0 yes in (x, m), λ _. refl)
+pub in_named : (families : Families) (s : IpSet) → families ≡ Chosen.Named → ((x : Address) × IsMember s x)
+    → (x : Address) × IsOfFamilies families (IsMember s) x
+in_named families s is h = subst (λ f. (x : Address) × IsOfFamilies f (IsMember s) x) (sym is) h
 
-ipv6_of_rest : (s : IpSet) (x : Address) (f : Family) → x.family ≡ f → ¬ (HasFamily IPv4 s) → IsMember s x
-    → HasFamily IPv6 s
-ipv6_of_rest s x IPv4 of none m = absurd (none (x, (of, m)))
-ipv6_of_rest s x IPv6 of none m = (x, (of, m))
+pub of_named : (families : Families) (s : IpSet) → families ≡ Chosen.Named
+    → ((x : Address) × IsOfFamilies families (IsMember s) x) → (x : Address) × IsMember s x
+of_named families s is h = subst (λ f. (x : Address) × IsOfFamilies f (IsMember s) x) is h
 
-pub any_of_ipv6 : (s : IpSet) (four six : Bool) → (IsTrue four ↔ HasFamily IPv4 s) → four ≡ false
-    → (IsTrue six ↔ HasFamily IPv6 s) → IsTrue six ↔ ((x : Address) × IsMember s x)
-any_of_ipv6 s four six has no has_six = (
-  λ t. let (x, (of, m)) = has_six.0 t in (x, m),
-  λ (x, m). has_six.1 (ipv6_of_rest s x x.family refl (λ h. absurd (true≢false (sym (has.1 h) ∙ no))) m),
-)
+pub in_both : (families : Families) (s : IpSet) → families ≡ Chosen.Both → ((x : Address) × IsMember s x)
+    → (x : Address) × IsOfFamilies families (IsMember s) x
+in_both families s is h = subst (λ f. (x : Address) × IsOfFamilies f (IsMember s) x) (sym is) h
 
--- whether the set has an address, by whether it has one of each family
-pub ruleset any_address = (any_of_ipv4, any_of_ipv6)
+pub of_both : (families : Families) (s : IpSet) → families ≡ Chosen.Both
+    → ((x : Address) × IsOfFamilies families (IsMember s) x) → (x : Address) × IsMember s x
+of_both families s is h = subst (λ f. (x : Address) × IsOfFamilies f (IsMember s) x) is h
+
+-- without a choice, and for both families, all addresses are meant
+pub ruleset all_families = (in_named, of_named, in_both, of_both)
 
 pub enough_same : (needed : Bool) (r : FormRequest) (A B : Address → Type 0) → ((x : Address) → A x ↔ B x)
     → (succeeded : Bool) → IsEnoughIf needed r A succeeded → IsEnoughIf needed r B succeeded
 enough_same true r A B same succeeded h = (
-  λ yes. let (x, i) = h.0 yes in (x, (chosen_same A B same r.families x).0 i),
+  λ t. let (x, i) = h.0 t in (x, (chosen_same A B same r.families x).0 i),
   λ (x, i). h.1 (x, (chosen_same A B same r.families x).1 i),
 )
 enough_same false r A B same succeeded h = h
@@ -183,7 +182,7 @@ pub difference_permitted : (default : Action) (rules except : List Rule) (a b s 
     → IsPermittedSet default rules a → IsPermittedSet default except b → IsDifference s a b
     → IsNewlyPermittedSet default rules except s
 difference_permitted default rules except a b s of_a of_b is x = (
-  λ i. let (yes, no) = (is x).0 i in ((of_a x).0 yes, λ permitted. no ((of_b x).1 permitted)),
+  λ i. let (in_a, not_b) = (is x).0 i in ((of_a x).0 in_a, λ permitted. not_b ((of_b x).1 permitted)),
   λ i. (is x).1 ((of_a x).1 i.0, λ member. i.1 ((of_b x).0 member)),
 )
 

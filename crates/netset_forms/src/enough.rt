@@ -10,7 +10,6 @@ use ipnet_sets::IpSet;
 use netset_lib::Families;
 
 /// Returns whether the set has an address.
-#[tactic(auto, using(crate::proofs::FormLaws::any_address))]
 fn has_any(set: &IpSet) -> bool
     ensures { IsTrue result ↔ ((x : Address) × IsMember set.now x) }
 {
@@ -18,6 +17,7 @@ fn has_any(set: &IpSet) -> bool
 }
 
 /// Returns whether the set has an address of the families.
+#[tactic(auto, using(crate::proofs::FormLaws::all_families))]
 fn has_address(families: Families, set: &IpSet) -> bool
     ensures { IsTrue result ↔ ((x : Address) × IsOfFamilies families (IsMember set.now) x) }
 {
