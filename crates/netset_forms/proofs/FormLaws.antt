@@ -1,5 +1,5 @@
 -- Sets with the same addresses have the same texts, so the text of a set is the text of what it was made of.
-use Rattle.std.proofs.Common.{◌↔◌, ◌≡◌, ℕ, Bool, true, false, IsTrue, List, [], max, Option, Some, None, subst, sym}
+use Rattle.std.proofs.Common.{◌↔◌, ℕ, Bool, true, false, List, [], max, Option, Some, None}
 use Rattle.std.specs.Borrow.{Bor}
 use Rattle.ipnet_base.specs.Address.{Family, IPv4, IPv6, Address}
 use Rattle.ipnet_base.specs.Network.{Network}
@@ -148,25 +148,6 @@ module _ (default : Action) (form : FormRequest) (grammar : Grammar) (bytes : Li
   }
 
 -- ---- whether there is an address
-
-pub in_named : (families : Families) (s : IpSet) → families ≡ Chosen.Named → ((x : Address) × IsMember s x)
-    → (x : Address) × IsOfFamilies families (IsMember s) x
-in_named families s is h = subst (λ f. (x : Address) × IsOfFamilies f (IsMember s) x) (sym is) h
-
-pub of_named : (families : Families) (s : IpSet) → families ≡ Chosen.Named
-    → ((x : Address) × IsOfFamilies families (IsMember s) x) → (x : Address) × IsMember s x
-of_named families s is h = subst (λ f. (x : Address) × IsOfFamilies f (IsMember s) x) is h
-
-pub in_both : (families : Families) (s : IpSet) → families ≡ Chosen.Both → ((x : Address) × IsMember s x)
-    → (x : Address) × IsOfFamilies families (IsMember s) x
-in_both families s is h = subst (λ f. (x : Address) × IsOfFamilies f (IsMember s) x) (sym is) h
-
-pub of_both : (families : Families) (s : IpSet) → families ≡ Chosen.Both
-    → ((x : Address) × IsOfFamilies families (IsMember s) x) → (x : Address) × IsMember s x
-of_both families s is h = subst (λ f. (x : Address) × IsOfFamilies f (IsMember s) x) is h
-
--- without a choice, and for both families, all addresses are meant
-pub ruleset all_families = (in_named, of_named, in_both, of_both)
 
 pub enough_same : (needed : Bool) (r : FormRequest) (A B : Address → Type 0) → ((x : Address) → A x ↔ B x)
     → (succeeded : Bool) → IsEnoughIf needed r A succeeded → IsEnoughIf needed r B succeeded

@@ -17,7 +17,6 @@ fn has_any(set: &IpSet) -> bool
 }
 
 /// Returns whether the set has an address of the families.
-#[tactic(auto, using(crate::proofs::FormLaws::all_families))]
 fn has_address(families: Families, set: &IpSet) -> bool
     ensures { IsTrue result ↔ ((x : Address) × IsOfFamilies families (IsMember set.now) x) }
 {
