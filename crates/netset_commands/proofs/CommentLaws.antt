@@ -1,6 +1,6 @@
 -- Titles that are split at a colon before a blank.
-use Rattle.std.proofs.Common.{◌≡◌, ◌≤◌, ◌<◌, ◌==◌, ◌∙◌, ◌++◌, ◌⊎◌, ◌&&◌, Bool, true, false, not, ℕ, List, Option, Some, None, ap, arith, codes, inl, inr}
-use Rattle.std.proofs.Common.{drop, length, refl, sym, take}
+use Rattle.std.proofs.Common.{◌≡◌, ◌≤◌, ◌<◌, ◌==◌, ◌∙◌, ◌++◌, ◌⊎◌, ◌&&◌, Bool, true, false, not, ℕ, List, Some}
+use Rattle.std.proofs.Common.{None, ap, arith, codes, drop, inl, inr, length, refl, sym, take}
 use Rattle.std.proofs.lemmas.Bool.{cases_order}
 use Rattle.std.proofs.lemmas.List.{drop_at, length-append, length-take, take-append-drop}
 use Rattle.std.proofs.lemmas.Str.Pattern.{ends_text}
