@@ -44,7 +44,7 @@ pub fn has_excepts(matches: &ArgMatches) -> bool
 /// ```
 #[tactic(auto, using(crate::proofs::WithoutLaws::side_without))]
 fn answerer_without(alloc: Global, side: Side, sets: Vec<IpSet>) -> Result<Answerer, Failure>
-    ensures answerer { IfOk result (IsFilterWithout side sets.entry.items) }
+    ensures answerer { IfOk result (IsFilterWithout side sets.items) }
     ensures failed { IfErr result (λ failure. failure ≡ Memory) }
 {
     let set = set_without(alloc, sets)?;
