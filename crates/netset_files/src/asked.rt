@@ -2,6 +2,7 @@
 ghost use Rattle.std.specs.Prelude.{◌≡◌, ◌≤◌, Some, None, string_bytes, IfOk, IfErr, IfSome, IfNone};
 ghost use Rattle.netset_lib.specs.Answering.{IsAnswererFor, AreAnsweredBy};
 ghost use Rattle.netset_lib.specs.SetReaders.{ReadsNext, has_entry, refused_count};
+ghost use Rattle.netset_files.specs.ListReads.{Left};
 ghost use Rattle.netset_files.specs.QueryReads.{AnswersQuery};
 
 use crate::input::{open_list, report_unread};
@@ -130,7 +131,11 @@ pub fn read_answers_by(
     name: &str,
     entries: Option<String>,
 ) -> Result<(SetReader, bool, Answer), u8>
-    ensures { IfErr result (λ status. status ≡ 2) }
+    ensures file { IfNone entries (IfOk result (λ r.
+        ReadsNext (AreAnsweredBy answerer r.2) None None lists.reader r.0)) }
+    ensures entries { IfSome entries (λ text. IfOk result (λ r. (after : Left)
+        × ReadsNext (AreAnsweredBy answerer r.2) (Some (string_bytes text)) after lists.reader r.0)) }
+    ensures failed { IfErr result (λ status. status ≡ 2) }
 {
     let Lists {
         reader: lists,

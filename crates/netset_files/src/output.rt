@@ -234,7 +234,7 @@ impl<'a> Writers<'a> {
     pub fn end(self, status: u8) -> u8
         ensures usual { status ≤ 2 → IsUsualStatus result }
         ensures kept { (result ≡ status) ⊎ ((result ≡ 141) ⊎ ((status ≤ 1) × (result ≡ 2))) }
-        ensures withheld { self.answer.is_withheld ≡ true → (result ≡ status) ⊎ (result ≡ 141) }
+        ensures withheld { self.entry.answer.is_withheld ≡ true → (result ≡ status) ⊎ (result ≡ 141) }
     {
         let Writers {
             mut answer,

@@ -38,8 +38,8 @@ IsPairFailure list except Memory = HasNoRefusedRule list
 abbrev pub ExplainsRule : RuleCause → List ℕ → List ℕ → Option (List ℕ) → Type 0
 ExplainsRule = Explains (codes "not a rule") rule_reason
 
--- The text reports why two lists of rules cannot be compared. For refused lines of the first list, `IsFirst` says so of
--- the kept ones and the number of the others, and `IsSecond` for those of the second.
+-- The text reports why two lists of rules cannot be compared. `IsFirst` says so of the kept refused lines of the first
+-- list and the number of the others, and `IsSecond` of the same for the second list.
 abbrev pub IsPairText : (IsFirst IsSecond : List (RefusalFor RuleCause) → ℕ → List ℕ → Type 0) → RulePairFailure
     → List ℕ → Type 0
 IsPairText IsFirst IsSecond (First lines) text = OfNew IsFirst lines 0 0 text

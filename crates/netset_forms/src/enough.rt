@@ -22,7 +22,7 @@ fn has_address(families: Families, set: &IpSet) -> bool
 
 /// Returns whether the set has an address of the families that are asked for, or none is needed.
 pub(crate) fn is_enough(needs_address: bool, request: FormRequest<'_>, set: &IpSet) -> bool
-    ensures { IsEnoughIf needs_address request (IsMember set.now) result }
+    ensures { IsEnoughIf needs_address request.entry (IsMember set.now) result }
 {
     !needs_address || has_address(request.families, set)
 }

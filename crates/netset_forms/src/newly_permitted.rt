@@ -88,7 +88,7 @@ fn newly_permitted(
 /// edit of the rules opens.
 ///
 /// The names: the list, and then the other. The statuses and reports are as `FormCommand` says. Lines that are not
-/// rules are reported as `UnreachedCommand` of `netset_lib` says; those of the other list only if the first has none.
+/// rules are reported as `UnreachedCommand` of `netset_lib` says; lines of the other list only if the first has none.
 ///
 /// ```text
 /// of "permit 10.0.0.0/8\n" and "permit 10.0.0.0/9\n", Deny: status 0, and out gets "10.128.0.0/9\n"
