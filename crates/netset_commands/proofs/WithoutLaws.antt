@@ -44,10 +44,10 @@ side_without side sets set kept of on x fits =
 module _ (pool : IpSet) (f g : Family) (either : (h : Family) → h ≢ g → h ≡ f) (some : HasFamily f pool)
     (none : ¬ (HasFamily g pool)) where
   all_of : (x : Address) → IsMember pool x → x.family ≡ f
-  all_of x m = either x.family (λ e. none (x, e, m))
+  all_of x m = either x.family (λ e. none (x, (e, m)))
 
   has_only : HasOnly (IsMember pool) f
-  has_only = let (x, is, m) = some in record { member = x; some = m; only = all_of }
+  has_only = let (x, (is, m)) = some in record { member = x; some = m; only = all_of }
 
   pub one_family : (k : Family) → (k ≡ f) ↔ HasOnly (IsMember pool) k
   one_family k = (
@@ -56,23 +56,23 @@ module _ (pool : IpSet) (f g : Family) (either : (h : Family) → h ≢ g → h 
   )
 
 not_ipv6 : (h : Family) → h ≢ IPv6 → h ≡ IPv4
-not_ipv6 IPv4 no = refl
-not_ipv6 IPv6 no = absurd (no refl)
+not_ipv6 IPv4 other = refl
+not_ipv6 IPv6 other = absurd (other refl)
 
 not_ipv4 : (h : Family) → h ≢ IPv4 → h ≡ IPv6
-not_ipv4 IPv4 no = absurd (no refl)
-not_ipv4 IPv6 no = refl
+not_ipv4 IPv4 other = absurd (other refl)
+not_ipv4 IPv6 other = refl
 
 -- a pool with addresses of both families
 no_only : (pool : IpSet) → HasFamily IPv4 pool → HasFamily IPv6 pool → (k : Family) → HasOnly (IsMember pool) k → ⊥
-no_only pool (x, of_ipv4, m) (y, of_ipv6, n) k h =
+no_only pool (x, (of_ipv4, m)) (y, (of_ipv6, n)) k h =
     let wrong : IPv4 ≡ IPv6 = sym of_ipv4 ∙ h.only x m ∙ sym (h.only y n) ∙ of_ipv6 in absurd cc
 
 -- a pool without an address
 no_member : (pool : IpSet) → ¬ (HasFamily IPv4 pool) → ¬ (HasFamily IPv6 pool) → (f : Family) (x : Address)
     → x.family ≡ f → IsMember pool x → ⊥
-no_member pool no4 no6 IPv4 x e m = no4 (x, e, m)
-no_member pool no4 no6 IPv6 x e m = no6 (x, e, m)
+no_member pool no4 no6 IPv4 x e m = no4 (x, (e, m))
+no_member pool no4 no6 IPv6 x e m = no6 (x, (e, m))
 
 of_pool : (pool : IpSet) (has4 has6 : Bool) → (IsTrue has4 ↔ HasFamily IPv4 pool)
     → (IsTrue has6 ↔ HasFamily IPv6 pool) → IsFamilyOfPool Chosen.Named pool (only_families has4 has6)
@@ -80,9 +80,9 @@ of_pool pool true false h4 h6 free f =
     one_family pool IPv4 IPv6 not_ipv6 (h4.0 refl) (λ some. let wrong = h6.1 some in absurd cc) f
 of_pool pool false true h4 h6 free f =
     one_family pool IPv6 IPv4 not_ipv4 (h6.0 refl) (λ some. let wrong = h4.1 some in absurd cc) f
-of_pool pool true true h4 h6 free f = (λ no. absurd no, no_only pool (h4.0 refl) (h6.0 refl) f)
+of_pool pool true true h4 h6 free f = (λ never. absurd never, no_only pool (h4.0 refl) (h6.0 refl) f)
 of_pool pool false false h4 h6 free f = (
-  λ no. absurd no,
+  λ never. absurd never,
   λ h. no_member pool (λ some. let wrong = h4.1 some in absurd cc) (λ some. let wrong = h6.1 some in absurd cc)
       h.member.family h.member refl h.some,
 )

@@ -42,9 +42,8 @@ pub fn has_excepts(matches: &ArgMatches) -> bool
 /// ```text
 /// Inside, of 10.0.0.0/8 and 10.0.0.1: keeps 10.0.0.2; Outside: keeps 10.0.0.1 and 11.0.0.0/8
 /// ```
-#[tactic(auto, using(crate::proofs::WithoutLaws::side_without))]
 fn answerer_without(alloc: Global, side: Side, sets: Vec<IpSet>) -> Result<Answerer, Failure>
-    ensures answerer { IfOk result (IsFilterWithout side sets.entry.items) }
+    ensures answerer { IfOk result (IsFilterWithout side sets.items) }
     ensures failed { IfErr result (λ failure. failure ≡ Memory) }
 {
     let set = set_without(alloc, sets)?;

@@ -1,5 +1,5 @@
 //! The command `filter --lines`: its flags, and its run.
-ghost use Rattle.std.specs.Prelude.{◌≡◌, ◌≤◌, codes, IfErr};
+ghost use Rattle.std.specs.Prelude.{◌≡◌, ◌≤◌, cond, codes, IfErr};
 ghost use Rattle.netset_commands.specs.Arguments.{IsFlag};
 ghost use Rattle.netset_commands.specs.Calls.{AreFlags};
 ghost use Rattle.netset_lib.specs.Commands.{grammar_of, side_of};
@@ -112,8 +112,24 @@ pub fn filter_lines(rt: &HostRuntime, matches: &ArgMatches, writers: &mut Writer
     }
 }
 
-/// Opens the log of this name, prints its lines, and returns the exit status. A text of UTF-16 is refused, since its
-/// entries are not found.
+/// Ends a run that printed the lines of the log of this name and has this status, and returns the exit status. If the
+/// log begins like UTF-16, that is reported, and the status is 2, since the entries of such a text are not found.
+fn end_log<X: Write>(is_utf16: bool, log: &str, status: u8, faults: &mut X) -> u8
+    ensures exact { result ≡ cond is_utf16 2 status }
+    ensures status { status ≤ 2 → result ≤ 2 }
+{
+    if !is_utf16 {
+        return status;
+    }
+    let shown = log.as_bytes().escape_ascii();
+    let _ = writeln!(
+        faults,
+        "netset: {shown}: begins like UTF-16: is the file UTF-16?"
+    );
+    2
+}
+
+/// Opens the log of this name, prints its lines, and returns the exit status. A text of UTF-16 is refused.
 fn filter_named(
     rt: &HostRuntime,
     filter: LineFilter,
@@ -132,13 +148,5 @@ fn filter_named(
     }
     let (out, faults) = (&mut writers.answer, &mut writers.faults);
     let status = run_lines(filter, names, &mut input, out, faults);
-    if !input.is_utf16() {
-        return status;
-    }
-    let shown = log.as_bytes().escape_ascii();
-    let _ = writeln!(
-        faults,
-        "netset: {shown}: begins like UTF-16: is the file UTF-16?"
-    );
-    2
+    end_log(input.is_utf16(), log, status, faults)
 }

@@ -58,7 +58,7 @@ pub fn names_without_or_report<'a>(
 /// ```
 #[tactic(auto, using(crate::proofs::WithoutLaws::one_set, crate::proofs::WithoutLaws::only_memory))]
 pub fn set_without(alloc: Global, mut sets: Vec<IpSet>) -> Result<IpSet, Failure>
-    ensures set { IfOk result (IsWithout sets.entry.items) }
+    ensures set { IfOk result (IsWithout sets.items) }
     ensures failed { IfErr result (λ failure. failure ≡ Memory) }
 {
     if sets.len() == 1 {
@@ -75,7 +75,7 @@ pub fn without_or_report(
     names: &[&str],
     writers: &mut Writers<'_>,
 ) -> Result<IpSet, u8>
-    ensures set { IfOk result (IsWithout sets.entry.items) }
+    ensures set { IfOk result (IsWithout sets.items) }
     ensures failed { IfErr result (λ status. status ≡ 2) }
 {
     match set_without(rt.alloc(), sets) {

@@ -152,7 +152,7 @@ module _ (default : Action) (form : FormRequest) (grammar : Grammar) (bytes : Li
 pub enough_same : (needed : Bool) (r : FormRequest) (A B : Address → Type 0) → ((x : Address) → A x ↔ B x)
     → (succeeded : Bool) → IsEnoughIf needed r A succeeded → IsEnoughIf needed r B succeeded
 enough_same true r A B same succeeded h = (
-  λ yes. let (x, i) = h.0 yes in (x, (chosen_same A B same r.families x).0 i),
+  λ t. let (x, i) = h.0 t in (x, (chosen_same A B same r.families x).0 i),
   λ (x, i). h.1 (x, (chosen_same A B same r.families x).1 i),
 )
 enough_same false r A B same succeeded h = h
@@ -163,7 +163,7 @@ pub difference_permitted : (default : Action) (rules except : List Rule) (a b s 
     → IsPermittedSet default rules a → IsPermittedSet default except b → IsDifference s a b
     → IsNewlyPermittedSet default rules except s
 difference_permitted default rules except a b s of_a of_b is x = (
-  λ i. let (yes, no) = (is x).0 i in ((of_a x).0 yes, λ permitted. no ((of_b x).1 permitted)),
+  λ i. let (in_a, not_b) = (is x).0 i in ((of_a x).0 in_a, λ permitted. not_b ((of_b x).1 permitted)),
   λ i. (is x).1 ((of_a x).1 i.0, λ member. i.1 ((of_b x).0 member)),
 )
 

@@ -9,14 +9,22 @@ use crate::form::FormRequest;
 use ipnet_sets::IpSet;
 use netset_lib::Families;
 
+/// Returns whether the set has an address.
+fn has_any(set: &IpSet) -> bool
+    ensures { IsTrue result ↔ ((x : Address) × IsMember set.now x) }
+{
+    set.has_ipv4() || set.has_ipv6()
+}
+
 /// Returns whether the set has an address of the families.
 fn has_address(families: Families, set: &IpSet) -> bool
     ensures { IsTrue result ↔ ((x : Address) × IsOfFamilies families (IsMember set.now) x) }
 {
     match families {
+        Families::Named => has_any(set),
         Families::Ipv4 => set.has_ipv4(),
         Families::Ipv6 => set.has_ipv6(),
-        Families::Named | Families::Both => set.has_ipv4() || set.has_ipv6(),
+        Families::Both => has_any(set),
     }
 }
 
