@@ -1,5 +1,5 @@
 -- Lists that are read one after another.
-use Rattle.std.proofs.Common.{◌≡◌, Option, Some, None, Result, Ok, Err, IfOk, IfSome, IfNone}
+use Rattle.std.proofs.Common.{Option, Some, None, Result, Ok, Err, IfOk, IfSome, IfNone}
 use Rattle.std.proofs.lemmas.Fn.{FoldsTo-push}
 
 -- one more list
