@@ -1,6 +1,6 @@
 -- The addresses of an entry that a set has: which they are, how many, and the share of the entry.
-use Rattle.std.proofs.Common.{◌≡◌, ◌≢◌, ◌↔◌, ◌+◌, ◌*◌, ◌/◌, ◌^◌, ◌<◌, ◌≤◌, ℕ, ap, arith, refl, sym}
-use Rattle.std.proofs.Common.{Option, None, List, length, map, subst, ◌∙◌}
+use Rattle.std.proofs.Common.{◌≡◌, ◌≢◌, ◌↔◌, ◌+◌, ◌*◌, ◌/◌, ◌<◌, ◌≤◌, ℕ, ap, arith, sym}
+use Rattle.std.proofs.Common.{List, length, map, subst, ◌∙◌}
 use Rattle.std.proofs.Common.{IfOk, Result}
 use Rattle.std.proofs.lemmas.Nat.{div-mul-add}
 use Rattle.std.proofs.lemmas.Result.{IfOk-weaker}
@@ -13,8 +13,6 @@ use Rattle.ipnet_base.specs.Address.{Address}
 use Rattle.ipnet_base.specs.Network.{Network}
 use Rattle.ipnet_base.specs.Ranges.{AddressRange, address_count, addresses_of}
 use Rattle.ipnet_bars.proofs.PartLaws.{no_more, same_count}
-use Rattle.ipnet_bars.specs.Parts.{counted}
-use Rattle.ipnet_bars.specs.Shares.{tenths}
 use Rattle.ipnet_lists.specs.Entries.{block_range}
 use Rattle.ipnet_sets.specs.Members.{IsCountOf, IsMember, IsMemberOf}
 use Rattle.ipnet_sets.specs.Parts.{IsInPart}
@@ -72,21 +70,11 @@ part_size InSet r count size h is = omega (arith, is, entry_fits InSet r count h
 
 -- a thousand counts have this number of whole sizes
 pub whole_sizes : (count size whole rest turns : ℕ) → rest < size → count * turns ≡ whole * size + rest
-    → ¬ (turns < 1000) → turns ≤ 1000 → whole ≡ count * 1000 / size
+    → 1000 ≤ turns → turns ≤ 1000 → whole ≡ count * 1000 / size
 whole_sizes count size whole rest turns below is ended most =
     let all : turns ≡ 1000 = omega (arith, ended, most) in
     let at : (whole * size + rest) / size ≡ whole = div-mul-add whole size rest below in
     sym (ap (λ n. count * n / size) (sym all) ∙ ap (λ n. n / size) is ∙ at)
-
--- a count of 2 ^ 128 is all of a size that is not below it
-pub whole_share : (count size : Option ℕ) → count ≡ None → counted count ≤ counted size → counted size ≤ 2 ^ 128
-    → 1000 ≡ tenths (counted count) (counted size)
-whole_share count size is le most =
-    let at_none : 2 ^ 128 ≤ counted size = subst (λ z. counted z ≤ counted size) is le in
-    let same : 2 ^ 128 ≡ counted size = omega (arith, at_none, most) in
-    let all : 1000 ≡ tenths (2 ^ 128) (2 ^ 128) = refl in
-    subst (λ z. 1000 ≡ tenths (counted z) (counted size)) (sym is)
-    (subst (λ z. 1000 ≡ tenths (2 ^ 128) z) same all)
 
 -- lines of a list are refused
 pub refused_entries : (grammar : Grammar) (bytes : List ℕ) (list : EntryList) → IsReadOf grammar bytes list

@@ -1,6 +1,7 @@
 -- The entry as written, and then the count of its part, its size and the share.
-use Rattle.std.proofs.Common.{◌∙◌, ◌++◌, ap, append_assoc, refl, string_bytes, subst, sym}
+use Rattle.std.proofs.Common.{◌∙◌, ◌++◌, ap, append_assoc, refl, string_bytes}
 use Rattle.std.proofs.lemmas.Result.{on_ok_weaker}
+use Rattle.ipnet_bars.proofs.SummaryLaws.{written_as}
 use Rattle.ipnet_bars.specs.Parts.{counted}
 use Rattle.ipnet_lists.specs.EntryOf.{entry_range}
 use Rattle.ipnet_sets.specs.Members.{IsMember}
@@ -9,25 +10,28 @@ use Rattle.netset_entries.proofs.shares.push_share.Goals as goal
 
 pub share_text-requires : goal.share_text-requires
 share_text-requires c =
+    let InSet = IsMember c.args.set.now in
     let range = entry_range c.args.line.now.entry in
-    part_size (IsMember c.args.set.now) range (counted c.count_of.result) (counted c.size_of.result)
-    (entry_counted (IsMember c.args.set.now) c.in_ok-part.part range (counted c.count_of.result) c.in_ok-part.ensures
-    c.count_of.ensures) c.size_of.ensures
+    let count = counted c.count_of-count.result in
+    part_size InSet range count (counted c.size_of.result)
+    (entry_counted InSet c.in_ok-part.part range count c.in_ok-part.ensures c.count_of-count.ensures) c.size_of.ensures
 
 pub returns : goal.returns
 returns c =
     let line = c.args.line.now in
     let range = entry_range line.entry in
     let InSet = IsMember c.args.set.now in
+    let count = counted c.count_of-count.result in
     on_ok_weaker c.extend_from_slice-2.result
     (λ text. (
       line.text.now ++ string_bytes c.in_ok-tail.tail,
       record {
-        count = counted c.count_of.result;
-        is_count = entry_counted InSet c.in_ok-part.part range (counted c.count_of.result) c.in_ok-part.ensures
-            c.count_of.ensures;
+        count = count;
+        is_count = entry_counted InSet c.in_ok-part.part range count c.in_ok-part.ensures c.count_of-count.ensures;
         spelled = ap (λ z. line.text.now ++ z) (c.in_ok-tail.ensures ∙ rw c.size_of.ensures refl);
       },
       text ∙ ap (λ z. z ++ string_bytes c.in_ok-tail.tail) c.in_ok-extend_from_slice.ensures.items
           ∙ append_assoc c.args.text.now.items line.text.now (string_bytes c.in_ok-tail.tail),
-    )) c.extend_from_slice-2.ensures.items
+    )) (written_as c.extend_from_slice-2.result c.extend_from_slice.new.self.items c.extend_from_slice-2.new.self.items
+    c.as_bytes.result.now (string_bytes c.in_ok-tail.tail) c.as_bytes.ensures.value
+    c.extend_from_slice-2.ensures.items)

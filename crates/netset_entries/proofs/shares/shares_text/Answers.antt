@@ -1,6 +1,5 @@
 -- The line of each entry, one after another.
-use Rattle.std.proofs.Common.{◌≡◌, ◌+◌, length, map, refl, sym, subst, arith}
-use Rattle.std.proofs.lemmas.List.{length-map}
+use Rattle.std.proofs.Common.{◌+◌, map, refl, sym, subst, arith}
 use Rattle.ipnet_sets.specs.Members.{IsMember}
 use Rattle.netset_entries.specs.EntryLineOf.{numbered}
 use Rattle.netset_entries.specs.Shares.{IsShareLineAt}
@@ -24,11 +23,3 @@ loop-line-preserved c =
     subst (AreTextParts Is 0 (i + 1)) (sym text)
     (parts_more Is 0 i i (i + 1) c.loop-line.text.items added c.loop-line.invariant (omega arith) refl
     (numbered line, entry_of_line lines i line c.loop-line-test.true (sym c.line-item.is), is))
-
-pub returns : goal.returns
-returns c =
-    let lines = c.args.entries.now in
-    let Is = IsShareLineAt (IsMember c.args.set.now) (map numbered lines) in
-    let size : c.loop-line.line-index ≡ length (map numbered lines)
-    = omega (arith, c.loop-line-test.false, c.loop-line.auto.line-index-end, length-map lines numbered) in
-    subst (λ n. AreTextParts Is 0 n c.loop-line.text.items) size c.loop-line.invariant
