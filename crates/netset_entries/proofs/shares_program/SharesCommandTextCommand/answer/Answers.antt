@@ -1,6 +1,8 @@
 -- The lines of the entries that were read, by the set of all addresses.
-use Rattle.std.proofs.Common.{map}
+use Rattle.std.proofs.Common.{map, subst}
+use Rattle.ipnet_sets.specs.Members.{IsMember}
 use Rattle.netset_entries.specs.EntryLineOf.{numbered}
+use Rattle.netset_entries.specs.Shares.{AreShareLines}
 use Rattle.netset_entries.proofs.ShareLineLaws.{refused_entries}
 use Rattle.netset_entries.proofs.TwoListLaws.{all_read}
 use Rattle.netset_entries.proofs.shares_program.SharesCommandTextCommand.answer.Goals as goal
@@ -13,7 +15,8 @@ returns-clause-text c =
       record {
         entries = map numbered list.entries.items;
         read = all_read c.args.self.grammar c.args.self.list.now list c.in_ok-entries.ensures c.if-refused-ne0.false;
-        right = c.in_ok-text.ensures;
+        right = subst (λ entries. AreShareLines (IsMember c.in-Ok.set) (map numbered entries) c.in_ok-text.text.items)
+            c.as_slice.ensures.value c.in_ok-text.ensures;
       },
     )
 
