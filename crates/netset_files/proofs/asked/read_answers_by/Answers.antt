@@ -16,6 +16,9 @@ pub returns-clause-entries : goal.returns-clause-entries
 returns-clause-entries c =
     let second = c.in_ok-second in
     some_weaker c.args.entries _ _
-    (λ text h. (h.0, subst (λ end. ReadsNext (AreAnsweredBy c.args.answerer second.answer) (Some (string_bytes text))
-        h.0 c.args.lists.reader end.lists) (sym c.into_reader-allowed.ensures.reader) h.1.1))
+    (λ text h. (
+      h.0,
+      subst (λ end. ReadsNext (AreAnsweredBy c.args.answerer second.answer) (Some (string_bytes text))
+          h.0 c.args.lists.reader end.lists) (sym c.into_reader-allowed.ensures.reader) h.1.1,
+    ))
     second.ensures.entries
