@@ -14,7 +14,7 @@ from_order a b none (inl same) = omega (arith, same)
 from_order a b none (inr (inl less)) = absurd (none less)
 from_order a b none (inr (inr more)) = omega (arith, more)
 
--- where the text is found, it is split
+-- if the text is found, it is split
 pub split_here : (text front : List ℕ) (i j : ℕ) (rest : List ℕ) → FindsText (codes ": ") text (Some (i, j))
     → front ≡ take i text → rest ≡ drop j text → IsSplitAtColon text front rest
 split_here text front i j rest found front_is rest_is = record {
@@ -27,7 +27,7 @@ split_here text front i j rest found front_is rest_is = record {
       omega (arith, after_i, ap length front_is, length-take i text);
 }
 
--- where it is not found, there is none
+-- if it is not found, there is none
 pub none_here : (text : List ℕ) → FindsText (codes ": ") text None → HasNoColon text
 none_here text none before after e =
     none (length before) (omega (arith, ap length e, length-append before (codes ": " ++ after))) after
