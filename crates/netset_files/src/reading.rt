@@ -1,9 +1,5 @@
 //! Lists that are read with a report if that fails.
-ghost use Rattle.std.specs.Prelude.{◌≡◌, ◌≢◌, ◌↔◌, string_bytes, Any, IsTrue, IfSome, IfOk, IfErr};
-ghost use Rattle.ipnet.specs.Lines.{lines_of};
-ghost use Rattle.ipnet_lists.specs.ContentLines.{IsSomeLine};
-ghost use Rattle.ipnet_lists.specs.Lists.{after_mark};
-ghost use Rattle.netset_files.specs.Files.{standard_input};
+ghost use Rattle.std.specs.Prelude.{◌≡◌, ◌≢◌, ◌↔◌, string_bytes, IsTrue, IfSome, IfOk, IfErr};
 ghost use Rattle.netset_files.specs.LineBytes.{MayHaveLines};
 ghost use Rattle.netset_files.specs.declared.lists.Empties.TheVariants.{Refuse};
 
@@ -45,8 +41,7 @@ pub fn may_have_lines(
 ///     without an entry are to be refused
 /// ```
 pub fn bytes_of(rt: &HostRuntime, name: &str, what: &str, reports: Reports) -> Result<Vec<u8>, u8>
-    ensures lines { reports.empties ≡ Refuse → name.now ≢ standard_input
-        → IfOk result (λ bytes. Any IsSomeLine (lines_of (after_mark bytes.items))) }
+    ensures lines { IfOk result (λ bytes. MayHaveLines reports name.now bytes.items) }
     ensures failed { IfErr result (λ status. status ≡ 2) }
 {
     let bytes = whole_of(rt, name, reports)?;

@@ -10,7 +10,7 @@ returns-clause-file c =
     let second = c.in_ok-second in
     let Read = ReadsNext (AreAnsweredBy c.args.answerer second.answer) None None c.args.lists.reader in
     none_weaker c.args.entries _ _
-    (λ h. subst (λ end. Read end.lists) (sym c.into_reader-allowed.ensures.reader) h.1) second.ensures.file
+    (λ h. subst (λ end. Read end.lists) (sym c.into_reader-reader.ensures.reader) h.1) second.ensures.file
 
 pub returns-clause-entries : goal.returns-clause-entries
 returns-clause-entries c =
@@ -19,6 +19,6 @@ returns-clause-entries c =
     (λ text h. (
       h.0,
       subst (λ end. ReadsNext (AreAnsweredBy c.args.answerer second.answer) (Some (string_bytes text))
-          h.0 c.args.lists.reader end.lists) (sym c.into_reader-allowed.ensures.reader) h.1.1,
+          h.0 c.args.lists.reader end.lists) (sym c.into_reader-reader.ensures.reader) h.1.1,
     ))
     second.ensures.entries
