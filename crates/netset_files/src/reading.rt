@@ -45,10 +45,11 @@ pub fn bytes_of(rt: &HostRuntime, name: &str, what: &str, reports: Reports) -> R
     ensures failed { IfErr result (λ status. status ≡ 2) }
 {
     let bytes = whole_of(rt, name, reports)?;
-    if !may_have_lines(rt, name, bytes.as_slice(), what, reports) {
-        return Err(2);
+    if may_have_lines(rt, name, bytes.as_slice(), what, reports) {
+        Ok(bytes)
+    } else {
+        Err(2)
     }
-    Ok(bytes)
 }
 
 /// Returns the bytes of the entries of the command line, a line each, if there are `entries`. They are reported as
