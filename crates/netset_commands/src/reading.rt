@@ -60,9 +60,7 @@ pub fn finish_lists(
 ) -> Result<(), u8>
     ensures refused { writers.old.reports.skips_bad ≡ false → OnOk result (HasNoBadLine lists.reader) }
     ensures noted { writers.new.skipped ≡ false → OnOk result (HasNoBadLine lists.reader) }
-    ensures some { writers.old.skipped ≡ false → writers.new.skipped ≡ true → HasBadLine lists.reader }
     ensures allowed { IsOk result → IsTrue lists.allowed }
-    ensures bad { IsErr result → lists.allowed ≡ true → HasBadLine lists.reader }
     ensures failed { IfErr result (λ status. status ≡ 2) }
 {
     let (reader, allowed) = lists.into_reader();
