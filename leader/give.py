@@ -34,6 +34,9 @@ for c in order:
     if c.name not in need: continue
     if any(b.name in bad for b in c.below()):
         bad.add(c.name); missing.append(c.name); continue
+    if not c.is_program and c.is_built():
+        # already here
+        kept.is_built(c); done.append(c.name); continue
     key = kept.key(c)
     if not os.path.isdir(kept.place(c, False, key)):
         bad.add(c.name); missing.append(c.name); continue
