@@ -73,12 +73,16 @@ def begins_with_entry(text):
 
 
 def hides_entry(comment):
-    """Whether the comment begins with ";", and then with an entry, a rule or a change."""
+    """Whether the comment begins with ";", and then with an entry, a rule, a change, words of a router's prefix list,
+    or a VRP."""
     said = comment.partition("#")[0].lstrip(BLANKS + ";,")
     first, rest = re.match(r"([^ \t\f\r;,]*)[ \t\f\r;,]*(.*)", said).groups()
-    named = re.match(r"(any|all|default|host)(?![^ \t\f\r;,])", rest)
-    is_rule = first in ("permit", "deny", "+", "-") and (bool(named) or begins_with_entry(rest))
-    return comment.startswith(";") and (begins_with_entry(said) or is_rule)
+    named = re.match(r"(any|all|default|host|ip)(?![^ \t\f\r;,])", rest)
+    is_rule = first in ("permit", "deny", "+", "-", "host") and (bool(named) or begins_with_entry(rest))
+    is_router = first in ("ip", "ipv6") and bool(re.match(r"prefix-list(?![^ \t\f\r;,])", rest))
+    is_router = is_router or first in ("le", "ge", "seq") and bool(re.match(r"[0-9]+(?![^ \t\f\r;,])", rest))
+    is_vrp = bool(re.fullmatch(r"(AS)?[0-9]+", first)) and begins_with_entry(rest)
+    return comment.startswith(";") and (begins_with_entry(said) or is_rule or is_router or is_vrp)
 
 
 def contents_of(line):

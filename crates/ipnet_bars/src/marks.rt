@@ -133,8 +133,12 @@ pub(crate) fn push_number(text: &mut String, number: usize) -> Result<(), AllocE
     write!(text, "{number}")
 }
 
-/// Appends tenths of a per cent.
-pub(crate) fn push_percent(text: &mut String, tenths: u16) -> Result<(), AllocError>
+/// Appends tenths of a per cent. Fails only if memory runs out.
+///
+/// ```text
+/// 222 appends "22.2 %"; 1000 appends "100.0 %"
+/// ```
+pub fn push_percent(text: &mut String, tenths: u16) -> Result<(), AllocError>
     ensures { OnOk result (string_bytes text.new ≡ string_bytes text.old ++ percent_text tenths) }
 {
     let whole = tenths / 10;

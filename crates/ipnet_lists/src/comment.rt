@@ -3,12 +3,14 @@ ghost use Rattle.std.specs.Prelude.{◌≡◌, ◌==◌, ◌↔◌, ◌<◌, len
 ghost use Rattle.std.specs.List.{before_first};
 ghost use Rattle.ipnet_lists.specs.Comments as comments;
 ghost use Rattle.ipnet_lists.specs.Comments.{Opens, IsCommentAt, BeginsWithEntry, IsRuleStart, IsAddressesWord};
-ghost use Rattle.ipnet_lists.specs.Comments.{BeginsWithRule, HidesEntry};
+ghost use Rattle.ipnet_lists.specs.Comments.{BeginsWithAction, BeginsWithBound, BeginsWithPrefixList};
+ghost use Rattle.ipnet_lists.specs.Comments.{BeginsWithPrefixWords, BeginsWithRouting, BeginsWithRule, BeginsWithVrp};
+ghost use Rattle.ipnet_lists.specs.Comments.{HidesEntry, IsAsWord, IsDigits};
 ghost use Rattle.ipnet_lists.specs.Lists.{IsContents};
 
-use crate::bytes::has_byte;
+use crate::bytes::{are_digits, has_byte};
 use crate::cause_words::is_entry_word;
-use crate::word::{after_leading, from_word, leading_word, two_words};
+use crate::word::{after_leading, from_word, leading_word, second_word, two_words};
 use memchr::{memchr, memchr2};
 
 /// Whether the byte at this index of the line begins a comment.
@@ -66,7 +68,7 @@ fn begins_with_entry(text: &[u8]) -> bool
     is_entry_word(leading_word(text)) || is_entry_word(two_words(text))
 }
 
-/// Whether the word is the first of a rule or of a change.
+/// Whether the word is the first of a rule or of a change, or comes before an address of a rule.
 fn is_rule_start(word: &[u8]) -> bool
     ensures { IsTrue result ↔ IsRuleStart word.now }
 {
@@ -74,9 +76,10 @@ fn is_rule_start(word: &[u8]) -> bool
         || word == b"deny".as_slice()
         || word == b"+".as_slice()
         || word == b"-".as_slice()
+        || word == b"host".as_slice()
 }
 
-/// Whether the word names addresses in the rules of a router.
+/// Whether the word names addresses in the rules of a router, or is the protocol before them.
 fn is_addresses_word(word: &[u8]) -> bool
     ensures { IsTrue result ↔ IsAddressesWord word.now }
 {
@@ -84,11 +87,12 @@ fn is_addresses_word(word: &[u8]) -> bool
         || word == b"all".as_slice()
         || word == b"default".as_slice()
         || word == b"host".as_slice()
+        || word == b"ip".as_slice()
 }
 
 /// Whether the text begins with a rule or a change.
-fn begins_with_rule(text: &[u8]) -> bool
-    ensures { IsTrue result ↔ BeginsWithRule text.now }
+fn begins_with_action(text: &[u8]) -> bool
+    ensures { IsTrue result ↔ BeginsWithAction text.now }
 {
     if !is_rule_start(leading_word(text)) {
         return false;
@@ -97,7 +101,77 @@ fn begins_with_rule(text: &[u8]) -> bool
     begins_with_entry(rest) || is_addresses_word(leading_word(rest))
 }
 
-/// Whether the comment begins with ";", and its text with an entry, a rule or a change.
+/// Whether the text begins with the words of a router's prefix list.
+fn begins_with_prefix_list(text: &[u8]) -> bool
+    ensures { IsTrue result ↔ BeginsWithPrefixList text.now }
+{
+    let word = leading_word(text);
+    if word != b"ip".as_slice() && word != b"ipv6".as_slice() {
+        return false;
+    }
+    leading_word(after_leading(text)) == b"prefix-list".as_slice()
+}
+
+/// Whether the text is decimal digits.
+fn is_number(text: &[u8]) -> bool
+    ensures { IsTrue result ↔ IsDigits text.now }
+{
+    !text.is_empty() && are_digits(text)
+}
+
+/// Whether the text begins with a bound or a number of a rule in a prefix list.
+fn begins_with_bound(text: &[u8]) -> bool
+    ensures { IsTrue result ↔ BeginsWithBound text.now }
+{
+    let word = leading_word(text);
+    if word != b"le".as_slice() && word != b"ge".as_slice() && word != b"seq".as_slice() {
+        return false;
+    }
+    is_number(second_word(text))
+}
+
+/// Whether the text begins with words of a router's prefix list.
+fn begins_with_prefix_words(text: &[u8]) -> bool
+    ensures { IsTrue result ↔ BeginsWithPrefixWords text.now }
+{
+    begins_with_prefix_list(text) || begins_with_bound(text)
+}
+
+/// Whether the word is the number of an AS.
+fn is_as_word(word: &[u8]) -> bool
+    ensures { IsTrue result ↔ IsAsWord word.now }
+{
+    match word.strip_prefix(b"AS") {
+        Some(digits) => is_number(digits),
+        None => is_number(word),
+    }
+}
+
+/// Whether the text begins with a VRP: the number of an AS, and an entry.
+fn begins_with_vrp(text: &[u8]) -> bool
+    ensures { IsTrue result ↔ BeginsWithVrp text.now }
+{
+    if !is_as_word(leading_word(text)) {
+        return false;
+    }
+    begins_with_entry(after_leading(text))
+}
+
+/// Whether the text begins with words of a router's prefix list, or with a VRP.
+fn begins_with_routing(text: &[u8]) -> bool
+    ensures { IsTrue result ↔ BeginsWithRouting text.now }
+{
+    begins_with_prefix_words(text) || begins_with_vrp(text)
+}
+
+/// Whether the text begins with a rule, a change, words of a router's prefix list, or a VRP.
+fn begins_with_rule(text: &[u8]) -> bool
+    ensures { IsTrue result ↔ BeginsWithRule text.now }
+{
+    begins_with_action(text) || begins_with_routing(text)
+}
+
+/// Whether the comment begins with ";", and its text with an entry, or with a line of another kind of list.
 fn hides_entry(comment: &[u8]) -> bool
     ensures { IsTrue result ↔ HidesEntry comment.now }
 {
@@ -109,7 +183,7 @@ fn hides_entry(comment: &[u8]) -> bool
 }
 
 /// Returns the contents of the line: the text before its comment, or the whole line if the comment hides an entry, a
-/// rule or a change, or if a carriage return is between other bytes than blanks. Otherwise a line that is only a
+/// rule, a change or a VRP, or if a carriage return is between other bytes than blanks. Otherwise a line that is only a
 /// comment has no contents, whatever is in the comment.
 ///
 /// ```text

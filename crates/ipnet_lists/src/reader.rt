@@ -1,5 +1,5 @@
 //! The lines of a list: the entries, one a line, and the lines that are refused.
-ghost use Rattle.std.specs.Prelude.{◌≡◌, ◌<◌, ◌∷◌, List, [], length, OnOk, IfOk, IfSome};
+ghost use Rattle.std.specs.Prelude.{◌≡◌, ◌<◌, ◌∷◌, List, [], length, OnOk, IfOk, IfSome, false};
 ghost use Rattle.ipnet.specs.Lines.{lines_of};
 ghost use Rattle.std.specs.Str.{IsUtf8};
 ghost use Rattle.ipnet_lists.specs.Entries.{IsEntryText, IsEntryWord, ReadsAs};
@@ -132,6 +132,7 @@ impl LineReader {
         ensures first { result.list ≡ 0 }
         ensures line { result.line ≡ 0 }
         ensures none { AreRefused result.refused [] }
+        ensures no_entry { result.has_entry ≡ false }
     {
         LineReader {
             alloc,

@@ -55,13 +55,14 @@ impl<'a, W: Write> Watched<'a, W> {
         *has_failed
     }
 
-    /// Writes all the bytes, and does not flush. If a write fails, the writer has taken a front of the bytes.
+    /// Writes all the bytes. After that it is not flushed. If a write fails, the writer has taken a front of the bytes.
     pub fn put(&mut self, bytes: &[u8]) -> io::Result<()>
         ensures whole { OnOk result
             (Appends (W.contents (writer_of self.old)) (W.contents (writer_of self.new)) bytes.now) }
         ensures front { (front : List ℕ) × StartsWith bytes.now front
             × Appends (W.contents (writer_of self.old)) (W.contents (writer_of self.new)) front }
         ensures failed { HasFailed self.new ↔ IsErr result }
+        ensures unflushed { ¬ (IsFlushed self.new) }
         ensures same_reference { place_of self.new ≡ place_of self.old }
     {
         self.is_flushed = false;
@@ -70,10 +71,11 @@ impl<'a, W: Write> Watched<'a, W> {
         result
     }
 
-    /// Flushes the writer. It is flushed if and only if that succeeds.
+    /// Flushes the writer. It is flushed if and only if that succeeds. Whether it has failed stays the same.
     pub fn flush(&mut self) -> io::Result<()>
         ensures bytes { Keeps (W.contents (writer_of self.old)) (W.contents (writer_of self.new)) }
         ensures flushed { IsFlushed self.new ↔ IsOk result }
+        ensures same_failed { HasFailed self.new ↔ HasFailed self.old }
         ensures same_reference { place_of self.new ≡ place_of self.old }
     {
         let result = self.writer.flush();

@@ -1,7 +1,7 @@
 -- The lines of entries of the command line, one after another.
 use Rattle.std.proofs.Common.{◌≡◌, ◌∙◌, ◌<◌, ◌+◌, ◌++◌, ◌∷◌, [], ℕ, List, All, ap, sym, subst, take, length, get_or}
 use Rattle.std.proofs.Common.{arith, map, refl}
-use Rattle.std.proofs.lemmas.List.{flat_map_more, get_or-map, length-map, map-append, take_more}
+use Rattle.std.proofs.lemmas.List.{flat_map_more, get_or-map, length-map, map-append, take-map, take_more}
 use Rattle.std.proofs.lemmas.List.Elements.{All-push}
 use Rattle.std.specs.Borrow.{Bor}
 use Rattle.ipnet_lists.specs.Causes.{Has}
@@ -35,13 +35,15 @@ module _ (entries : Names) (i : ℕ) (d : Bor (List ℕ)) (within : i < length e
       subst (All IsOneLine) (sym one_more)
       (All-push IsOneLine (texts_of (take i entries)) (get_or entries i d).now h one)
 
-  -- it is not one line
-  pub broken_at : Has 10 (get_or entries i d).now → IsEntryFailure (texts_of entries) (LineBreak (i + 1))
-  broken_at has =
+  -- it is the first that is not one line
+  pub broken_at : Has 10 (get_or entries i d).now → All IsOneLine (texts_of (take i entries))
+      → IsEntryFailure (texts_of entries) (LineBreak (i + 1))
+  broken_at has before =
       let spelled : get_or (texts_of entries) i [] ≡ (get_or entries i d).now =
       get_or-map (λ (x : Bor (List ℕ)). x.now) entries i d [] within in (
         i,
         refl,
         omega (arith, within, length-map entries (λ (x : Bor (List ℕ)). x.now)),
         subst (Has 10) (sym spelled) has,
+        subst (All IsOneLine) (sym (take-map (λ (x : Bor (List ℕ)). x.now) i entries)) before,
       )

@@ -1,6 +1,8 @@
 pub mod CommandLaws
 -- Lemmas of this crate.
 pub mod MapLaws
+pub mod CommentLaws
 pub mod WordLaws
 pub mod OnceLaws
 pub mod EntryLaws
+pub mod WithoutLaws

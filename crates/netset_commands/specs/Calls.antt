@@ -1,5 +1,5 @@
 -- The flags of a command line, the names of its lists, and the operation that it asks for.
-use Rattle.std.specs.Prelude.{◌≡◌, ◌<◌, ◌++◌, map, codes}
+use Rattle.std.specs.Prelude.{◌≡◌, ◌<◌, ◌++◌, length, map, codes}
 use Rattle.clap.specs.declared.parser.matches.ArgMatches.{ArgMatches}
 use Rattle.ipnet_lists.specs.Names.{Names}
 use Rattle.netset_commands.specs.Arguments.{AreListNames, IsFlag, IsLastName, entries_of, input_count, list_name}
@@ -8,6 +8,7 @@ use Rattle.netset_commands.specs.declared.arguments.ArgumentFailure.{ArgumentFai
 use Rattle.netset_commands.specs.declared.arguments.ArgumentFailure.TheVariants.{InputTwice, ControlCharacter}
 use Rattle.netset_commands.specs.declared.arguments.ArgumentFailure.TheVariants.{NoCommand, LineBreak, Memory}
 use Rattle.netset_commands.specs.declared.named_lists.TwoNames.{TwoNames}
+use Rattle.netset_files.specs.Files.{standard_input}
 use Rattle.netset_lib.specs.declared.command.Flags.{Flags}
 
 -- These are the flags of the command line.
@@ -23,6 +24,11 @@ pub record AreFlags (matches : ArgMatches) (flags : Flags) : Type 0 where
 pub record AreTwoNames (matches : ArgMatches) (names : TwoNames) : Type 0 where
   pub first : names.first.now ≡ list_name matches (codes "first")
   pub other : IsLastName matches (codes "others") names.other.now
+
+-- Both lists of a command with two lists are standard input. Example: `changes -` and `changes - -`.
+abbrev pub AreBothInput : ArgMatches → Type 0
+AreBothInput matches = (list_name matches (codes "first") ≡ standard_input)
+    × (length (entries_of matches) ≡ 0) × (list_name matches (codes "others") ≡ standard_input)
 
 -- These are the names of the lists of a command line with any number of lists.
 abbrev pub AreNamesOf : ArgMatches → Names → Type 0

@@ -1,7 +1,7 @@
 -- The options `-e`: entries on the command line, which are one list.
 use Rattle.std.specs.Prelude.{◌≡◌, ◌+◌, ◌<◌, ◌∷◌, ◌++◌, ℕ, List, [], Option, Some, None, All, length, slice_index_or}
 use Rattle.std.specs.Global.{Global}
-use Rattle.std.specs.Prelude.{String, flat_map, string_bytes}
+use Rattle.std.specs.Prelude.{String, flat_map, string_bytes, take}
 use Rattle.ipnet_lists.specs.Causes.{Has}
 use Rattle.netset_commands.specs.declared.arguments.ArgumentFailure.{ArgumentFailure}
 use Rattle.netset_commands.specs.declared.arguments.ArgumentFailure.TheVariants.{InputTwice, ControlCharacter}
@@ -22,11 +22,12 @@ IsEntryText entries None = entries ≡ []
 IsEntryText entries (Some text) =
     (0 < length entries) × All IsOneLine entries × (string_bytes text ≡ entry_lines entries)
 
--- Why there is no such list: the entry with this number, from 1, is not one line. When memory runs out is not
--- specified.
+-- Why there is no such list: the entry with this number, from 1, is the first that is not one line. When memory runs
+-- out is not specified.
 abbrev pub IsEntryFailure : List (List ℕ) → ArgumentFailure → Type 0
 IsEntryFailure entries (LineBreak number) =
     (index : ℕ) × (number ≡ index + 1) × (index < length entries) × Has 10 (slice_index_or entries index [])
+    × All IsOneLine (take index entries)
 IsEntryFailure entries InputTwice = ⊥
 IsEntryFailure entries ControlCharacter = ⊥
 IsEntryFailure entries NoCommand = ⊥

@@ -5,6 +5,7 @@ use Rattle.clap.specs.declared.parser.matches.ArgMatches.{ArgMatches}
 use Rattle.clap.specs.Matches.{found_of, first_value}
 use Rattle.ipnet.specs.NetworkOf.{ip_network}
 use Rattle.ipnet.specs.declared.net.IpNet.{IpNet}
+use Rattle.ipnet.specs.declared.parser.Grammar.{Grammar}
 use Rattle.ipnet_bars.specs.declared.frame.Frame.{Frame}
 use Rattle.ipnet_bars.specs.declared.frame.Frame.TheVariants.{Named, Ipv6, FirstFamily}
 use Rattle.ipnet_lists.specs.Entries.{IsNetworkOrMasked}
@@ -13,8 +14,10 @@ use Rattle.netset_commands.specs.Calls.{AreFlags}
 use Rattle.netset_forms.specs.declared.options.FormOptions.{FormOptions}
 use Rattle.netset_lib.specs.Commands.{grammar_of}
 use Rattle.ipnet_lists.specs.Names.{Names}
+use Rattle.netset_lib.specs.NetworkEntries.{IsArgumentCause}
 use Rattle.netset_lib.specs.PlanAnswers.{IsLengthText}
 use Rattle.netset_lib.specs.declared.command.Flags.{Flags}
+use Rattle.netset_lib.specs.declared.network_entry.ArgumentCause.{ArgumentCause}
 use Rattle.ipnet_origins.specs.declared.origins.Validity.{Validity}
 use Rattle.netset_origins.specs.OriginAnswers.{validity_word}
 use Rattle.netset_pictures.specs.declared.locale.MarkChoice.{MarkChoice}
@@ -32,6 +35,10 @@ IsNetworkWord matches word n =
 -- The word with this id is this network.
 abbrev pub IsNetworkGiven : ArgMatches → List ℕ → IpNet → Type 0
 IsNetworkGiven matches id n = IsNetworkWord matches (word_of matches id) n
+
+-- The word is not a network with a prefix length or a netmask: it is an address, a range, or not an entry.
+abbrev pub IsNoNetwork : Grammar → List ℕ → Type 0
+IsNoNetwork grammar word = (cause : ArgumentCause) × IsArgumentCause grammar word cause
 
 -- The network that is drawn: the one of `--in`; or the smallest around the IPv6 addresses, with `--ipv6`; or the
 -- smallest around the addresses of the first family that has any.

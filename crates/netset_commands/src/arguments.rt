@@ -1,5 +1,6 @@
 //! The command line: its words, and the arguments that several commands have.
-ghost use Rattle.std.specs.Prelude.{◌≡◌, Bool, codes, IfOk, IfErr, length};
+ghost use Rattle.std.specs.Prelude.{◌≡◌, Bool, map, codes, IfOk, IfErr, length, string_bytes};
+ghost use Rattle.ipnet_lists.specs.Reports.{escaped};
 ghost use Rattle.netset_commands.specs.Arguments.{IsFlag, empties_of};
 ghost use Rattle.netset_commands.specs.Calls.{AreFlags};
 ghost use Rattle.netset_lib.specs.Commands.{families_of};
@@ -7,6 +8,7 @@ ghost use Rattle.netset_lib.specs.declared.command.Flags.{Flags};
 
 use crate::table::{ARGUMENT, Argument, Form};
 use clap::ArgMatches;
+use ipnet_lists::{Part, write_parts};
 use netset_files::{Empties, Reports};
 use netset_lib::{Families, Flags, families};
 use std::alloc::{AllocError, Global};
@@ -207,16 +209,34 @@ fn report_not_utf8(rt: &HostRuntime) -> u8
     2
 }
 
+/// Returns the word, with the bytes escaped that are not printable ASCII.
+fn escaped_word(alloc: Global, word: &str) -> Result<String, AllocError>
+    ensures { IfOk result (λ text. string_bytes text ≡ escaped word.now) }
+{
+    let mut bytes = Vec::new(alloc);
+    if write_parts(&mut bytes, &[Part::Escaped(word.as_bytes())]).is_err() {
+        return Err(AllocError);
+    }
+    // An escaped text is ASCII.
+    match String::from_utf8(bytes) {
+        Ok(text) => Ok(text),
+        Err(_) => Err(AllocError),
+    }
+}
+
 /// Returns the words, each with the bytes escaped that are not printable ASCII, so that a message about a word cannot
 /// move the terminal's cursor, or look like another message.
+///
+/// ```text
+/// the words "netset" and "a\tb", with a tab: "netset" and "a\\tb", with a backslash and the letter t
+/// ```
 pub fn escaped(alloc: Global, words: &[String]) -> Result<Vec<String>, AllocError>
-    ensures { IfOk result (λ shown. length shown.items ≡ length words.now) }
+    ensures { IfOk result (λ shown. map string_bytes shown.items
+        ≡ map (λ word. escaped (string_bytes word)) words.now) }
 {
     let mut shown = Vec::new(alloc);
     for word in words {
-        let mut text = String::new(alloc);
-        write!(text, "{}", word.as_bytes().escape_ascii())?;
-        shown.push(text)?;
+        shown.push(escaped_word(alloc, word.as_str())?)?;
     }
     Ok(shown)
 }

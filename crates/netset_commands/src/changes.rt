@@ -1,17 +1,21 @@
 //! The command `changes`: its arguments, and its run.
-ghost use Rattle.std.specs.Prelude.{◌≤◌};
+ghost use Rattle.std.specs.Prelude.{◌≤◌, codes};
+ghost use Rattle.netset_commands.specs.Arguments.{IsFlag};
 
-use crate::arguments::{FIRST_LIST, OTHER_LIST, SHARED, SKIPPING};
+use crate::arguments::{FIRST_LIST, OTHER_LIST, SHARED, SKIPPING, is_set};
 use crate::entry_options::ENTRY_OR_OTHER;
 use crate::named_lists::two_or_report;
 use crate::reading::read_pair;
-use crate::table::{Argument, Form, Subcommand};
+use crate::table::{ARGUMENT, Argument, Form, Subcommand};
 use clap::ArgMatches;
 use netset_files::Writers;
 use netset_lib::{ChangesCommand, run_text};
 
 /// The name of the command.
 pub const CHANGES: &str = "changes";
+
+/// The id and the name of the flag for changes of addresses.
+const ADDRESSES: &str = "addresses";
 
 /// The command `changes`.
 pub const CHANGES_COMMAND: Subcommand = Subcommand {
@@ -21,6 +25,12 @@ pub const CHANGES_COMMAND: Subcommand = Subcommand {
         SHARED,
         SKIPPING,
         &[
+            Argument {
+                id: ADDRESSES,
+                form: Form::Flag(ADDRESSES),
+                help: "The networks of the addresses that only NEW has (+), and that only OLD has (-)",
+                ..ARGUMENT
+            },
             Argument {
                 form: Form::Word("OLD"),
                 help: "The list before, - for standard input",
@@ -35,6 +45,13 @@ pub const CHANGES_COMMAND: Subcommand = Subcommand {
         ],
     ],
 };
+
+/// Whether the changes are of addresses.
+fn are_of_addresses(matches: &ArgMatches) -> bool
+    ensures { IsFlag matches.now (codes "addresses") result }
+{
+    is_set(matches, ADDRESSES)
+}
 
 /// Reads the arguments and the lists, prints the changes, and returns the exit status.
 #[inline(never)]
@@ -51,6 +68,7 @@ pub fn print_changes(rt: &HostRuntime, matches: &ArgMatches, writers: &mut Write
                 alloc: rt.alloc(),
                 before,
                 after,
+                of_addresses: are_of_addresses(matches),
             };
             let (out, faults) = (&mut writers.answer, &mut writers.faults);
             run_text(command, &names, out, faults)

@@ -15,6 +15,7 @@ use crate::bar::BAR_COMMAND;
 use crate::changes::CHANGES_COMMAND;
 use crate::entries::{OVERLAPS_COMMAND, REDUNDANT_COMMAND, SUPERNET_COMMAND};
 use crate::entry_options::{ENTRY, ENTRY_OPTION, ENTRY_OR_FIRST, ENTRY_OR_OTHER};
+use crate::except::EXCEPT_OPTION;
 use crate::extract::EXTRACT_COMMAND;
 use crate::find::FIND_COMMAND;
 use crate::fit::FIT_COMMAND;
@@ -23,7 +24,7 @@ use crate::info::INFO_COMMAND;
 use crate::listing::{HOSTS_COMMAND, SPLIT_COMMAND};
 use crate::map::MAP_COMMAND;
 use crate::origins::ORIGINS_COMMAND;
-use crate::pairs::LENGTHS_FLAG;
+use crate::pairs::{BY_OPTION, LENGTHS_FLAG};
 use crate::plan::PLAN_COMMAND;
 use crate::prefixes::PREFIX_COMMAND;
 use crate::rules::{PERMITTED_COMMAND, UNREACHED_COMMAND};
@@ -100,7 +101,7 @@ const STREAM_FLAG: Argument = Argument {
     ..ARGUMENT
 };
 
-/// The bad lines of a filter, its side, its stream, and its lists.
+/// The bad lines of a filter, its side, the lists that are taken out of SET, its stream, and its lists.
 const FILTER_ARGUMENTS: &[Argument] = &[
     Argument {
         conflicts: &[OUTPUT, STREAM, LINES],
@@ -112,6 +113,7 @@ const FILTER_ARGUMENTS: &[Argument] = &[
         help: "Choose by entries that lie entirely outside SET instead",
         ..ARGUMENT
     },
+    EXCEPT_OPTION,
     STREAM_FLAG,
     Argument {
         form: Form::Word("SET"),
@@ -195,7 +197,11 @@ const COUNTS: &[Subcommand] = &[
     Subcommand {
         name: COUNT,
         about: "For each list its name, and how many IPv4 and IPv6 addresses it has, with tabs between; then the total",
-        arguments: &[SHARED, SKIPPING, &[LENGTHS_FLAG, ANY_LISTS, ENTRY_OPTION]],
+        arguments: &[
+            SHARED,
+            SKIPPING,
+            &[BY_OPTION, LENGTHS_FLAG, ANY_LISTS, ENTRY_OPTION],
+        ],
     },
     Subcommand {
         name: COMPARE,

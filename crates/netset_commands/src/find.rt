@@ -1,6 +1,7 @@
 //! The command `find`: its arguments, and its run.
 ghost use Rattle.std.specs.Prelude.{◌≡◌, ◌≢◌, ◌≤◌, ◌⊎◌, ◌↔◌, IfSome};
-ghost use Rattle.ipnet_lists.specs.EntryOf.{IsWrittenAs};
+ghost use Rattle.ipnet_lists.specs.Entries.{IsEntryText, ReadsAs};
+ghost use Rattle.ipnet_lists.specs.EntryOf.{IsWrittenAs, entry_range};
 ghost use Rattle.netset_commands.specs.FindOptions.{chosen_relation};
 
 use crate::arguments::{
@@ -84,7 +85,8 @@ fn chosen_relation(contains: bool, inside: bool, exact: bool) -> EntryRelation
 
 /// Reads the entry to look for. If the word is not an entry, it is reported with the cause, and the result is `None`.
 fn entry_or_report(rt: &HostRuntime, word: &str, grammar: Grammar) -> Option<Entry>
-    ensures { IfSome result (IsWrittenAs grammar word.now) }
+    ensures reads { ReadsAs entry_range (IsEntryText grammar) word.now result }
+    ensures kind { IfSome result (IsWrittenAs grammar word.now) }
 {
     let found = read_entry(word, grammar);
     if found.is_none() {

@@ -1,5 +1,6 @@
 //! The options for the form of an answer that is a set.
-ghost use Rattle.std.specs.Prelude.{◌≡◌, IfOk, IfErr};
+ghost use Rattle.std.specs.Prelude.{◌≡◌, codes, IfOk, IfErr};
+ghost use Rattle.netset_commands.specs.Arguments.{IsFlag};
 ghost use Rattle.netset_commands.specs.Words.{AreFormOptions};
 ghost use Rattle.netset_forms.specs.FormOptions.{IsRequestOf};
 ghost use Rattle.netset_forms.specs.declared.options.FormOptions.{FormOptions};
@@ -34,6 +35,9 @@ const IPV4_SET: &str = "ipv4-set";
 const IPV6_SET: &str = "ipv6-set";
 
 const MAXELEM: &str = "maxelem";
+
+/// The id and the name of the flag for the status of an answer without an address.
+const STATUS: &str = "status";
 
 /// The values of `--format`.
 const FORMATS: &[&str] = &[
@@ -114,7 +118,20 @@ pub const ANSWER_FORM: &[Argument] = &[
         help: "The target of the rules, for iptables, such as DROP",
         ..ARGUMENT
     },
+    Argument {
+        id: STATUS,
+        form: Form::Flag(STATUS),
+        help: "End with status 1 if the answer has no address",
+        ..ARGUMENT
+    },
 ];
+
+/// Whether the status says if the answer has an address.
+pub fn needs_address(matches: &ArgMatches) -> bool
+    ensures { IsFlag matches.now (codes "status") result }
+{
+    is_set(matches, STATUS)
+}
 
 /// The options for the form of an answer.
 fn options_of<'a>(matches: &ArgMatches<'a>) -> FormOptions<'a>

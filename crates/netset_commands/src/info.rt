@@ -1,7 +1,8 @@
 //! The command `info`: its arguments, and its run.
-ghost use Rattle.std.specs.Prelude.{◌≡◌, ◌≤◌, IfSome, IfOk, IfErr, map};
+ghost use Rattle.std.specs.Prelude.{◌≡◌, ◌≤◌, IfSome, IfNone, IfOk, IfErr, map};
 ghost use Rattle.ipnet.specs.NetworkOf.{ip_network};
 ghost use Rattle.netset_commands.specs.InfoWords.{AreNetworkWords, IsNetworkOrAddress, facts_form};
+ghost use Rattle.netset_commands.specs.Words.{IsNoNetwork};
 
 use crate::arguments::{
     ArgumentFailure, FIRST, LEGACY_FLAG, OUTPUT_OPTION, flags_of, is_set, report_argument_failure,
@@ -59,7 +60,8 @@ fn form_of(is_json: bool) -> FactsForm
 /// Reads a network, or an address as the network of one address. If the word is neither, it is reported with the cause,
 /// and the result is `None`.
 fn read_or_report(rt: &HostRuntime, word: &str, grammar: Grammar) -> Option<IpNet>
-    ensures { IfSome result (λ n. IsNetworkOrAddress grammar word.now (ip_network n)) }
+    ensures network { IfSome result (λ n. IsNetworkOrAddress grammar word.now (ip_network n)) }
+    ensures none { IfNone result (IsNoNetwork grammar word.now) }
 {
     match parse_address(word, grammar) {
         Some(address) => Some(IpNet::from(address)),

@@ -8,6 +8,7 @@ mod changes;
 mod commands;
 mod entries;
 mod entry_options;
+mod except;
 mod extract;
 mod find;
 mod fit;
@@ -29,5 +30,6 @@ mod shorten;
 mod table;
 mod texts;
 mod whole_lines;
+mod without;
 
 pub use program::run;

@@ -1,9 +1,9 @@
 //! The commands `split` and `hosts`: their arguments, and their runs.
-ghost use Rattle.std.specs.Prelude.{◌≡◌, ◌≤◌, codes, IfSome};
+ghost use Rattle.std.specs.Prelude.{◌≡◌, ◌≤◌, ◌↔◌, ℕ, Some, codes, IfSome, IfNone};
 ghost use Rattle.ipnet.specs.NetworkOf.{ip_network};
 ghost use Rattle.ipnet_lists.specs.Entries.{IsNetworkOrMasked};
 ghost use Rattle.netset_lib.specs.PlanAnswers.{IsLengthText};
-ghost use Rattle.netset_commands.specs.Words.{word_of, IsNetworkGiven};
+ghost use Rattle.netset_commands.specs.Words.{word_of, IsNetworkGiven, IsNoNetwork};
 
 use crate::arguments::{FIRST, LEGACY_FLAG, OTHERS, OUTPUT_OPTION, flags_of};
 use crate::table::{ARGUMENT, Argument, Form, Subcommand};
@@ -86,7 +86,8 @@ fn report_network(rt: &HostRuntime, word: &str, cause: ArgumentCause) {
 
 /// Reads a network. If the word is not one, it is reported with the cause, and the result is `None`.
 pub fn network_or_report(rt: &HostRuntime, word: &str, grammar: Grammar) -> Option<IpNet>
-    ensures { IfSome result (λ n. IsNetworkOrMasked grammar word.now (ip_network n)) }
+    ensures network { IfSome result (λ n. IsNetworkOrMasked grammar word.now (ip_network n)) }
+    ensures none { IfNone result (IsNoNetwork grammar word.now) }
 {
     match read_network_argument(word, grammar) {
         Ok(network) => Some(network),
@@ -107,16 +108,14 @@ fn network_of(rt: &HostRuntime, matches: &ArgMatches) -> Option<IpNet>
 
 /// Reads a prefix length. If the word is not one, it is reported, and the result is `None`.
 pub fn length_or_report(rt: &HostRuntime, word: &str) -> Option<u8>
-    ensures { IfSome result (IsLengthText word.now) }
+    ensures { (n : ℕ) → (result ≡ Some n) ↔ IsLengthText word.now n }
 {
-    match read_length(word) {
-        Some(length) => Some(length),
-        None => {
-            let word = word.as_bytes().escape_ascii();
-            let _ = writeln!(rt.stderr(), "netset: not a prefix length: {word}");
-            None
-        }
+    let length = read_length(word);
+    if length.is_none() {
+        let word = word.as_bytes().escape_ascii();
+        let _ = writeln!(rt.stderr(), "netset: not a prefix length: {word}");
     }
+    length
 }
 
 /// Reads the arguments of `split`, and prints the subnets.

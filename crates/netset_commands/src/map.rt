@@ -179,7 +179,12 @@ fn end_noted(
 
 /// The request with these entries.
 fn with_entries<'a>(request: MapRequest<'a>, entries: &'a TitledEntries) -> MapRequest<'a>
-    ensures { result.frame ≡ request.entry.frame }
+    ensures frame { result.frame ≡ request.entry.frame }
+    ensures theme { result.look.theme ≡ request.entry.look.theme }
+    ensures free { result.look.shows_free ≡ request.entry.look.shows_free }
+    ensures names { result.look.names ≡ request.entry.look.names }
+    ensures titled { result.look.entries.titled.now ≡ entries.now.entries.items }
+    ensures count { result.look.entries.count ≡ entries.now.count }
 {
     let MapRequest { frame, look } = request;
     let look = Look {

@@ -1,13 +1,11 @@
 //! The lists that a command line names.
-ghost use Rattle.std.specs.Prelude.{◌≡◌, ◌<◌, ◌↔◌, ◌∷◌, ◌++◌, [], false, map, codes, IsTrue, IfOk, IfErr, IsErr};
-ghost use Rattle.std.specs.Prelude.{OnOk, IsOk, length};
+ghost use Rattle.std.specs.Prelude.{◌≡◌, ◌<◌, ◌↔◌, ◌∷◌, ◌++◌, [], false, map, IsTrue, IfOk, IfErr, IsErr};
+ghost use Rattle.std.specs.Prelude.{OnOk, IsOk};
 ghost use Rattle.std.specs.Char.{is_ascii_control};
 ghost use Rattle.std.specs.List.{list_any};
-ghost use Rattle.netset_commands.specs.Arguments.{IsLastName, values_of, list_name};
-ghost use Rattle.netset_commands.specs.Arguments.{entries_of, input_count, have_control};
-ghost use Rattle.netset_commands.specs.Calls.{AreGoodNames, AreNamesOf, AreTwoNames, IsNameFailure};
+ghost use Rattle.netset_commands.specs.Arguments.{IsLastName, values_of, list_name, input_count, have_control};
+ghost use Rattle.netset_commands.specs.Calls.{AreBothInput, AreGoodNames, AreNamesOf, AreTwoNames, IsNameFailure};
 ghost use Rattle.netset_commands.specs.declared.arguments.ArgumentFailure.TheVariants.{InputTwice, ControlCharacter};
-ghost use Rattle.netset_files.specs.Files.{standard_input};
 
 use crate::arguments::{ArgumentFailure, FIRST, OTHERS, report_argument_failure};
 use crate::entry_options::has_entries;
@@ -38,7 +36,7 @@ pub fn last_name<'a>(matches: &ArgMatches<'a>, id: &str) -> &'a str
 }
 
 /// Appends the values of the argument with this id to the names, in order.
-fn push_values<'a>(
+pub fn push_values<'a>(
     names: &mut Vec<&'a str>,
     matches: &ArgMatches<'a>,
     id: &str,
@@ -89,8 +87,7 @@ impl<'a> TwoNames<'a> {
 /// The names of the two lists of a command. They cannot both be standard input.
 fn names_of_two<'a>(matches: &ArgMatches<'a>) -> Result<TwoNames<'a>, ArgumentFailure>
     ensures named { IfOk result (AreTwoNames matches.now) }
-    ensures twice { IsErr result ↔ ((list_name matches.now (codes "first") ≡ standard_input)
-        × (length (entries_of matches.now) ≡ 0) × (list_name matches.now (codes "others") ≡ standard_input)) }
+    ensures twice { IsErr result ↔ AreBothInput matches.now }
     ensures failed { IfErr result (λ failure. failure ≡ InputTwice) }
 {
     let first = name_of_list(matches, FIRST);
@@ -104,6 +101,7 @@ fn names_of_two<'a>(matches: &ArgMatches<'a>) -> Result<TwoNames<'a>, ArgumentFa
 /// Returns what `names_of_two` does. If that fails, it is reported, and the error is the exit status.
 pub fn two_or_report<'a>(rt: &HostRuntime, matches: &ArgMatches<'a>) -> Result<TwoNames<'a>, u8>
     ensures named { IfOk result (AreTwoNames matches.now) }
+    ensures twice { IsErr result ↔ AreBothInput matches.now }
     ensures failed { IfErr result (λ status. status ≡ 2) }
 {
     match names_of_two(matches) {

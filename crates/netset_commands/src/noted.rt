@@ -1,5 +1,6 @@
 //! The lists of a map: a reader that notes the largest entries of each list.
-ghost use Rattle.std.specs.Prelude.{◌≡◌, ◌≤◌, ◌↔◌, ◌<◌, ◌++◌, ℕ, List, codes, length, string_bytes, IsTrue, IfOk, OnOk};
+ghost use Rattle.std.specs.Prelude.{◌≡◌, ◌≤◌, ◌↔◌, ◌<◌, ◌++◌, codes, length, string_bytes, IsTrue, IfOk, OnOk};
+ghost use Rattle.netset_commands.specs.Comments.{IsAfterColon, IsComment, ends_in_colon};
 ghost use Rattle.netset_commands.specs.MapTitles.{listed_title, longer_title, longer_count, is_v4, AreFew, AreFirst};
 ghost use Rattle.netset_commands.specs.MapTitles.{each_once, ends_with, networks_of};
 
@@ -56,11 +57,16 @@ impl<R: Read> Read for NotedInput<'_, R> {
 impl ListReader for NotedReader {
     type List = IpSet;
 
-    ghost use Rattle.netset_lib.specs.SetReaders.{has_entry, refused_count};
+    ghost use Rattle.std.specs.Prelude.{None};
+    ghost use Rattle.ipnet_lists.specs.Lists.{HaveAddresses};
+    ghost use Rattle.ipnet_sets.specs.Members.{IsMember};
+    ghost use Rattle.netset_lib.specs.SetReaders.{ReadsNext, has_entry, refused_count};
 
     ghost refused = { λ noted. refused_count noted.sets };
 
     ghost holds = { λ noted. has_entry noted.sets };
+
+    ghost reads = { λ _ _ old set new. ReadsNext (HaveAddresses (IsMember set)) None None old.sets new.sets };
 
     fn read<R: Read>(self, input: &mut R) -> Result<(NotedReader, IpSet), ReadFailure> {
         let NotedReader {
@@ -137,9 +143,17 @@ fn listed_title(
     }
 }
 
+/// Whether the text ends with one colon.
+#[tactic(auto, using(crate::proofs::CommentLaws::after_one, crate::proofs::CommentLaws::after_none))]
+fn ends_in_colon(text: &str) -> bool
+    ensures { result ≡ ends_in_colon text.now }
+{
+    text.ends_with(":") && !text.ends_with("::")
+}
+
 /// The text after the first colon that a blank follows; empty if there is none.
 fn after_colon(text: &str) -> &str
-    ensures { (front : List ℕ) × (text.now ≡ front ++ result.now) }
+    ensures { IsAfterColon text.now result.now }
 {
     match text.split_once(": ") {
         Some((_, rest)) => rest,
@@ -151,11 +165,11 @@ fn after_colon(text: &str) -> &str
 //
 // A range of IPv6 may have a colon before a blank too, as in `2001:db8:: - 2001:db8::9`. The front is then `2001:db8:`.
 fn comment_in(title: &str) -> &str
-    ensures { (front : List ℕ) × (title.now ≡ front ++ result.now) }
+    ensures { IsComment title.now result.now }
 {
     match title.split_once(": ") {
         Some((front, rest)) => {
-            if front.ends_with(':') && !front.ends_with("::") {
+            if ends_in_colon(front) {
                 after_colon(rest)
             } else {
                 rest

@@ -1,5 +1,6 @@
 //! The command `plan`: its arguments, and its run.
 ghost use Rattle.std.specs.Prelude.{◌≡◌, ◌≤◌, IfErr, IfOk};
+ghost use Rattle.netset_commands.specs.Without.{IsFamilyOfPool, only_families};
 ghost use Rattle.netset_commands.specs.Words.{AreLengths};
 
 use crate::arguments::{
@@ -8,12 +9,14 @@ use crate::arguments::{
 use crate::bar::{BAR, PLAN_BAR, bar_form_of};
 use crate::listing::length_or_report;
 use crate::named_lists::name_of_list;
-use crate::reading::read_set;
+use crate::reading::read_sets;
 use crate::table::{ARGUMENT, Argument, Form, Subcommand};
+use crate::without::{names_without_or_report, without_or_report};
 use clap::ArgMatches;
 use ipnet_bars::BarForm;
+use ipnet_sets::IpSet;
 use netset_files::Writers;
-use netset_lib::{PlanCommand, PlanRequest, run_text};
+use netset_lib::{Families, PlanCommand, PlanRequest, run_text};
 use netset_pictures::{PlanBarCommand, PlanBarRequest};
 
 /// The name of the command.
@@ -21,6 +24,9 @@ pub const PLAN: &str = "plan";
 
 /// The id of the prefix lengths.
 const LENGTHS: &str = "lengths";
+
+/// The id and the name of the option for lists of addresses in use.
+const TAKEN: &str = "taken";
 
 /// The flags for the families.
 const FAMILIES: &[Argument] = &[
@@ -38,8 +44,15 @@ const FAMILIES: &[Argument] = &[
     },
 ];
 
-/// The list and the prefix lengths.
+/// The lists in use, the list and the prefix lengths.
 const FREE_AND_LENGTHS: &[Argument] = &[
+    Argument {
+        id: TAKEN,
+        form: Form::Values(TAKEN, "FILE"),
+        help: "A list whose addresses are not free; any number of times; not with --bar",
+        conflicts: &[BAR],
+        ..ARGUMENT
+    },
     Argument {
         form: Form::Word("FREE"),
         help: "The list of the free addresses, - for standard input",
@@ -92,7 +105,54 @@ fn bar_of(
     Ok(Some(bar_form_of(rt, matches, writers)?))
 }
 
-/// Reads the arguments and the list, prints the plan or its bar, and returns the exit status.
+/// The only family of a pool, or `Both`, which has no plan, if it has addresses of both families or of none.
+fn only_families(has_ipv4: bool, has_ipv6: bool) -> Families
+    ensures { result ≡ only_families has_ipv4 has_ipv6 }
+{
+    match (has_ipv4, has_ipv6) {
+        (true, false) => Families::Ipv4,
+        (false, true) => Families::Ipv6,
+        (true, true) | (false, false) => Families::Both,
+    }
+}
+
+/// The families by which a plan in the free addresses of the pool has the family that these choose for the pool.
+///
+/// ```text
+/// Named, and 10.0.0.0/30: Ipv4; Named, and no address: Both, which has no family
+/// ```
+#[tactic(auto, using(crate::proofs::WithoutLaws::of_named))]
+fn families_in(families: Families, pool: &IpSet) -> Families
+    ensures { IsFamilyOfPool families pool.now result }
+{
+    match families {
+        Families::Named => only_families(pool.has_ipv4(), pool.has_ipv6()),
+        Families::Ipv4 | Families::Ipv6 | Families::Both => families,
+    }
+}
+
+/// Reads the list and the lists in use. Returns the free addresses, and the families of a plan in them. If that fails,
+/// or if lines are refused, it is reported, and the error is the exit status.
+fn read_free(
+    rt: &HostRuntime,
+    matches: &ArgMatches,
+    writers: &mut Writers<'_>,
+) -> Result<(IpSet, Families), u8>
+    ensures { IfErr result (λ status. status ≡ 2) }
+{
+    let names = names_without_or_report(rt, matches, TAKEN, &[])?;
+    let names = names.as_slice();
+    let sets = read_sets(rt, matches, names, writers)?;
+    let families = families_of(matches);
+    let families = match sets.as_slice() {
+        [pool, ..] => families_in(families, pool),
+        [] => families,
+    };
+    let set = without_or_report(rt, sets, names, writers)?;
+    Ok((set, families))
+}
+
+/// Reads the arguments and the lists, prints the plan or its bar, and returns the exit status.
 #[inline(never)]
 pub fn plan_networks(rt: &HostRuntime, matches: &ArgMatches, writers: &mut Writers<'_>) -> u8
     ensures { result ≤ 2 }
@@ -106,14 +166,14 @@ pub fn plan_networks(rt: &HostRuntime, matches: &ArgMatches, writers: &mut Write
         Ok(bar) => bar,
         Err(status) => return status,
     };
-    let names = [name_of_list(matches, FIRST)];
-    let set = match read_set(rt, matches, names[0], &names, writers) {
-        Ok(set) => set,
+    let (set, families) = match read_free(rt, matches, writers) {
+        Ok(free) => free,
         Err(status) => return status,
     };
+    let names = [name_of_list(matches, FIRST)];
     let alloc = rt.alloc();
     let request = PlanRequest {
-        families: families_of(matches),
+        families,
         lengths: lengths.as_slice(),
     };
     let out = &mut writers.answer;

@@ -1,5 +1,5 @@
 //! A run of the program: its arguments, its output and its command.
-ghost use Rattle.std.specs.Prelude.{◌≡◌, ◌≤◌, true, codes, IfErr};
+ghost use Rattle.std.specs.Prelude.{◌≡◌, ◌≤◌, ◌⊎◌, true, codes, IfErr};
 ghost use Rattle.netset_commands.specs.Arguments.{IsFlag};
 ghost use Rattle.netset_commands.specs.Calls.{AreFlags};
 ghost use Rattle.netset_files.specs.Statuses.{IsExitStatus, IsUsualStatus};
@@ -42,6 +42,8 @@ use crate::entries::print_overlaps;
 use crate::entries::print_redundant;
 use crate::entries::print_supernet;
 use crate::entry_options::entries_or_report;
+use crate::except::filter_without;
+use crate::except::has_excepts;
 use crate::extract::EXTRACT;
 use crate::extract::extract_entries;
 use crate::find::FIND;
@@ -49,6 +51,7 @@ use crate::find::find_entries;
 use crate::fit::FIT;
 use crate::fit::fit_lists;
 use crate::forms::form_of;
+use crate::forms::needs_address;
 use crate::info::INFO;
 use crate::info::print_facts;
 use crate::listing::HOSTS;
@@ -65,7 +68,9 @@ use crate::origins::ORIGINS;
 use crate::origins::validate_origins;
 use crate::pairs::compare_pairs;
 use crate::pairs::has_lengths_flag;
+use crate::pairs::pools_of;
 use crate::pairs::print_lengths;
+use crate::pairs::print_shares;
 use crate::plan::PLAN;
 use crate::plan::plan_networks;
 use crate::prefixes::PREFIX_LIST;
@@ -101,7 +106,6 @@ use netset_files::read_first;
 use netset_files::status_after;
 use netset_files::stream_list;
 use netset_forms::FormCommand;
-use netset_forms::FormRequest;
 use netset_lib::Answer;
 use netset_lib::Combination;
 use netset_lib::CompareCommand;
@@ -134,25 +138,24 @@ pub fn run(rt: &HostRuntime, version: &'static str) -> u8
 /// escaped, and then parsed again.
 #[inline(never)]
 fn print_fault(rt: &HostRuntime, error: &clap::Error, words: &[String], version: &'static str) -> u8
-    ensures { IsUsualStatus result }
+    ensures { result ≡ 2 }
 {
     if let Ok(shown) = escaped(rt.alloc(), words) {
         if let Err(fault) = matches_of(rt.alloc(), shown.as_slice(), version) {
-            return print_usage(rt, &fault);
+            let _ = fault.print(rt);
+            return 2;
         }
     }
-    print_usage(rt, error)
+    let _ = error.print(rt);
+    2
 }
 
-/// Prints help, the version or what is wrong with the arguments, and returns the status.
+/// Prints help or the version, and returns the status.
 fn print_usage(rt: &HostRuntime, error: &clap::Error) -> u8
-    ensures { IsUsualStatus result }
+    ensures usual { IsUsualStatus result }
+    ensures exact { (result ≡ 0) ⊎ ((result ≡ 2) ⊎ (result ≡ 141)) }
 {
-    let result = error.print(rt);
-    if error.use_stderr() {
-        return 2;
-    }
-    match result {
+    match error.print(rt) {
         Ok(()) => 0,
         Err(fault) if fault.kind() == ErrorKind::BrokenPipe => CLOSED,
         Err(_) => {
@@ -195,7 +198,10 @@ fn run_command(rt: &HostRuntime, name: &str, matches: &ArgMatches, writers: &mut
         SYMMETRIC_DIFFERENCE => print_symmetric_difference(rt, matches, writers),
         COMPLEMENT => print_complement(rt, matches, writers),
         COUNT if has_lengths_flag(matches) => print_lengths(rt, matches, writers),
-        COUNT => count_lists(rt, matches, writers),
+        COUNT => match pools_of(matches) {
+            Some(pools) => print_shares(rt, pools, matches, writers),
+            None => count_lists(rt, matches, writers),
+        },
         COMPARE => compare_lists(rt, matches, writers),
         CHANGES => print_changes(rt, matches, writers),
         APPLY => apply_changes(rt, matches, writers),
@@ -230,6 +236,8 @@ fn run_filter(rt: &HostRuntime, matches: &ArgMatches, writers: &mut Writers<'_>)
 {
     if matches.get_flag(LINES) {
         filter_lines(rt, matches, writers)
+    } else if has_excepts(matches) {
+        filter_without(rt, matches, is_streamed(matches), writers)
     } else {
         run_query(rt, filter_query(matches), matches, writers)
     }
@@ -270,7 +278,15 @@ fn combine_lists(
         Err(status) => return status,
     };
     match read_sets(rt, matches, names, writers) {
-        Ok(sets) => print_set(rt, combination_of(name, sets), form, names, writers),
+        Ok(sets) => {
+            let command = FormCommand {
+                alloc: rt.alloc(),
+                combination: combination_of(name, sets),
+                form,
+                needs_address: needs_address(matches),
+            };
+            print_set(command, names, writers)
+        }
         Err(status) => status,
     }
 }
@@ -307,8 +323,13 @@ fn print_symmetric_difference(
     };
     match read_pair(rt, matches, &names, writers) {
         Ok((first, second)) => {
-            let combination = Combination::SymmetricDifference(first, second);
-            print_set(rt, combination, form, &names, writers)
+            let command = FormCommand {
+                alloc: rt.alloc(),
+                combination: Combination::SymmetricDifference(first, second),
+                form,
+                needs_address: needs_address(matches),
+            };
+            print_set(command, &names, writers)
         }
         Err(status) => status,
     }
@@ -326,28 +347,22 @@ fn print_complement(rt: &HostRuntime, matches: &ArgMatches, writers: &mut Writer
     let name = last_name(matches, FIRST);
     match read_only_set(rt, matches, name, writers) {
         Ok(set) => {
-            let combination = Combination::Complement(families_of(matches), set);
-            print_set(rt, combination, form, &[name], writers)
+            let command = FormCommand {
+                alloc: rt.alloc(),
+                combination: Combination::Complement(families_of(matches), set),
+                form,
+                needs_address: needs_address(matches),
+            };
+            print_set(command, &[name], writers)
         }
         Err(status) => status,
     }
 }
 
-/// Prints the result of the operation in this form, and returns the status.
-fn print_set(
-    rt: &HostRuntime,
-    combination: Combination,
-    form: FormRequest<'_>,
-    names: &[&str],
-    writers: &mut Writers<'_>,
-) -> u8
+/// Prints the result of the operation, and returns the status.
+fn print_set(command: FormCommand<'_>, names: &[&str], writers: &mut Writers<'_>) -> u8
     ensures { result ≤ 2 }
 {
-    let command = FormCommand {
-        alloc: rt.alloc(),
-        combination,
-        form,
-    };
     netset_lib::run(command, names, &mut writers.answer, &mut writers.faults)
 }
 

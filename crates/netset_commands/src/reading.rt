@@ -1,7 +1,9 @@
 //! The sets of the lists of a command, which are read with a report if that fails.
-ghost use Rattle.std.specs.Prelude.{◌≡◌, ◌⊎◌, [], false, IsTrue, IfOk, IfErr, OnOk};
+ghost use Rattle.std.specs.Prelude.{◌≡◌, ◌<◌, [], true, false, length, IsTrue, IsOk, IsErr, IfOk, IfErr, OnOk};
+ghost use Rattle.netset_commands.specs.Arguments.{entries_of};
 ghost use Rattle.netset_commands.specs.BadLines.{HasBadLine, HasNoBadLine};
 ghost use Rattle.netset_commands.specs.Calls.{AreFlags};
+ghost use Rattle.netset_commands.specs.EntryOptions.{entry_lines};
 ghost use Rattle.netset_lib.specs.Commands.{grammar_of};
 ghost use Rattle.netset_lib.specs.SetReaders.{WereRead};
 ghost use Rattle.netset_lib.specs.declared.command.Flags.{Flags};
@@ -34,7 +36,8 @@ pub fn set_reader(rt: &HostRuntime, matches: &ArgMatches) -> Result<SetReader, u
 pub fn finish(reader: SetReader, names: &[&str], writers: &mut Writers<'_>) -> Result<(), u8>
     ensures refused { writers.old.reports.skips_bad ≡ false → OnOk result (HasNoBadLine reader) }
     ensures noted { writers.new.skipped ≡ false → OnOk result (HasNoBadLine reader) }
-    ensures some { IsTrue writers.new.skipped → IsTrue writers.old.skipped ⊎ HasBadLine reader }
+    ensures some { writers.old.skipped ≡ false → writers.new.skipped ≡ true → HasBadLine reader }
+    ensures bad { IsErr result → HasBadLine reader }
     ensures failed { IfErr result (λ status. status ≡ 2) }
 {
     match reader.finish() {
@@ -57,6 +60,7 @@ pub fn finish_lists(
 ) -> Result<(), u8>
     ensures refused { writers.old.reports.skips_bad ≡ false → OnOk result (HasNoBadLine lists.reader) }
     ensures noted { writers.new.skipped ≡ false → OnOk result (HasNoBadLine lists.reader) }
+    ensures allowed { IsOk result → IsTrue lists.allowed }
     ensures failed { IfErr result (λ status. status ≡ 2) }
 {
     let (reader, allowed) = lists.into_reader();
@@ -79,23 +83,6 @@ pub fn read_sets(
     let (lists, sets) = lists.read_all(rt, names, entries)?;
     finish_lists(lists, names, writers)?;
     Ok(sets)
-}
-
-/// Reads the first list of a command, which has this name, into a set, as `read_sets` does. It is a file or standard
-/// input. `names` are the names of the command's lists.
-pub fn read_set(
-    rt: &HostRuntime,
-    matches: &ArgMatches,
-    name: &str,
-    names: &[&str],
-    writers: &mut Writers<'_>,
-) -> Result<IpSet, u8>
-    ensures { IfErr result (λ status. status ≡ 2) }
-{
-    let lists = Lists::new(set_reader(rt, matches)?, writers.reports);
-    let (lists, set) = lists.read(rt, name)?;
-    finish_lists(lists, names, writers)?;
-    Ok(set)
 }
 
 /// Reads the only list of a command, which has this name, into a set, as `read_sets` does.
@@ -138,7 +125,9 @@ pub fn last_bytes(
     name: &str,
     reports: Reports,
 ) -> Result<Vec<u8>, u8>
-    ensures { IfErr result (λ status. status ≡ 2) }
+    ensures entries { 0 < length (entries_of matches.now)
+        → IfOk result (λ bytes. bytes.items ≡ entry_lines (entries_of matches.now)) }
+    ensures failed { IfErr result (λ status. status ≡ 2) }
 {
     let entries = entries_or_report(rt, matches)?;
     bytes_with_entries(rt, name, entries, reports)
@@ -164,7 +153,9 @@ pub fn two_bytes(
     what: &str,
     reports: Reports,
 ) -> Result<(Vec<u8>, Vec<u8>), u8>
-    ensures { IfErr result (λ status. status ≡ 2) }
+    ensures entries { 0 < length (entries_of matches.now)
+        → IfOk result (λ bytes. bytes.1.items ≡ entry_lines (entries_of matches.now)) }
+    ensures failed { IfErr result (λ status. status ≡ 2) }
 {
     let first = whole_of(rt, names[0], reports)?;
     let allowed = may_have_lines(rt, names[0], first.as_slice(), what, reports);

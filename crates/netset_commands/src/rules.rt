@@ -2,20 +2,23 @@
 ghost use Rattle.std.specs.Prelude.{◌≡◌, ◌≤◌, IfErr};
 ghost use Rattle.netset_commands.specs.Arguments.{IsDefault};
 
-use crate::arguments::{FIRST, SHARED, flags_of};
-use crate::forms::{ANSWER_FORM, form_of};
-use crate::named_lists::name_of_list;
+use crate::arguments::{ArgumentFailure, FIRST, SHARED, flags_of, report_argument_failure};
+use crate::forms::{ANSWER_FORM, form_of, needs_address};
+use crate::named_lists::{name_of_list, reads_input_twice};
 use crate::table::{ARGUMENT, Argument, Form, Subcommand};
 use clap::ArgMatches;
 use ipnet_rules::Action;
 use netset_files::{Reports, Writers, read_rules, report_unread};
-use netset_forms::PermittedCommand;
+use netset_forms::{FormRequest, NewlyPermittedCommand, PermittedCommand};
 use netset_lib::{RuleList, UnreachedCommand, run};
 
 /// The names of the two commands.
 pub const PERMITTED: &str = "permitted";
 
 pub const UNREACHED: &str = "unreached";
+
+/// The option for the rules whose addresses are left out.
+const EXCEPT: &str = "except";
 
 /// The option for the action of the addresses that no rule matches, and its values.
 const DEFAULT: &str = "default";
@@ -47,6 +50,12 @@ pub const PERMITTED_COMMAND: Subcommand = Subcommand {
                 default: Some("deny"),
                 ..ARGUMENT
             },
+            Argument {
+                id: EXCEPT,
+                form: Form::Value(EXCEPT, "OLD"),
+                help: "Leave out the addresses that the rules of OLD permit: what an edit of OLD opens",
+                ..ARGUMENT
+            },
             RULES,
         ],
     ],
@@ -70,15 +79,46 @@ fn default_of(matches: &ArgMatches) -> Action
     }
 }
 
+/// Reads the list of rules of this name. There is none if it has no rule, and that is to be refused. If it cannot be
+/// read, that is reported, and the error is the exit status.
+fn read_list(
+    rt: &HostRuntime,
+    matches: &ArgMatches,
+    name: &str,
+    reports: Reports,
+) -> Result<Option<RuleList>, u8>
+    ensures { IfErr result (λ status. status ≡ 2) }
+{
+    match read_rules(rt, name, flags_of(matches).grammar(), reports) {
+        Ok(list) => Ok(list),
+        Err(unread) => Err(report_unread(rt, name, &unread)),
+    }
+}
+
 /// Reads the list of rules. If that fails, it is reported, and the error is the exit status.
 fn rules_of(rt: &HostRuntime, matches: &ArgMatches, reports: Reports) -> Result<RuleList, u8>
     ensures { IfErr result (λ status. status ≡ 2) }
 {
-    let file = name_of_list(matches, FIRST);
-    match read_rules(rt, file, flags_of(matches).grammar(), reports) {
-        Ok(Some(list)) => Ok(list),
-        Ok(None) => Err(2),
-        Err(unread) => Err(report_unread(rt, file, &unread)),
+    match read_list(rt, matches, name_of_list(matches, FIRST), reports)? {
+        Some(list) => Ok(list),
+        None => Err(2),
+    }
+}
+
+/// Reads the lists of rules of these names. If that fails, it is reported, and the error is the exit status.
+fn two_rules_of(
+    rt: &HostRuntime,
+    matches: &ArgMatches,
+    names: &[&str; 2],
+    reports: Reports,
+) -> Result<(RuleList, RuleList), u8>
+    ensures { IfErr result (λ status. status ≡ 2) }
+{
+    let first = read_list(rt, matches, names[0], reports)?;
+    let second = read_list(rt, matches, names[1], reports)?;
+    match (first, second) {
+        (Some(list), Some(except)) => Ok((list, except)),
+        _ => Err(2),
     }
 }
 
@@ -91,18 +131,50 @@ pub fn print_permitted(rt: &HostRuntime, matches: &ArgMatches, writers: &mut Wri
         Ok(form) => form,
         Err(status) => return status,
     };
+    let name = name_of_list(matches, FIRST);
+    if let Some(except) = matches.get_str(EXCEPT) {
+        return print_newly_permitted(rt, matches, &[name, except], form, writers);
+    }
     let list = match rules_of(rt, matches, writers.reports) {
         Ok(list) => list,
         Err(status) => return status,
     };
-    let default = default_of(matches);
     let command = PermittedCommand {
         list,
-        default,
+        default: default_of(matches),
         form,
+        needs_address: needs_address(matches),
     };
     let (out, faults) = (&mut writers.answer, &mut writers.faults);
-    run(command, &[name_of_list(matches, FIRST)], out, faults)
+    run(command, &[name], out, faults)
+}
+
+/// Reads the rules of both names, prints what the first permit and the second do not, and returns the status.
+fn print_newly_permitted(
+    rt: &HostRuntime,
+    matches: &ArgMatches,
+    names: &[&str; 2],
+    form: FormRequest<'_>,
+    writers: &mut Writers<'_>,
+) -> u8
+    ensures { result ≤ 2 }
+{
+    if reads_input_twice(names) {
+        return report_argument_failure(rt, ArgumentFailure::InputTwice);
+    }
+    let (list, except) = match two_rules_of(rt, matches, names, writers.reports) {
+        Ok(lists) => lists,
+        Err(status) => return status,
+    };
+    let command = NewlyPermittedCommand {
+        list,
+        except,
+        default: default_of(matches),
+        form,
+        needs_address: needs_address(matches),
+    };
+    let (out, faults) = (&mut writers.answer, &mut writers.faults);
+    run(command, names, out, faults)
 }
 
 /// Reads the rules, prints those that decide on no address, and returns the status.

@@ -1,6 +1,7 @@
 //! The command `select`: its arguments, and its run.
-ghost use Rattle.std.specs.Prelude.{◌≡◌, ◌≤◌, IfOk, IfErr};
-ghost use Rattle.netset_commands.specs.SelectOptions.{IsLengthGiven, IsSelectRequest, bounds_of};
+ghost use Rattle.std.specs.Prelude.{◌≡◌, ◌≤◌, ◌↔◌, IfOk, IfErr, IsOk};
+ghost use Rattle.netset_commands.specs.SelectOptions.{IsLengthGiven, IsAtMost, AreBoundsGiven, IsSelectRequest};
+ghost use Rattle.netset_commands.specs.SelectOptions.{bounds_of};
 
 use crate::arguments::{
     ANY_LISTS, ArgumentFailure, SHARED, flags_of, is_set, report_argument_failure,
@@ -14,8 +15,9 @@ use clap::ArgMatches;
 use ipnet_lists::ReadFailure;
 use netset_entries::{EntryChoice, LengthBounds, SelectRequest, Selection};
 use netset_files::{ListReader, Lists, Reports, Writers};
+use netset_lib::reports::long_words;
 use netset_lib::{families, run_text};
-use std::io::Read;
+use std::io::{Read, Write};
 
 /// The name of the command.
 pub const SELECT: &str = "select";
@@ -24,6 +26,14 @@ pub const SELECT: &str = "select";
 const LONGER: &str = "longer";
 
 const SHORTER: &str = "shorter";
+
+const IPV4_LONGER: &str = "ipv4-longer";
+
+const IPV4_SHORTER: &str = "ipv4-shorter";
+
+const IPV6_LONGER: &str = "ipv6-longer";
+
+const IPV6_SHORTER: &str = "ipv6-shorter";
 
 const SORT: &str = "sort";
 
@@ -58,6 +68,30 @@ const SELECT_ARGUMENTS: &[Argument] = &[
         ..ARGUMENT
     },
     Argument {
+        id: IPV4_LONGER,
+        form: Form::Value(IPV4_LONGER, "LEN"),
+        help: "As --longer for the IPv4 entries; it does not matter for the IPv6 entries",
+        ..ARGUMENT
+    },
+    Argument {
+        id: IPV4_SHORTER,
+        form: Form::Value(IPV4_SHORTER, "LEN"),
+        help: "As --shorter for the IPv4 entries",
+        ..ARGUMENT
+    },
+    Argument {
+        id: IPV6_LONGER,
+        form: Form::Value(IPV6_LONGER, "LEN"),
+        help: "As --longer for the IPv6 entries; it does not matter for the IPv4 entries",
+        ..ARGUMENT
+    },
+    Argument {
+        id: IPV6_SHORTER,
+        form: Form::Value(IPV6_SHORTER, "LEN"),
+        help: "As --shorter for the IPv6 entries",
+        ..ARGUMENT
+    },
+    Argument {
         id: SORT,
         form: Form::Flag(SORT),
         help: "Sort the entries: IPv4 first, then by first address, then the larger entry first",
@@ -87,11 +121,14 @@ struct SelectedLists {
 impl ListReader for SelectedLists {
     type List = ();
 
+    ghost use Rattle.netset_commands.specs.SelectOptions.{SelectsNext};
     ghost use Rattle.netset_entries.specs.SelectSteps.{has_entry, refused_count};
 
     ghost refused = { λ lists. refused_count lists.selection };
 
     ghost holds = { λ lists. has_entry lists.selection };
+
+    ghost reads = { λ left left_after old _ new. SelectsNext left left_after old.selection new.selection };
 
     fn read<R: Read>(self, input: &mut R) -> Result<(SelectedLists, ()), ReadFailure> {
         let selection = self.selection.read(input)?;
@@ -122,6 +159,22 @@ fn length_of(rt: &HostRuntime, matches: &ArgMatches, id: &str) -> Result<Option<
     }
 }
 
+/// Refuses a prefix length above the greatest of its family. It is reported, and the error is the exit status.
+fn check_length(rt: &HostRuntime, length: Option<u8>, greatest: u8) -> Result<(), u8>
+    ensures within { IsOk result ↔ IsAtMost greatest length }
+    ensures failed { IfErr result (λ status. status ≡ 2) }
+{
+    let Some(length) = length else {
+        return Ok(());
+    };
+    if length <= greatest {
+        return Ok(());
+    }
+    let words = long_words(length, greatest);
+    let _ = writeln!(rt.stderr(), "netset: {words}");
+    Err(2)
+}
+
 /// The bounds of the prefix lengths, if one of them is given.
 fn bounds_of(longer: Option<u8>, shorter: Option<u8>) -> Option<LengthBounds>
     ensures { result ≡ bounds_of longer shorter }
@@ -134,17 +187,40 @@ fn bounds_of(longer: Option<u8>, shorter: Option<u8>) -> Option<LengthBounds>
     }
 }
 
-/// Reads the options. If a word is not a prefix length, it is reported, and the error is the exit status.
+/// Reads the bounds that two options give. The prefix lengths are at most `greatest`. If a word is not such a length,
+/// that is reported, and the error is the exit status.
+fn bounds_given(
+    rt: &HostRuntime,
+    matches: &ArgMatches,
+    longer: &str,
+    shorter: &str,
+    greatest: u8,
+) -> Result<Option<LengthBounds>, u8>
+    ensures bounds { IfOk result (AreBoundsGiven matches.now longer.now shorter.now greatest) }
+    ensures failed { IfErr result (λ status. status ≡ 2) }
+{
+    let longer = length_of(rt, matches, longer)?;
+    let shorter = length_of(rt, matches, shorter)?;
+    check_length(rt, longer, greatest)?;
+    check_length(rt, shorter, greatest)?;
+    Ok(bounds_of(longer, shorter))
+}
+
+/// Reads the options. If a word is not a prefix length of its family, that is reported, and the error is the exit
+/// status.
 fn request_of(rt: &HostRuntime, matches: &ArgMatches) -> Result<SelectRequest, u8>
     ensures request { IfOk result (IsSelectRequest matches.now) }
     ensures failed { IfErr result (λ status. status ≡ 2) }
 {
     let flags = flags_of(matches);
-    let longer = length_of(rt, matches, LONGER)?;
-    let shorter = length_of(rt, matches, SHORTER)?;
+    let lengths = bounds_given(rt, matches, LONGER, SHORTER, 128)?;
+    let ipv4_lengths = bounds_given(rt, matches, IPV4_LONGER, IPV4_SHORTER, 32)?;
+    let ipv6_lengths = bounds_given(rt, matches, IPV6_LONGER, IPV6_SHORTER, 128)?;
     let choice = EntryChoice {
         families: families(flags.ipv4, flags.ipv6),
-        lengths: bounds_of(longer, shorter),
+        lengths,
+        ipv4_lengths,
+        ipv6_lengths,
     };
     Ok(SelectRequest {
         grammar: flags.grammar(),

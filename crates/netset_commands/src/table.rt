@@ -20,6 +20,8 @@ pub enum Form {
     Words(&'static str),
     /// As its letter with a value, any number of times.
     Repeated(&'static str),
+    /// As `--NAME VALUE`, any number of times.
+    Values(&'static str, &'static str),
 }
 
 /// An argument of a command.
@@ -86,6 +88,7 @@ fn with_form<'a>(arg: Arg<'a>, form: Form) -> Arg<'a>
             .num_args(1..)
             .action(ArgAction::Append),
         Form::Repeated(value) => arg.value_name(value).action(ArgAction::Append),
+        Form::Values(name, value) => arg.long(name).value_name(value).action(ArgAction::Append),
     }
 }
 

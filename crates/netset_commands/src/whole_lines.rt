@@ -1,15 +1,18 @@
 //! The command `filter --lines`: its flags, and its run.
-ghost use Rattle.std.specs.Prelude.{◌≡◌, ◌≤◌, codes};
+ghost use Rattle.std.specs.Prelude.{◌≡◌, ◌≤◌, cond, codes, IfErr};
 ghost use Rattle.netset_commands.specs.Arguments.{IsFlag};
 ghost use Rattle.netset_commands.specs.Calls.{AreFlags};
 ghost use Rattle.netset_lib.specs.Commands.{grammar_of, side_of};
 ghost use Rattle.netset_lib.specs.declared.command.Flags.{Flags};
 
-use crate::arguments::{MAPPED, flags_of, is_set};
-use crate::named_lists::two_or_report;
-use crate::reading::read_set;
+use crate::arguments::{FIRST, MAPPED, OTHERS, flags_of, is_set};
+use crate::except::EXCEPT;
+use crate::named_lists::{last_name, name_of_list};
+use crate::reading::read_sets;
 use crate::table::{ARGUMENT, Argument, Form};
+use crate::without::{names_without_or_report, without_or_report};
 use clap::ArgMatches;
+use ipnet_sets::IpSet;
 use netset_files::{Writers, open_log, report_unread};
 use netset_lib::Failure;
 use netset_lib::runs::end_with;
@@ -75,18 +78,32 @@ fn lines_request(matches: &ArgMatches) -> LinesRequest
     }
 }
 
+/// Reads the set without the lists that are taken out of it. Returns it, and the names of the set and of the log. If
+/// that fails, or if lines are refused, it is reported, and the error is the exit status.
+fn read_kept_set<'a>(
+    rt: &HostRuntime,
+    matches: &ArgMatches<'a>,
+    writers: &mut Writers<'_>,
+) -> Result<(IpSet, [&'a str; 2]), u8>
+    ensures { IfErr result (λ status. status ≡ 2) }
+{
+    let log = last_name(matches, OTHERS);
+    let all = names_without_or_report(rt, matches, EXCEPT, &[log])?;
+    let all = all.as_slice();
+    let names = &all[..all.len().saturating_sub(1)];
+    let sets = read_sets(rt, matches, names, writers)?;
+    let set = without_or_report(rt, sets, names, writers)?;
+    Ok((set, [name_of_list(matches, FIRST), log]))
+}
+
 /// Reads the set and the arguments, and prints the lines of the log while it is read. Returns the exit status.
 #[inline(never)]
 pub fn filter_lines(rt: &HostRuntime, matches: &ArgMatches, writers: &mut Writers<'_>) -> u8
     ensures { result ≤ 2 }
 {
-    let names = match two_or_report(rt, matches) {
-        Ok(names) => names.in_order(),
-        Err(status) => return status,
-    };
     let how = lines_request(matches);
-    let set = match read_set(rt, matches, names[0], &names, writers) {
-        Ok(set) => set,
+    let (set, names) = match read_kept_set(rt, matches, writers) {
+        Ok(read) => read,
         Err(status) => return status,
     };
     match LineFilter::from_set(rt.alloc(), set, how) {
@@ -95,8 +112,24 @@ pub fn filter_lines(rt: &HostRuntime, matches: &ArgMatches, writers: &mut Writer
     }
 }
 
-/// Opens the log of this name, prints its lines, and returns the exit status. A text of UTF-16 is refused, since its
-/// entries are not found.
+/// Ends a run that printed the lines of the log of this name and has this status, and returns the exit status. If the
+/// log begins like UTF-16, that is reported, and the status is 2, since the entries of such a text are not found.
+fn end_log<X: Write>(is_utf16: bool, log: &str, status: u8, faults: &mut X) -> u8
+    ensures exact { result ≡ cond is_utf16 2 status }
+    ensures status { status ≤ 2 → result ≤ 2 }
+{
+    if !is_utf16 {
+        return status;
+    }
+    let shown = log.as_bytes().escape_ascii();
+    let _ = writeln!(
+        faults,
+        "netset: {shown}: begins like UTF-16: is the file UTF-16?"
+    );
+    2
+}
+
+/// Opens the log of this name, prints its lines, and returns the exit status. A text of UTF-16 is refused.
 fn filter_named(
     rt: &HostRuntime,
     filter: LineFilter,
@@ -115,13 +148,5 @@ fn filter_named(
     }
     let (out, faults) = (&mut writers.answer, &mut writers.faults);
     let status = run_lines(filter, names, &mut input, out, faults);
-    if !input.is_utf16() {
-        return status;
-    }
-    let shown = log.as_bytes().escape_ascii();
-    let _ = writeln!(
-        faults,
-        "netset: {shown}: begins like UTF-16: is the file UTF-16?"
-    );
-    2
+    end_log(input.is_utf16(), log, status, faults)
 }

@@ -1,7 +1,7 @@
 -- The prefix length of a range: there is one at most, and it is found by the smallest network around the ends.
 use Rattle.std.proofs.Common.{◌≡◌, ◌≤◌, ◌↔◌, ◌-◌, ◌/◌, ◌^◌, ℕ, Bool, false, IsTrue, Option, Some}
 use Rattle.std.proofs.Common.{refl, sym, ap, ◌∙◌, subst, arith}
-use Rattle.ipnet_base.specs.Address.{Address, address_at, width}
+use Rattle.ipnet_base.specs.Address.{Address, IPv4, IPv6, address_at, width}
 use Rattle.ipnet_base.specs.Network.{Network, IsNetwork, InBlock, IsSubnetOf, IsLeastOf, IsGreatestOf, host_bits}
 use Rattle.ipnet_base.specs.Ranges.{AddressRange}
 use Rattle.ipnet_base.proofs.BlockLaws.{own, own_in, block_is_between, between_from_block, block_from_between}
@@ -11,7 +11,8 @@ use Rattle.ipnet.specs.NetworkParts.{network_at}
 use Rattle.ipnet_sets.specs.CommonSupernets.{IsCommonSupernet}
 use Rattle.ipnet_sets.specs.SetRanges.{IsInRange}
 use Rattle.ipnet_lists.specs.Entries.{block_range}
-use Rattle.netset_entries.specs.Choices.{HasPrefixLen, IsInBounds}
+use Rattle.netset_entries.specs.Choices.{HasPrefixLen, IsInBounds, bounds_for}
+use Rattle.netset_entries.specs.declared.choice.EntryChoice.{EntryChoice}
 use Rattle.netset_entries.specs.declared.choice.LengthBounds.{LengthBounds}
 
 -- networks with the same addresses have one prefix length
@@ -140,3 +141,14 @@ module _ (lengths : Option LengthBounds) (bounds : LengthBounds) (range : Addres
     bounds_failed none =
         subst (λ z. IsTrue false ↔ IsInBounds z range) (sym is)
         (λ no. absurd (cc), λ (len, h, least, most). absurd (none len h))
+
+module _ (choice : EntryChoice) (range : AddressRange) (result : Bool) where
+  -- the bounds for IPv4 decide on a range of IPv4
+  pub own_ipv4 : range.family ≡ IPv4 → IsTrue result ↔ IsInBounds choice.ipv4_lengths range
+      → IsTrue result ↔ IsInBounds (bounds_for choice range.family) range
+  own_ipv4 is h = subst (λ f. IsTrue result ↔ IsInBounds (bounds_for choice f) range) (sym is) h
+
+  -- the bounds for IPv6 decide on a range of IPv6
+  pub own_ipv6 : range.family ≡ IPv6 → IsTrue result ↔ IsInBounds choice.ipv6_lengths range
+      → IsTrue result ↔ IsInBounds (bounds_for choice range.family) range
+  own_ipv6 is h = subst (λ f. IsTrue result ↔ IsInBounds (bounds_for choice f) range) (sym is) h

@@ -25,3 +25,4 @@ pub mod SortLaws
 pub mod ReadingLaws
 pub mod LengthLaws
 pub mod PairLineLaws
+pub mod ShareLineLaws

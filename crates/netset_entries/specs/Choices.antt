@@ -31,7 +31,14 @@ IsChosenFamily Ipv4 f = f ≡ IPv4
 IsChosenFamily Ipv6 f = f ≡ IPv6
 IsChosenFamily Both f = Unit {0}
 
--- The range is of a chosen family and in the bounds.
+-- The bounds of prefix lengths that are only for this family.
+abbrev pub bounds_for : EntryChoice → Family → Option LengthBounds
+bounds_for choice IPv4 = choice.ipv4_lengths
+bounds_for choice IPv6 = choice.ipv6_lengths
+
+-- The range is of a chosen family, in the bounds for both families, and in the bounds that are only for its own.
+-- Example: with the bounds 24 to 32 for IPv4, 10.0.0.0/24 and fd00::/8 are chosen, and 10.0.0.0/8 is not.
 pub record IsChosen (choice : EntryChoice) (range : AddressRange) : Type 0 where
   pub family : IsChosenFamily choice.families range.family
   pub bounds : IsInBounds choice.lengths range
+  pub own_bounds : IsInBounds (bounds_for choice range.family) range

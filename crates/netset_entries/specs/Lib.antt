@@ -21,3 +21,4 @@ pub mod ListPairs
 pub mod Choices
 pub mod Selections
 pub mod SelectSteps
+pub mod Shares

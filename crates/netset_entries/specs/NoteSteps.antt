@@ -219,6 +219,10 @@ pub record HaveNoted (grammar : Grammar) (frame : Option IpNet) (lists : List (L
 abbrev pub IsBroken : EntryNotes → Type 0
 IsBroken notes = notes.is_broken ≡ true
 
+-- How many blocks the entries of the lists have, as far as they were counted.
+abbrev pub counted_blocks : EntryNotes → ℕ
+counted_blocks notes = notes.blocks.count
+
 -- A line of a list ends after these bytes.
 abbrev pub EndsLine : EntryNotes → EntryNotes → List ℕ → Type 0
 EndsLine old new piece = (grammar : Grammar) → (frame : Option IpNet) → (lists : List (List ℕ)) → (begun : List ℕ)

@@ -11,7 +11,7 @@ ghost use Rattle.ipnet.specs.declared.parser.Grammar.{Grammar};
 ghost use Rattle.netset_entries.specs.NotedEntries.{AreNoted, IsCommentOf, IsTitleOf, MeetsFrame};
 ghost use Rattle.netset_entries.specs.NoteSteps.{AreKept, IsSmallLine, KeepsBlock, ReadsLine, first_text};
 ghost use Rattle.netset_entries.specs.NoteSteps.{HaveNoted, IsBroken, IsAtEnd, ReadsNext, ReadsBegun, EndsLine};
-ghost use Rattle.netset_entries.specs.NoteSteps.{family_if, largest_of};
+ghost use Rattle.netset_entries.specs.NoteSteps.{counted_blocks, family_if, largest_of};
 
 use crate::largest::{Largest, NotedEntry};
 use crate::plain::{PlainNetwork, plain_network};
@@ -342,7 +342,9 @@ impl EntryNotes {
     }
 
     /// Returns how many blocks the entries of the lists have, noted or not. A refused line may count as one.
-    pub fn count(&self) -> usize {
+    pub fn count(&self) -> usize
+        ensures { result ≡ counted_blocks self.now }
+    {
         self.blocks.count
     }
 

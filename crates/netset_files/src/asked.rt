@@ -1,6 +1,9 @@
 //! A filter or a route: its two lists, one after the other.
-ghost use Rattle.std.specs.Prelude.{◌≡◌, ◌≤◌, IfErr};
-ghost use Rattle.netset_lib.specs.SetReaders.{has_entry, refused_count};
+ghost use Rattle.std.specs.Prelude.{◌≡◌, ◌≤◌, Some, None, string_bytes, IfOk, IfErr, IfSome, IfNone};
+ghost use Rattle.netset_lib.specs.Answering.{IsAnswererFor, AreAnsweredBy};
+ghost use Rattle.netset_lib.specs.SetReaders.{ReadsNext, has_entry, refused_count};
+ghost use Rattle.netset_files.specs.ListReads.{Left};
+ghost use Rattle.netset_files.specs.QueryReads.{AnswersQuery};
 
 use crate::input::{open_list, report_unread};
 use crate::lists::{ListReader, Lists};
@@ -24,6 +27,9 @@ impl ListReader for FirstReader {
     ghost refused = { λ first. refused_count first.lists };
 
     ghost holds = { λ first. has_entry first.lists };
+
+    ghost reads = { λ left left_after old answerer new. (new.query ≡ old.query)
+        × ReadsNext (IsAnswererFor old.query answerer) left left_after old.lists new.lists };
 
     fn read<R: Read>(self, input: &mut R) -> Result<(FirstReader, Answerer), ReadFailure> {
         let FirstReader { lists, query } = self;
@@ -54,6 +60,9 @@ impl ListReader for SecondReader {
 
     ghost holds = { λ second. has_entry second.lists };
 
+    ghost reads = { λ left left_after old answer new. (new.answerer ≡ old.answerer)
+        × ReadsNext (AreAnsweredBy old.answerer answer) left left_after old.lists new.lists };
+
     fn read<R: Read>(self, input: &mut R) -> Result<(SecondReader, Answer), ReadFailure> {
         let SecondReader { lists, answerer } = self;
         let (lists, answer) = lists.read_answers(&answerer, input)?;
@@ -72,7 +81,9 @@ impl ListReader for SecondReader {
 /// Reads the first list of the query, which has this name. If that fails, it is reported, and the error is the exit
 /// status.
 pub fn read_first(rt: &HostRuntime, first: Lists<FirstReader>, name: &str) -> Result<Stream, u8>
-    ensures { IfErr result (λ status. status ≡ 2) }
+    ensures read { IfOk result (λ stream. ReadsNext (IsAnswererFor first.reader.query stream.answerer) None None
+        first.reader.lists stream.lists) }
+    ensures failed { IfErr result (λ status. status ≡ 2) }
 {
     let (first, answerer) = first.read(rt, name)?;
     let FirstReader { lists, .. } = first.end()?;
@@ -88,7 +99,11 @@ pub fn read_answers(
     names: &[&str; 2],
     entries: Option<String>,
 ) -> Result<(SetReader, bool, Answer), u8>
-    ensures { IfErr result (λ status. status ≡ 2) }
+    ensures file { IfNone entries (IfOk result (λ r.
+        AnswersQuery first.reader.query None first.reader.lists r.0 r.2)) }
+    ensures entries { IfSome entries (λ text. IfOk result (λ r.
+        AnswersQuery first.reader.query (Some (string_bytes text)) first.reader.lists r.0 r.2)) }
+    ensures failed { IfErr result (λ status. status ≡ 2) }
 {
     let (first, answerer) = first.read(rt, names[0])?;
     let Lists {
@@ -97,14 +112,44 @@ pub fn read_answers(
         total,
         allowed,
     } = first;
-    let FirstReader { lists, .. } = reader;
+    let lists = Lists {
+        reader: reader.lists,
+        reports,
+        total,
+        allowed,
+    };
+    read_answers_by(rt, lists, answerer, names[1], entries)
+}
+
+/// Reads one list more, which has this name, or these lines if there are `entries`. Returns the reader, whether the
+/// lists may be as they are, as `Lists::into_reader` says, and the answer of the answerer to its entries. If that
+/// fails, it is reported, and the error is the exit status.
+pub fn read_answers_by(
+    rt: &HostRuntime,
+    lists: Lists<SetReader>,
+    answerer: Answerer,
+    name: &str,
+    entries: Option<String>,
+) -> Result<(SetReader, bool, Answer), u8>
+    ensures file { IfNone entries (IfOk result (λ r.
+        ReadsNext (AreAnsweredBy answerer r.2) None None lists.reader r.0)) }
+    ensures entries { IfSome entries (λ text. IfOk result (λ r. (after : Left)
+        × ReadsNext (AreAnsweredBy answerer r.2) (Some (string_bytes text)) after lists.reader r.0)) }
+    ensures failed { IfErr result (λ status. status ≡ 2) }
+{
+    let Lists {
+        reader: lists,
+        reports,
+        total,
+        allowed,
+    } = lists;
     let second = Lists {
         reader: SecondReader { lists, answerer },
         reports,
         total,
         allowed,
     };
-    let (second, answer) = second.read_last(rt, names[1], entries)?;
+    let (second, answer) = second.read_last(rt, name, entries)?;
     let (reader, allowed) = second.into_reader();
     let SecondReader { lists, .. } = reader;
     Ok((lists, allowed, answer))

@@ -10,7 +10,7 @@ mod reading;
 mod replacement;
 mod skipped;
 
-pub use asked::{FirstReader, read_answers, read_first, stream_list};
+pub use asked::{FirstReader, read_answers, read_answers_by, read_first, stream_list};
 pub use input::{ENTRY_LIST, Input, Log, STANDARD_INPUT, Unread, open_log, report_unread};
 pub use lists::{Empties, ListReader, Lists, Reports, read_rules};
 pub use output::{AnswerWriter, CLOSED, Ends, Faults, Writers};

@@ -1,7 +1,10 @@
 //! The lists, read from files and from standard input.
-ghost use Rattle.std.specs.Prelude.{◌≡◌, ◌≢◌, ◌⊎◌, ◌↔◌, ◌-◌, ℕ, Bool, true, false, take, length, IsTrue, IsOk, IfErr};
-ghost use Rattle.netset_files.specs.Files.{standard_input};
+ghost use Rattle.std.specs.Prelude.{◌≡◌, ◌≢◌, ◌⊎◌, ◌↔◌, ◌-◌, ℕ, Bool, List, true, false, take, length};
+ghost use Rattle.std.specs.Prelude.{None, Some, string_bytes, IsTrue, IsOk, IsErr, IfOk, IfErr, IfSome, IfNone};
+ghost use Rattle.netset_files.specs.Files.{entry_list, standard_input};
+ghost use Rattle.netset_files.specs.ListReads.{AreRead, AreReadThen, Left, MayBeAsItIs};
 ghost use Rattle.netset_files.specs.declared.lists.Empties.TheVariants.{Refuse};
+ghost use Rattle.netset_lib.specs.RuleContentsOf.{WasRuleListRead};
 
 use crate::input::{ENTRY_LIST, STANDARD_INPUT, Unread, open_list, report_unread};
 use ipnet::Grammar;
@@ -25,8 +28,13 @@ pub trait ListReader: Sized + Drop {
     /// Whether the last list has an entry.
     ghost holds: { Self → Bool };
 
+    /// From the reader before to the reader after, one more list was read as this value: all bytes that its input had
+    /// left. The first two are what the input has left before and after.
+    ghost reads: { Left → Left → Self → Self.List → Self → Type 0 };
+
     /// Reads the next list up to its end. After a failure there is no reader.
-    fn read<R: Read>(self, input: &mut R) -> Result<(Self, Self::List), ReadFailure>;
+    fn read<R: Read>(self, input: &mut R) -> Result<(Self, Self::List), ReadFailure>
+        ensures { IfOk result (λ r. reads (R.remaining input.old) (R.remaining input.new) self r.1 r.0) };
 
     /// The number of refused lines of all lists that were read.
     fn refused_count(&self) -> usize
@@ -40,11 +48,15 @@ pub trait ListReader: Sized + Drop {
 impl ListReader for SetReader {
     type List = IpSet;
 
-    ghost use Rattle.netset_lib.specs.SetReaders.{has_entry, refused_count};
+    ghost use Rattle.ipnet_lists.specs.Lists.{HaveAddresses};
+    ghost use Rattle.ipnet_sets.specs.Members.{IsMember};
+    ghost use Rattle.netset_lib.specs.SetReaders.{ReadsNext, has_entry, refused_count};
 
     ghost refused = { refused_count };
 
     ghost holds = { has_entry };
+
+    ghost reads = { λ left left_after old set new. ReadsNext (HaveAddresses (IsMember set)) left left_after old new };
 
     fn read<R: Read>(self, input: &mut R) -> Result<(SetReader, IpSet), ReadFailure> {
         SetReader::read(self, input)
@@ -62,11 +74,14 @@ impl ListReader for SetReader {
 impl ListReader for Extraction {
     type List = ();
 
+    ghost use Rattle.netset_files.specs.ListReads.{ExtractsNext};
     ghost use Rattle.netset_words.specs.Extractions.{has_entry, refused_count};
 
     ghost refused = { refused_count };
 
     ghost holds = { has_entry };
+
+    ghost reads = { λ left left_after old _ new. ExtractsNext left left_after old new };
 
     fn read<R: Read>(self, input: &mut R) -> Result<(Extraction, ()), ReadFailure> {
         let mut extraction = self;
@@ -188,7 +203,11 @@ impl<L: ListReader> Lists<L> {
     /// Reads the list of this name, `-` for standard input. If that fails, it is reported, and the error is the exit
     /// status.
     pub fn read(self, rt: &HostRuntime, name: &str) -> Result<(Lists<L>, L::List), u8>
-        ensures { IfErr result (λ status. status ≡ 2) }
+        ensures read { IfOk result (λ r. L.reads None None self.reader r.1 r.0.reader) }
+        ensures allowed { IfOk result (λ r. IsTrue r.0.allowed ↔ (IsTrue self.allowed
+            × MayBeAsItIs L.holds L.refused self.reports name.now self.reader r.0.reader)) }
+        ensures reports { IfOk result (λ r. r.0.reports ≡ self.reports) }
+        ensures failed { IfErr result (λ status. status ≡ 2) }
     {
         let mut input = match open_list(rt, name) {
             Ok(input) => input,
@@ -198,7 +217,7 @@ impl<L: ListReader> Lists<L> {
             reader,
             reports,
             total,
-            mut allowed,
+            allowed,
         } = self;
         let refused = reader.refused_count();
         let (reader, list) = match reader.read(&mut input) {
@@ -207,14 +226,12 @@ impl<L: ListReader> Lists<L> {
         };
         let total = total.saturating_add(input.count);
         reports.report_bytes(rt, name, input.count, total);
-        if !is_allowed(rt, &reader, name, refused, reports) {
-            allowed = false;
-        }
+        let may_be = is_allowed(rt, &reader, name, refused, reports);
         let lists = Lists {
             reader,
             reports,
             total,
-            allowed,
+            allowed: allowed && may_be,
         };
         Ok((lists, list))
     }
@@ -222,7 +239,12 @@ impl<L: ListReader> Lists<L> {
     /// Reads the entries of the command line, a line each, as one list, as `read` reads a file. If a file before it has
     /// no entry, and that is to be refused, they are not read, and the error is the exit status.
     fn read_entries(self, rt: &HostRuntime, entries: &str) -> Result<(Lists<L>, L::List), u8>
-        ensures { IfErr result (λ status. status ≡ 2) }
+        ensures read { IfOk result (λ r. (after : Left) × L.reads (Some entries.now) after self.reader r.1 r.0.reader) }
+        ensures allowed { IfOk result (λ r. IsTrue r.0.allowed
+            ↔ MayBeAsItIs L.holds L.refused self.reports entry_list self.reader r.0.reader) }
+        ensures reports { IfOk result (λ r. r.0.reports ≡ self.reports) }
+        ensures refused { self.allowed ≡ false → IsErr result }
+        ensures failed { IfErr result (λ status. status ≡ 2) }
     {
         if !self.allowed {
             return Err(2);
@@ -231,7 +253,7 @@ impl<L: ListReader> Lists<L> {
             reader,
             reports,
             total,
-            mut allowed,
+            ..
         } = self;
         let refused = reader.refused_count();
         let mut input = entries.as_bytes();
@@ -244,9 +266,7 @@ impl<L: ListReader> Lists<L> {
             )),
         };
         reports.report_bytes(rt, ENTRY_LIST, entries.len(), entries.len());
-        if !is_allowed(rt, &reader, ENTRY_LIST, refused, reports) {
-            allowed = false;
-        }
+        let allowed = is_allowed(rt, &reader, ENTRY_LIST, refused, reports);
         let lists = Lists {
             reader,
             reports,
@@ -268,12 +288,36 @@ impl<L: ListReader> Lists<L> {
         name: &str,
         entries: Option<String>,
     ) -> Result<(Lists<L>, L::List), u8>
-        ensures { IfErr result (λ status. status ≡ 2) }
+        ensures file { IfNone entries (IfOk result (λ r. L.reads None None self.reader r.1 r.0.reader)) }
+        ensures entries { IfSome entries (λ text. IfOk result (λ r. (after : Left)
+            × L.reads (Some (string_bytes text)) after self.reader r.1 r.0.reader)) }
+        ensures reports { IfOk result (λ r. r.0.reports ≡ self.reports) }
+        ensures failed { IfErr result (λ status. status ≡ 2) }
     {
         match entries {
             Some(entries) => self.read_entries(rt, entries.as_str()),
             None => self.read(rt, name),
         }
+    }
+
+    /// Reads the lists of these names in order, as `read` does.
+    #[tactic(auto, using(crate::proofs::ReadLaws::one_more))]
+    fn read_files(self, rt: &HostRuntime, names: &[&str]) -> Result<(Lists<L>, Vec<L::List>), u8>
+        ensures read { IfOk result (λ r. AreRead L.reads self.reader r.1.items r.0.reader) }
+        ensures count { IfOk result (λ r. length r.1.items ≡ length names.now) }
+        ensures reports { IfOk result (λ r. r.0.reports ≡ self.reports) }
+        ensures failed { IfErr result (λ status. status ≡ 2) }
+    {
+        let mut lists = self;
+        let mut all = Vec::new(rt.alloc());
+        for name in names {
+            let (next, list) = lists.read(rt, name)?;
+            lists = next;
+            if all.push(list).is_err() {
+                return Err(report_unread(rt, name, &Unread::of_known_bytes(ReadFailure::Memory)));
+            }
+        }
+        Ok((lists, all))
     }
 
     /// Reads the lists of these names in order, as `read` does. If there are `entries`, the last list is not a file: it
@@ -284,17 +328,15 @@ impl<L: ListReader> Lists<L> {
         names: &[&str],
         entries: Option<String>,
     ) -> Result<(Lists<L>, Vec<L::List>), u8>
-        ensures { IfErr result (λ status. status ≡ 2) }
+        ensures files { IfNone entries (IfOk result (λ r. AreRead L.reads self.reader r.1.items r.0.reader
+            × (length r.1.items ≡ length names.now))) }
+        ensures entries { IfSome entries (λ text. IfOk result (λ r.
+            AreReadThen L.reads (string_bytes text) (length names.now - 1) self.reader r.1.items r.0.reader)) }
+        ensures reports { IfOk result (λ r. r.0.reports ≡ self.reports) }
+        ensures failed { IfErr result (λ status. status ≡ 2) }
     {
-        let mut lists = self;
-        let mut all = Vec::new(rt.alloc());
-        for name in file_names(names, entries.is_some()) {
-            let (next, list) = lists.read(rt, name)?;
-            lists = next;
-            if all.push(list).is_err() {
-                return Err(report_unread(rt, name, &Unread::of_known_bytes(ReadFailure::Memory)));
-            }
-        }
+        let files = file_names(names, entries.is_some());
+        let (lists, mut all) = self.read_files(rt, files)?;
         let Some(entries) = entries else {
             return Ok((lists, all));
         };
@@ -319,6 +361,7 @@ impl<L: ListReader> Lists<L> {
     /// Returns the reader. If a list has no entry, and that is to be refused, the error is the exit status.
     pub fn end(self) -> Result<L, u8>
         ensures exact { IsOk result ↔ IsTrue self.allowed }
+        ensures reader { IfOk result (λ reader. reader ≡ self.reader) }
         ensures allowed { self.reports.empties ≢ Refuse → IsOk result }
         ensures failed { IfErr result (λ status. status ≡ 2) }
     {
@@ -351,7 +394,11 @@ pub fn read_rules(
     name: &str,
     grammar: Grammar,
     reports: Reports,
-) -> Result<Option<RuleList>, Unread> {
+) -> Result<Option<RuleList>, Unread>
+    ensures read { IfOk result (λ found. IfSome found (λ list. (bytes : List ℕ) × WasRuleListRead grammar bytes list)) }
+    ensures none { IfOk result (λ found. IfNone found
+        ((name.now ≢ standard_input) × (reports.empties ≡ Refuse))) }
+{
     let mut input = open_list(rt, name)?;
     let list = match RuleList::read(rt.alloc(), &mut input, grammar) {
         Ok(list) => list,

@@ -1,5 +1,7 @@
 //! The output of a command: standard output, or a file that only a whole answer replaces.
-ghost use Rattle.std.specs.Prelude.{◌≡◌, ◌≤◌, IfErr, IsTrue};
+ghost use Rattle.std.specs.Prelude.{◌≡◌, ◌≢◌, ◌≤◌, ◌⊎◌, ◌↔◌, true, false, IfOk, IfErr, IsTrue};
+ghost use Rattle.std.specs.Option.{option_map};
+ghost use Rattle.netset_files.specs.Outputs.{IsFile, IsNamedFile};
 ghost use Rattle.netset_files.specs.Statuses.{IsUsualStatus};
 
 use crate::input::{ERROR_STREAM, Input, OUTPUT_STREAM};
@@ -174,7 +176,13 @@ impl<'a> Writers<'a> {
         name: Option<&'a str>,
         reports: Reports,
         ends: &'a Ends,
-    ) -> Result<Writers<'a>, OutputFailure> {
+    ) -> Result<Writers<'a>, OutputFailure>
+        ensures file { IfOk result (λ writers. IsFile writers.answer.destination
+            ↔ IsNamedFile (option_map (λ text. text.now) name.entry)) }
+        ensures answer { IfOk result (λ writers. writers.answer.is_withheld ≡ false) }
+        ensures reports { IfOk result (λ writers. writers.reports ≡ reports) }
+        ensures skipped { IfOk result (λ writers. writers.skipped ≡ false) }
+    {
         let destination = match name {
             Some(name) if name != STANDARD_OUTPUT => Destination::File(Replacement::open(
                 rt, name,
@@ -210,7 +218,9 @@ impl<'a> Writers<'a> {
     /// Notes that the command has no answer if it ends with status 1, and returns the status. Then the file stays as it
     /// is.
     pub fn without_answer_at_1(&mut self, status: u8) -> u8
-        ensures { result ≡ status }
+        ensures status { result ≡ status }
+        ensures withheld { status ≡ 1 → self.new.answer.is_withheld ≡ true }
+        ensures kept { status ≢ 1 → self.new ≡ self.old }
     {
         if status == 1 {
             self.answer.is_withheld = true;
@@ -222,7 +232,9 @@ impl<'a> Writers<'a> {
     /// or 1, if the command has an answer; otherwise it stays as it is.
     #[inline(never)]
     pub fn end(self, status: u8) -> u8
-        ensures { status ≤ 2 → IsUsualStatus result }
+        ensures usual { status ≤ 2 → IsUsualStatus result }
+        ensures kept { (result ≡ status) ⊎ ((result ≡ 141) ⊎ ((status ≤ 1) × (result ≡ 2))) }
+        ensures withheld { self.entry.answer.is_withheld ≡ true → (result ≡ status) ⊎ (result ≡ 141) }
     {
         let Writers {
             mut answer,

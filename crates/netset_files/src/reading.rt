@@ -1,9 +1,6 @@
 //! Lists that are read with a report if that fails.
-ghost use Rattle.std.specs.Prelude.{◌≡◌, ◌≢◌, ◌⊎◌, ◌↔◌, string_bytes, Any, IsTrue, IfSome, IfOk, IfErr};
-ghost use Rattle.ipnet.specs.Lines.{lines_of};
-ghost use Rattle.ipnet_lists.specs.ContentLines.{IsSomeLine};
-ghost use Rattle.ipnet_lists.specs.Lists.{after_mark};
-ghost use Rattle.netset_files.specs.Files.{standard_input};
+ghost use Rattle.std.specs.Prelude.{◌≡◌, ◌≢◌, ◌↔◌, string_bytes, IsTrue, IfSome, IfOk, IfErr};
+ghost use Rattle.netset_files.specs.LineBytes.{MayHaveLines};
 ghost use Rattle.netset_files.specs.declared.lists.Empties.TheVariants.{Refuse};
 
 use crate::input::{ENTRY_LIST, report_unread};
@@ -30,8 +27,7 @@ pub fn may_have_lines(
     what: &str,
     reports: Reports,
 ) -> bool
-    ensures exact { IsTrue result ↔ (Any IsSomeLine (lines_of (after_mark bytes.now))
-        ⊎ ((name.now ≡ standard_input) ⊎ (reports.empties ≢ Refuse))) }
+    ensures exact { IsTrue result ↔ MayHaveLines reports name.now bytes.now }
     ensures allowed { reports.empties ≢ Refuse → IsTrue result }
 {
     has_lines(bytes) || reports.report_empty(rt, name, what)
@@ -45,13 +41,15 @@ pub fn may_have_lines(
 ///     without an entry are to be refused
 /// ```
 pub fn bytes_of(rt: &HostRuntime, name: &str, what: &str, reports: Reports) -> Result<Vec<u8>, u8>
-    ensures { IfErr result (λ status. status ≡ 2) }
+    ensures lines { IfOk result (λ bytes. MayHaveLines reports name.now bytes.items) }
+    ensures failed { IfErr result (λ status. status ≡ 2) }
 {
     let bytes = whole_of(rt, name, reports)?;
-    if !may_have_lines(rt, name, bytes.as_slice(), what, reports) {
-        return Err(2);
+    if may_have_lines(rt, name, bytes.as_slice(), what, reports) {
+        Ok(bytes)
+    } else {
+        Err(2)
     }
-    Ok(bytes)
 }
 
 /// Returns the bytes of the entries of the command line, a line each, if there are `entries`. They are reported as

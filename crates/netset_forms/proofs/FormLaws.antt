@@ -1,13 +1,14 @@
 -- Sets with the same addresses have the same texts, so the text of a set is the text of what it was made of.
-use Rattle.std.proofs.Common.{◌↔◌, ℕ, List, [], max, Option, Some, None}
+use Rattle.std.proofs.Common.{◌↔◌, ℕ, Bool, true, false, List, [], max, Option, Some, None}
 use Rattle.std.specs.Borrow.{Bor}
 use Rattle.ipnet_base.specs.Address.{Family, IPv4, IPv6, Address}
 use Rattle.ipnet_base.specs.Network.{Network}
 use Rattle.ipnet_base.proofs.UniqueLaws.{AreMaximalBlocks-same_set}
 use Rattle.ipnet.specs.declared.parser.Grammar.{Grammar}
 use Rattle.ipnet_rules.specs.declared.rules.Action.{Action}
+use Rattle.ipnet_rules.specs.declared.rules.Rule.{Rule}
 use Rattle.ipnet_sets.specs.declared.set.IpSet.{IpSet}
-use Rattle.ipnet_sets.specs.Members.{IsMember}
+use Rattle.ipnet_sets.specs.Members.{IsMember, IsDifference}
 use Rattle.netset_lib.specs.declared.operation.Combination.{Combination}
 use Rattle.netset_lib.specs.Combinations.{IsCombined, IsInCombined}
 use Rattle.netset_lib.specs.RuleAnswers.{IsPermittedBy, IsPermittedSet}
@@ -16,7 +17,9 @@ use Rattle.netset_forms.specs.declared.form.AnswerForm.{AnswerForm}
 use Rattle.netset_forms.specs.declared.form.AnswerForm.TheVariants as Forms
 use Rattle.netset_forms.specs.declared.form.FormRequest.{FormRequest}
 use Rattle.netset_forms.specs.declared.form.SetNames.{SetNames}
-use Rattle.netset_forms.specs.FormAnswers.{IsFormAnswer, IsPermittedForm}
+use Rattle.netset_forms.specs.FormAnswers.{IsFormAnswer, IsPermittedForm, IsEnoughIf, IsNewlyPermitted}
+use Rattle.netset_forms.specs.FormAnswers.{IsNewlyPermittedForm}
+use Rattle.netset_forms.specs.RulePairs.{IsNewlyPermittedSet}
 use Rattle.netset_forms.specs.Forms.{AreBlocksIn, AreRangesIn, IsFamilyText, AreFamilyTexts, IsFormText, IsOfFamily}
 use Rattle.netset_forms.specs.Forms.{plain_items, row_items, entries_from, ipset_kind, frr_of, IsOfFamilies}
 use Rattle.netset_forms.specs.Forms.{IsAskedText, HasOne}
@@ -142,4 +145,38 @@ module _ (default : Action) (form : FormRequest) (grammar : Grammar) (bytes : Li
     contents = contents;
     read = read;
     right = asked_same (IsMember set) (IsPermittedBy contents.rules default) of form text right;
+  }
+
+-- ---- whether there is an address
+
+pub enough_same : (needed : Bool) (r : FormRequest) (A B : Address → Type 0) → ((x : Address) → A x ↔ B x)
+    → (succeeded : Bool) → IsEnoughIf needed r A succeeded → IsEnoughIf needed r B succeeded
+enough_same true r A B same succeeded h = (
+  λ t. let (x, i) = h.0 t in (x, (chosen_same A B same r.families x).0 i),
+  λ (x, i). h.1 (x, (chosen_same A B same r.families x).1 i),
+)
+enough_same false r A B same succeeded h = h
+
+-- ---- the set that an edit of rules opens
+
+pub difference_permitted : (default : Action) (rules except : List Rule) (a b s : IpSet)
+    → IsPermittedSet default rules a → IsPermittedSet default except b → IsDifference s a b
+    → IsNewlyPermittedSet default rules except s
+difference_permitted default rules except a b s of_a of_b is x = (
+  λ i. let (in_a, not_b) = (is x).0 i in ((of_a x).0 in_a, λ permitted. not_b ((of_b x).1 permitted)),
+  λ i. (is x).1 ((of_a x).1 i.0, λ member. i.1 ((of_b x).0 member)),
+)
+
+module _ (default : Action) (form : FormRequest) (grammar : Grammar) (bytes except : List ℕ)
+    (contents others : RuleContents) (read : IsRuleList grammar bytes contents [])
+    (others_read : IsRuleList grammar except others []) (set : IpSet)
+    (of : IsNewlyPermittedSet default contents.rules others.rules set) where
+  pub text_of_edit : (text : List ℕ) → IsAskedText form (IsMember set) text
+      → IsNewlyPermittedForm default form grammar bytes except text
+  text_of_edit text right = record {
+    contents = contents;
+    read = read;
+    others = others;
+    others_read = others_read;
+    right = asked_same (IsMember set) (IsNewlyPermitted contents.rules others.rules default) of form text right;
   }

@@ -2,9 +2,11 @@
 #![tactic(auto)]
 
 mod blocks;
+mod enough;
 pub mod form;
 mod frame;
 pub mod names;
+pub mod newly_permitted;
 pub mod options;
 mod parts;
 mod pieces;
@@ -16,6 +18,7 @@ pub use names::{
     are_ipset_sets, are_nft_sets, is_bird_name, is_chain_name, is_frr_name, is_ipset_name,
     is_nft_name, is_target_name,
 };
+pub use newly_permitted::{NewlyPermittedCommand, RulePairFailure};
 pub use options::{FormFault, FormName, FormOptions};
 pub use program::{FormCommand, PermittedCommand};
 pub use write::write_form;

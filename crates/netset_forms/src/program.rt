@@ -1,18 +1,19 @@
 //! The commands of the program whose answer is a set, in any form.
-ghost use Rattle.std.specs.Prelude.{◌≡◌, IsTrue, List, ℕ, OnOk};
+ghost use Rattle.std.specs.Prelude.{◌≡◌, List, ℕ, OnOk};
 ghost use Rattle.ipnet_text.specs.Outputs.{IsWritten, IsFrontWritten};
 ghost use Rattle.netset_forms.specs.FormWords.{form_words};
 ghost use Rattle.netset_lib.specs.Reports.{words_line};
 ghost use Rattle.ipnet.specs.declared.parser.Grammar.{Grammar};
-ghost use Rattle.netset_lib.specs.RuleAnswers.{IsRuleFailure, IsPermittedSet};
+ghost use Rattle.netset_lib.specs.RuleAnswers.{IsRuleFailure, IsPermittedBy, IsPermittedSet};
 ghost use Rattle.netset_lib.specs.RuleContentsOf.{WasRuleListRead, contents_of};
-ghost use Rattle.netset_lib.specs.Combinations.{IsCombined, IsCombineFailure};
+ghost use Rattle.netset_lib.specs.Combinations.{IsCombined, IsCombineFailure, IsInCombined};
 ghost use Rattle.netset_lib.specs.Runs.{IsFault};
 ghost use Rattle.ipnet_sets.specs.Members.{IsMember};
 ghost use Rattle.ipnet_sets.specs.declared.set.IpSet.{IpSet};
 ghost use Rattle.netset_forms.specs.Forms.{IsAskedFailure};
-ghost use Rattle.netset_forms.specs.FormAnswers.{IsFormAnswer, IsPermittedForm};
+ghost use Rattle.netset_forms.specs.FormAnswers.{IsFormAnswer, IsPermittedForm, IsEnoughIf};
 
+use crate::enough::is_enough;
 use crate::form::{FormFailure, FormRequest};
 use crate::write::write_form;
 use ipnet_lists::ListFailure;
@@ -49,6 +50,7 @@ impl Report for FormFailure {
 /// | 2 | `netset: the result has IPv4 addresses: name a set for them by --ipv4-set` | a set without a name; or IPv6 |
 /// | 2 | `netset: out of memory` | memory runs out |
 /// | 2 | `netset: output cannot be written` | a write fails, or the flush after it; the answer may be out in part |
+/// | 1 | nothing | an address is needed, and the answer has none |
 /// | 0 | nothing | otherwise |
 ///
 /// ```text
@@ -61,6 +63,8 @@ pub struct FormCommand<'a> {
     pub combination: Combination,
     /// The form of the answer.
     pub form: FormRequest<'a>,
+    /// Whether the command succeeds only if the answer has an address.
+    pub needs_address: bool,
 }
 
 impl<'a> Command for FormCommand<'a> {
@@ -68,7 +72,7 @@ impl<'a> Command for FormCommand<'a> {
 
     ghost is_answer = { λ c. IsFormAnswer c.combination c.form };
 
-    ghost is_outcome = { λ _ succeeded. IsTrue succeeded };
+    ghost is_outcome = { λ c. IsEnoughIf c.needs_address c.form (IsInCombined c.combination) };
 
     ghost is_failure = { λ c. IsFault (IsCombineFailure c.combination) (λ failure. (set : IpSet)
         × IsCombined c.combination set × IsAskedFailure c.form (IsMember set) failure) };
@@ -78,13 +82,15 @@ impl<'a> Command for FormCommand<'a> {
             alloc,
             combination,
             form,
+            needs_address,
         } = self;
         let set = match combine(alloc, combination) {
             Ok(set) => set,
             Err(failure) => return Err(Fault::Lists(failure)),
         };
+        let succeeds = is_enough(needs_address, form, &set);
         match write_form(alloc, set, form, out) {
-            Ok(()) => Ok(true),
+            Ok(()) => Ok(succeeds),
             Err(failure) => Err(Fault::Other(failure)),
         }
     }
@@ -105,6 +111,8 @@ pub struct PermittedCommand<'a> {
     pub default: Action,
     /// The form of the answer.
     pub form: FormRequest<'a>,
+    /// Whether the command succeeds only if the answer has an address.
+    pub needs_address: bool,
 }
 
 impl<'a> Command for PermittedCommand<'a> {
@@ -113,7 +121,7 @@ impl<'a> Command for PermittedCommand<'a> {
     ghost is_answer = { λ c text. (grammar : Grammar) → (bytes : List ℕ)
         → WasRuleListRead grammar bytes c.list → IsPermittedForm c.default c.form grammar bytes text };
 
-    ghost is_outcome = { λ _ succeeded. IsTrue succeeded };
+    ghost is_outcome = { λ c. IsEnoughIf c.needs_address c.form (IsPermittedBy (contents_of c.list).rules c.default) };
 
     ghost is_failure = { λ c. IsFault (IsRuleFailure c.list) (λ failure. (set : IpSet)
         × IsPermittedSet c.default (contents_of c.list).rules set
@@ -127,14 +135,16 @@ impl<'a> Command for PermittedCommand<'a> {
             list,
             default,
             form,
+            needs_address,
         } = self;
         let alloc = list.alloc();
         let set = match list.permitted(default) {
             Ok(set) => set,
             Err(failure) => return Err(Fault::Lists(failure)),
         };
+        let succeeds = is_enough(needs_address, form, &set);
         match write_form(alloc, set, form, out) {
-            Ok(()) => Ok(true),
+            Ok(()) => Ok(succeeds),
             Err(failure) => Err(Fault::Other(failure)),
         }
     }

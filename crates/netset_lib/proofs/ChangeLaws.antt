@@ -2,15 +2,17 @@
 use Rattle.std.proofs.Common.{◌≡◌, ℕ, ◌⊎◌, ◌↔◌, List, [], ◌∷◌, ◌++◌, Bool, true, Contains, Option, Some, None, map}
 use Rattle.std.proofs.Common.{refl, sym, ap, ◌∙◌, subst, arith, inl, inr}
 use Rattle.std.proofs.lemmas.List.{append_assoc, append-nil}
+use Rattle.ipnet_base.specs.Address.{Address}
 use Rattle.ipnet_base.specs.Network.{Network, IsBefore}
 use Rattle.ipnet_base.specs.Blocks.{IsAscending}
 use Rattle.ipnet_base.specs.Stack.{IsBeforeOrEqual}
 use Rattle.ipnet_base.proofs.ListLaws.{contains_nil, contains_here, contains_there, contains_cases}
 use Rattle.ipnet_base.proofs.ListLaws.{pairs_head, pairs_tail, pairs_cons}
 use Rattle.ipnet_base.proofs.OrderLaws.{IsBefore-asymmetric, IsBefore-transitive, order_total}
+use Rattle.ipnet_base.proofs.UniqueLaws.{AreMaximalBlocks-same_set}
 use Rattle.ipnet.specs.NetworkOf.{ip_network}
 use Rattle.netset_lib.specs.Changes.{ListChange, Added, Removed, changed_network, change_line, text_of_changes}
-use Rattle.netset_lib.specs.Changes.{AreChanges}
+use Rattle.netset_lib.specs.Changes.{AreChanges, AreChangeLines}
 use Rattle.netset_lib.specs.ChangeSteps.{change_of, IsBeforeFirst, IsFirstStep, AreWrittenUpTo}
 use Rattle.netset_lib.specs.declared.changes.Change.{Change}
 use Rattle.netset_lib.specs.declared.changes.Change.TheVariants as Variants
@@ -287,3 +289,18 @@ no_changes networks (Added n ∷ changes) h =
     let (to, out) = (h.added n).0 (contains_here (Added n) changes) in absurd (out to)
 no_changes networks (Removed n ∷ changes) h =
     let (from, out) = (h.removed n).0 (contains_here (Removed n) changes) in absurd (out from)
+
+-- ---- sets with the same addresses
+
+-- the changes between two sets are the changes between sets with the same addresses
+pub lines_of_same : (A B C D : Address → Type 0) → ((x : Address) → A x ↔ B x) → ((x : Address) → C x ↔ D x)
+    → (text : List ℕ) → AreChangeLines A C text → AreChangeLines B D text
+lines_of_same A B C D first second text h = record {
+  before = h.before;
+  after = h.after;
+  of_before = AreMaximalBlocks-same_set A B 0 h.before first h.of_before;
+  of_after = AreMaximalBlocks-same_set C D 0 h.after second h.of_after;
+  changes = h.changes;
+  exact = h.exact;
+  spelled = h.spelled;
+}

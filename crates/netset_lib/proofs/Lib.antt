@@ -35,3 +35,4 @@ pub mod PrefixChoiceLaws
 pub mod TextLaws
 pub mod TextAnswerLaws
 pub mod TextLineLaws
+pub mod PrefixCompareLaws

@@ -3,13 +3,15 @@ use Rattle.std.proofs.Common.{◌≡◌, ℕ, ◌-◌, ◌<◌, ◌≤◌, ◌�
 use Rattle.std.proofs.Common.{arith, inl, inr}
 use Rattle.std.proofs.lemmas.Bool.{cases_lt}
 use Rattle.std.proofs.lemmas.Nat.{pow_below}
-use Rattle.ipnet_base.specs.Address.{IPv4, IPv6, Address}
+use Rattle.std.specs.declared.net.ip_addr.IpAddr.TheVariants as Ip
+use Rattle.std.specs.declared.net.ipv4_addr.Ipv4Addr.{Ipv4Addr}
+use Rattle.ipnet_base.specs.Address.{IPv4, IPv6, Address, ip_address, ipv4_address}
 use Rattle.ipnet_base.specs.Masks.{hostmask_number}
 use Rattle.ipnet_base.specs.Network.{Network}
 use Rattle.ipnet_base.proofs.MaskLaws.{masks_add_up}
 use Rattle.ipnet.specs.NetworkParts.{HasAddressAndNetmask}
 use Rattle.ipnet.specs.declared.parser.Grammar.{Grammar}
-use Rattle.ipnet_lists.specs.Entries.{IsAddressText}
+use Rattle.ipnet_lists.specs.Entries.{IsAddressText, IsIpv4Text}
 use Rattle.ipnet_lists.proofs.EntryTexts.{one_address}
 use Rattle.netset_lib.specs.RuleAddresses.{IsWildcardedBy, IsEitherMask, WriteWildcard}
 
@@ -90,33 +92,26 @@ not_either n address mask h either =
 
 -- ---- words that are read
 
+-- a text of an IPv4 address
+pub ipv4_text : (grammar : Grammar) (text : List ℕ) (a : Ipv4Addr) → IsAddressText grammar text (ip_address (Ip.V4 a))
+    → IsIpv4Text grammar text (ipv4_address a)
+ipv4_text grammar text a (inl h) = h
+ipv4_text grammar text a (inr h) = let clash : IPv4 ≡ IPv6 = h.family in absurd cc
+
 -- a text of an IPv6 address is not of an IPv4 address
 pub other_family : (grammar : Grammar) (text : List ℕ) (x y : Address) → IsAddressText grammar text y
-    → y.family ≡ IPv6 → x.family ≡ IPv4 → IsAddressText grammar text x → ⊥
-other_family grammar text x y h of_y of_x k =
-    let clash : IPv6 ≡ IPv4 = sym of_y ∙ ap (λ (z : Address). z.family) (one_address grammar text y x h k) ∙ of_x in
+    → y.family ≡ IPv6 → IsIpv4Text grammar text x → ⊥
+other_family grammar text x y h of_y k =
+    let same = one_address grammar text y x h (inl k) in
+    let clash : IPv6 ≡ IPv4 = sym of_y ∙ ap (λ (z : Address). z.family) same ∙ k.family in
     absurd cc
-
--- no IPv4 address, and so no network
-pub no_address : (grammar : Grammar) (address_text mask_text : List ℕ)
-    → ((x : Address) → x.family ≡ IPv4 → IsAddressText grammar address_text x → ⊥) → (n : Network)
-    → WriteWildcard grammar address_text mask_text n → ⊥
-no_address grammar address_text mask_text none n w =
-    none w.address (sym (ap (λ (a : Address). a.family) w.addresses.own) ∙ w.addresses.family) w.writes_address
-
--- no IPv4 mask
-pub no_mask : (grammar : Grammar) (address_text mask_text : List ℕ)
-    → ((x : Address) → x.family ≡ IPv4 → IsAddressText grammar mask_text x → ⊥) → (n : Network)
-    → WriteWildcard grammar address_text mask_text n → ⊥
-no_mask grammar address_text mask_text none n w =
-    none w.mask (sym (ap (λ (a : Address). a.family) w.addresses.ones) ∙ w.addresses.family) w.writes_mask
 
 -- no network of the address and the mask
 pub no_wildcard : (grammar : Grammar) (address_text mask_text : List ℕ) (address mask : Address)
-    → IsAddressText grammar address_text address → IsAddressText grammar mask_text mask
+    → IsIpv4Text grammar address_text address → IsIpv4Text grammar mask_text mask
     → ((n : Network) → IsWildcardedBy address mask n → ⊥) → (n : Network)
     → WriteWildcard grammar address_text mask_text n → ⊥
 no_wildcard grammar address_text mask_text address mask a m none n w =
-    let one = one_address grammar address_text address w.address a w.writes_address in
-    let two = one_address grammar mask_text mask w.mask m w.writes_mask in
+    let one = one_address grammar address_text address w.address (inl a) (inl w.writes_address) in
+    let two = one_address grammar mask_text mask w.mask (inl m) (inl w.writes_mask) in
     none n (rw (one, two) w.addresses)

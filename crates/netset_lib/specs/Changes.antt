@@ -1,5 +1,5 @@
 -- The changes that turn one list of networks into another, and their text.
-use Rattle.std.specs.Prelude.{◌≡◌, ◌↔◌, ℕ, List, [], ◌∷◌, ◌++◌, codes, map, Contains}
+use Rattle.std.specs.Prelude.{◌≡◌, ◌↔◌, ℕ, Bool, true, false, List, [], ◌∷◌, ◌++◌, codes, map, Contains}
 use Rattle.ipnet_base.specs.Address.{Address}
 use Rattle.ipnet_base.specs.Network.{Network}
 use Rattle.ipnet_base.specs.Blocks.{AreMaximalBlocks, IsAscending}
@@ -33,6 +33,10 @@ pub record AreChanges (before after : List Network) (changes : List ListChange) 
   pub added : (n : Network) → Contains changes (Added n) ↔ (Contains after n × ¬ (Contains before n))
   pub removed : (n : Network) → Contains changes (Removed n) ↔ (Contains before n × ¬ (Contains after n))
 
+-- The address is in the first set and not in the second.
+abbrev pub IsOnlyIn : (First Second : Address → Type 0) → Address → Type 0
+IsOnlyIn First Second x = First x × ¬ (Second x)
+
 -- The text is the changes from the maximal blocks of the first set to the maximal blocks of the second, one a line.
 -- Example: from 10.0.0.0-10.0.0.2 to 10.0.0.0-10.0.0.3, `+ 10.0.0.0/30`, `- 10.0.0.0/31` and `- 10.0.0.2/32`.
 pub record AreChangeLines (Before After : Address → Type 0) (text : List ℕ) : Type 0 where
@@ -43,3 +47,14 @@ pub record AreChangeLines (Before After : Address → Type 0) (text : List ℕ) 
   pub changes : List ListChange
   pub exact : AreChanges before after changes
   pub spelled : text ≡ text_of_changes changes
+
+-- The text is the changes of addresses, one a line: the maximal blocks of the addresses that only the second set has
+-- are added, and the maximal blocks of the addresses that only the first has are removed.
+-- Example: from 10.0.0.0-10.0.0.2 to 10.0.0.1-10.0.0.3, `- 10.0.0.0/32` and `+ 10.0.0.3/32`.
+abbrev pub AreAddressChanges : (Before After : Address → Type 0) → List ℕ → Type 0
+AreAddressChanges Before After = AreChangeLines (IsOnlyIn Before After) (IsOnlyIn After Before)
+
+-- The text is the changes of addresses, or of the networks of the two sets.
+pub record AreAskedChanges (of_addresses : Bool) (Before After : Address → Type 0) (text : List ℕ) : Type 0 where
+  pub addresses : of_addresses ≡ true → AreAddressChanges Before After text
+  pub networks : of_addresses ≡ false → AreChangeLines Before After text

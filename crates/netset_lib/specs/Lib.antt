@@ -40,6 +40,7 @@ pub mod PrefixEntryOf
 pub mod PrefixSteps
 pub mod PrefixAnswers
 pub mod PrefixReading
+pub mod PrefixComparisons
 pub mod TextTables
 pub mod TextSteps
 pub mod TextReasons

@@ -17,7 +17,7 @@ use Rattle.netset_lib.specs.declared.network_entry.NetworkCause.{NetworkCause}
 use Rattle.netset_lib.specs.declared.prefix_line.PrefixCause.{PrefixCause}
 use Rattle.netset_lib.specs.PrefixAnswers.{ListNetwork, IsNetworkList, verdict_line, AreVerdicts, IsOneDenied}
 use Rattle.netset_lib.specs.PrefixAnswers.{HasRefusedPrefixes, HasRefusedNetworks}
-use Rattle.netset_lib.specs.PrefixEntries.{PrefixEntry, ArePrefixEntries, IsChoiceFault}
+use Rattle.netset_lib.specs.PrefixEntries.{PrefixEntry, ArePrefixEntries, AreRulesOf, IsChoiceFault}
 use Rattle.netset_lib.specs.PrefixEntryOf.{entry_of}
 
 -- The entries and the refused lines of the bytes.
@@ -43,14 +43,22 @@ pub record AddsVerdict (rules : List PrefixRule) (n : ListNetwork) (old new : Ve
   pub line : new.text.items ≡ old.text.items ++ verdict_line action n
   pub denied : IsTrue new.denied ↔ (IsTrue old.denied ⊎ (action ≡ Deny))
 
+-- No line of the prefix list is refused, and the list with the name, or the only one, has these rules.
+pub record HasRules (grammar : Grammar) (prefixes : List ℕ) (name : Option (List ℕ)) : Type 0 where
+  pub entries : List PrefixEntry
+  pub rules : List PrefixRule
+  pub prefix_list : ArePrefixEntries grammar prefixes entries []
+  pub of_list : AreRulesOf name entries rules
+
 -- Why there are no verdicts: refused lines of the prefix list; entries that are not one list; refused lines of the list
--- of networks; or out of memory. When memory runs out is not specified.
+-- of networks, if the prefix list is right; or out of memory. When memory runs out is not specified.
 abbrev pub IsPrefixFailure : Grammar → (prefixes : List ℕ) → Option (List ℕ) → (bytes : List ℕ) → PrefixFailure → Type 0
 IsPrefixFailure grammar prefixes name bytes (Failures.Choice fault) = (entries : List PrefixEntry)
     × ArePrefixEntries grammar prefixes entries [] × IsChoiceFault name entries fault
 IsPrefixFailure grammar prefixes name bytes (Failures.Prefixes lines) =
     (refusals : List (RefusalFor PrefixCause)) × HasRefusedPrefixes grammar prefixes refusals
     × AreRefused lines refusals
-IsPrefixFailure grammar prefixes name bytes (Failures.Networks lines) =
-    (refusals : List (RefusalFor NetworkCause)) × HasRefusedNetworks grammar bytes refusals × AreRefused lines refusals
+IsPrefixFailure grammar prefixes name bytes (Failures.Networks lines) = HasRules grammar prefixes name
+    × ((refusals : List (RefusalFor NetworkCause)) × HasRefusedNetworks grammar bytes refusals
+    × AreRefused lines refusals)
 IsPrefixFailure grammar prefixes name bytes Failures.Memory = Unit {0}

@@ -7,7 +7,7 @@ use Rattle.ipnet.specs.NetworkParts.{own_address, hostmask}
 use Rattle.ipnet.specs.declared.parser.Grammar.{Grammar}
 use Rattle.ipnet_sets.specs.SetRanges.{IsInRange}
 use Rattle.ipnet_lists.specs.Causes.{IsNetmaskNumber}
-use Rattle.ipnet_lists.specs.Entries.{IsAddressEntry, IsAddressText, IsEntryText, block_range}
+use Rattle.ipnet_lists.specs.Entries.{IsAddressEntry, IsEntryText, IsIpv4Text, block_range}
 use Rattle.ipnet_lists.specs.Words.{leading_word, after_word}
 
 -- The text is `host` and one address. Example: `host 10.0.0.1` is 10.0.0.1 to 10.0.0.1.
@@ -30,8 +30,8 @@ pub record IsWildcardedBy (address mask : Address) (n : Network) : Type 0 where
 pub record WriteWildcard (grammar : Grammar) (address_text mask_text : List ℕ) (n : Network) : Type 0 where
   pub address : Address
   pub mask : Address
-  pub writes_address : IsAddressText grammar address_text address
-  pub writes_mask : IsAddressText grammar mask_text mask
+  pub writes_address : IsIpv4Text grammar address_text address
+  pub writes_mask : IsIpv4Text grammar mask_text mask
   pub addresses : IsWildcardedBy address mask n
 
 -- The text is an IPv4 address and a wildcard mask. Example: `10.0.0.9 0.255.255.255` is 10.0.0.0 to 10.255.255.255.
@@ -76,10 +76,8 @@ IsOnlyNetmask number = IsNetmaskNumber number × ¬ (IsEitherMask number)
 pub record HasSecondAddress (grammar : Grammar) (text : List ℕ) (IsSo : ℕ → Type 0) : Type 0 where
   pub first : Address
   pub second : Address
-  pub writes_first : IsAddressText grammar (leading_word text) first
-  pub writes_second : IsAddressText grammar (after_word text) second
-  pub first_family : first.family ≡ IPv4
-  pub second_family : second.family ≡ IPv4
+  pub writes_first : IsIpv4Text grammar (leading_word text) first
+  pub writes_second : IsIpv4Text grammar (after_word text) second
   pub is_so : IsSo second.number
 
 -- The text is two IPv4 addresses. Example: `10.0.0.0 0.0.255.0`.

@@ -4,7 +4,8 @@ ghost use Rattle.std.specs.Prelude.{map, length, string_bytes};
 ghost use Rattle.ipnet.specs.NetworkOf.{ip_network};
 ghost use Rattle.ipnet_base.specs.Blocks.{IsAscending};
 ghost use Rattle.ipnet_sets.specs.Members.{IsMember};
-ghost use Rattle.netset_lib.specs.Changes.{ListChange, AreChanges, AreChangeLines, change_line, text_of_changes};
+ghost use Rattle.netset_lib.specs.Changes.{ListChange, AreChanges, AreChangeLines, AreAddressChanges, change_line};
+ghost use Rattle.netset_lib.specs.Changes.{text_of_changes};
 ghost use Rattle.netset_lib.specs.ChangeSteps.{change_of, IsFirstStep};
 
 pub mod laws;
@@ -131,4 +132,26 @@ pub fn changes_text(alloc: Global, before: &IpSet, after: &IpSet) -> Result<Stri
     let mut text = String::new(alloc);
     push_changes(&mut text, before.as_slice(), after.as_slice())?;
     Ok(text)
+}
+
+/// Returns the changes of addresses from the first set to the second, one a line: `+` and each network of the addresses
+/// that only the second has, `-` and each network of the addresses that only the first has. They are in ascending order
+/// of the networks. The networks are the fewest that have these addresses.
+///
+/// Fails only if memory runs out.
+///
+/// ```text
+/// from 10.0.0.0/8 to 10.0.0.0/9 and ::1:   "- 10.128.0.0/9\n+ ::1/128\n"
+/// from 10.0.0.0/9 and 10.128.0.0/9 to 10.0.0.0/8: ""
+/// ```
+pub fn address_changes_text(
+    alloc: Global,
+    before: &IpSet,
+    after: &IpSet,
+) -> Result<String, AllocError>
+    ensures { IfOk result (λ text. AreAddressChanges (IsMember before.now) (IsMember after.now) (string_bytes text)) }
+{
+    let removed = before.difference(alloc, after)?;
+    let added = after.difference(alloc, before)?;
+    changes_text(alloc, &removed, &added)
 }

@@ -38,6 +38,7 @@ pub fn finish<O: Output, X: Write>(status: u8, out: &mut O, faults: &mut X) -> u
     ensures unpublished { 2 ≤ status → (result ≡ status) × (out.new ≡ out.old) }
     ensures contents { Keeps (O.contents out.old) (O.contents out.new) }
     ensures faultless { result ≤ 1 → Keeps (X.contents faults.old) (X.contents faults.new) }
+    ensures quiet { 2 ≤ status → Keeps (X.contents faults.old) (X.contents faults.new) }
 {
     if status > 1 {
         return status;

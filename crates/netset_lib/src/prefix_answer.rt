@@ -53,9 +53,9 @@ pub struct Verdicts {
 
 /// A prefix list that was read, and its refused lines.
 #[derive(Drop)]
-struct PrefixLines<'a> {
-    entries: Vec<NamedRule<'a>>,
-    refused: Refusals<PrefixCause>,
+pub(crate) struct PrefixLines<'a> {
+    pub(crate) entries: Vec<NamedRule<'a>>,
+    pub(crate) refused: Refusals<PrefixCause>,
 }
 
 /// Takes the entries of a prefix list.
@@ -94,7 +94,7 @@ impl<'a> LineHandler<'a, Vec<NamedRule<'a>>, PrefixCause> for PrefixReader {
 }
 
 /// Reads the prefix list. Fails if memory runs out.
-fn read_prefixes<'a>(
+pub(crate) fn read_prefixes<'a>(
     alloc: Global,
     bytes: &'a [u8],
     grammar: Grammar,

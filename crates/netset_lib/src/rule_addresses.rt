@@ -1,16 +1,17 @@
 //! The addresses of a rule: `any`, `host` and an address, an IPv4 address and a wildcard mask, or an entry.
 ghost use Rattle.std.specs.Prelude.{◌≡◌, ◌≢◌, ◌↔◌, IfSome, IsNone, IsTrue, codes};
 ghost use Rattle.std.specs.Net.Addr.{ipv4_bits};
-ghost use Rattle.ipnet_base.specs.Address.{Address, IPv4, ip_address, ipv4_address};
+ghost use Rattle.ipnet_base.specs.Address.{Address, ip_address, ipv4_address};
 ghost use Rattle.ipnet_base.specs.Network.{Network};
 ghost use Rattle.ipnet_base.specs.Ranges.{AddressRange};
 ghost use Rattle.ipnet.specs.NetworkOf.{ipv4_network};
-ghost use Rattle.ipnet_lists.specs.Entries.{IsAddressText, ReadsAs};
+ghost use Rattle.ipnet_lists.specs.Entries.{IsAddressText, IsIpv4Text, ReadsAs};
 ghost use Rattle.ipnet_lists.specs.EntryOf.{entry_range};
 ghost use Rattle.ipnet_rules.specs.Rules.{IsOneOf};
 ghost use Rattle.ipnet_sets.specs.SetRanges.{IsInRange};
 ghost use Rattle.ipnet_lists.specs.Words.{leading_word};
-ghost use Rattle.netset_lib.specs.RuleAddresses.{IsEitherMask, IsTwoWordText, IsWildcardedBy};
+ghost use Rattle.netset_lib.specs.RuleAddresses.{AreTwoAddresses, HasSecondAddress, IsEitherMask, IsTwoWordText};
+ghost use Rattle.netset_lib.specs.RuleAddresses.{IsWildcardedBy};
 ghost use Rattle.netset_lib.specs.RuleAddresses.{NamesAddresses, NamesNone, WriteWildcard};
 ghost use Rattle.netset_lib.specs.RuleSteps.{IsAddressesCause, IsMaskCause};
 
@@ -38,8 +39,8 @@ fn read_address(word: &[u8], grammar: Grammar) -> Option<IpAddr>
 
 /// Returns the IPv4 address that the word is.
 fn read_ipv4(word: &[u8], grammar: Grammar) -> Option<Ipv4Addr>
-    ensures some { IfSome result (λ a. IsAddressText grammar word.now (ipv4_address a)) }
-    ensures none { IsNone result → (x : Address) → x.family ≡ IPv4 → ¬ (IsAddressText grammar word.now x) }
+    ensures some { IfSome result (λ a. IsIpv4Text grammar word.now (ipv4_address a)) }
+    ensures none { IsNone result → (x : Address) → ¬ (IsIpv4Text grammar word.now x) }
 {
     match read_address(word, grammar) {
         Some(IpAddr::V4(address)) => Some(address),
@@ -152,22 +153,31 @@ fn mask_cause(mask: Ipv4Addr) -> RuleCause
     }
 }
 
+/// Returns the second of two IPv4 addresses, or `None` if the text is not two IPv4 addresses.
+fn second_address(text: &[u8], grammar: Grammar) -> Option<Ipv4Addr>
+    ensures some { IfSome result (λ a. HasSecondAddress grammar text.now (λ number. number ≡ ipv4_bits a)) }
+    ensures none { IsNone result → ¬ (AreTwoAddresses grammar text.now) }
+{
+    let (word, rest) = cut_word(text);
+    match read_ipv4(word, grammar) {
+        Some(_) => read_ipv4(rest, grammar),
+        None => None,
+    }
+}
+
 /// Returns why a text of several words names no addresses.
 fn words_cause(text: &[u8], grammar: Grammar) -> RuleCause
     requires { leading_word text.now ≢ text.now }
     ensures { IsAddressesCause grammar text.now result }
 {
-    let (word, rest) = cut_word(text);
+    let (word, _) = cut_word(text);
     if word == HOST {
         return RuleCause::NoHost;
     }
-    let Some(_) = read_ipv4(word, grammar) else {
-        return RuleCause::TwoEntries;
-    };
-    let Some(mask) = read_ipv4(rest, grammar) else {
-        return RuleCause::TwoEntries;
-    };
-    mask_cause(mask)
+    match second_address(text, grammar) {
+        Some(mask) => mask_cause(mask),
+        None => RuleCause::TwoEntries,
+    }
 }
 
 /// Returns why the text names no addresses.

@@ -11,8 +11,8 @@ use ipnet_lists::{name_of, report_since};
 use std::io;
 use std::io::{Read, Write};
 
-/// Writes the answers of a filter or a route to `out` while the second list is read from `input`, and returns the exit
-/// status. `names` are the names of the two lists, for the reports on `faults`.
+/// Writes the answers of a filter or a route to `out` while the last list is read from `input`, and returns the exit
+/// status. `names` are the names of the lists, for the reports on `faults`.
 ///
 /// | Status | On `faults` | When |
 /// |---|---|---|
@@ -69,7 +69,7 @@ fn stream_status(streamed: Streamed) -> u8
     }
 }
 
-/// Reports why a stream ended. Bytes of the list's name that are not printable ASCII are escaped.
+/// Reports why a stream ended. The last name is the list's. Its bytes that are not printable ASCII are escaped.
 fn report_stream<X: Write>(
     faults: &mut X,
     names: &[&str],
@@ -78,7 +78,8 @@ fn report_stream<X: Write>(
     match failure {
         StreamFailure::Start(lines) => report_since(faults, names, lines, (0, 0)),
         StreamFailure::Read(failure) => {
-            let name = name_of(names, 1).as_bytes().escape_ascii();
+            let name = name_of(names, names.len().saturating_sub(1));
+            let name = name.as_bytes().escape_ascii();
             writeln!(faults, "netset: {name}: {failure}")
         }
         StreamFailure::Unwritable => report_words(faults, UNWRITABLE),

@@ -1,5 +1,5 @@
 //! Answers, written whole or piece by piece.
-ghost use Rattle.std.specs.Prelude.{List, ℕ, IsTrue, OnOk, OnErr};
+ghost use Rattle.std.specs.Prelude.{◌<◌, List, ℕ, IsTrue, OnOk, OnErr, length};
 ghost use Rattle.std.specs.Io.{StartsWith};
 ghost use Rattle.std.specs.Io.KnownBytes.{Appends};
 ghost use Rattle.ipnet_text.specs.Pieces.{IsInPieces};
@@ -30,6 +30,7 @@ pub fn write_and_flush<W: Write>(out: &mut W, bytes: &[u8]) -> bool
 /// ```
 pub fn write_if_long<W: Write>(out: &mut W, piece: &mut Vec<u8>) -> io::Result<()>
     ensures ok { OnOk result (IsInPieces (W.contents out.old) (W.contents out.new) piece.new.items piece.old.items) }
+    ensures short { OnOk result (length piece.new.items < 8192) }
     ensures front { OnErr result ((front : List ℕ) × StartsWith piece.old.items front
         × Appends (W.contents out.old) (W.contents out.new) front) }
 {

@@ -25,7 +25,8 @@ returns-then-has_byte-clause-failed c =
     let entries = c.args.entries.now in
     subst (λ k. IsEntryFailure (texts_of entries) (LineBreak (k + 1))) (sym c.loop-entry.invariant.count)
     (broken_at entries c.loop-entry.entry-index _ c.loop-entry-test.true
-    (sym (ap (λ z. list_any (λ b. b == 10) z) c.as_bytes.ensures.value) ∙ sym c.has_byte.ensures ∙ c.if-has_byte.true))
+    (sym (ap (λ z. list_any (λ b. b == 10) z) c.as_bytes.ensures.value) ∙ sym c.has_byte.ensures ∙ c.if-has_byte.true)
+    c.loop-entry.invariant.one_line)
 
 pub returns-clause-one_line : goal.returns-clause-one_line
 returns-clause-one_line c =

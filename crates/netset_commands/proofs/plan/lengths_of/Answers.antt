@@ -1,4 +1,4 @@
-use Rattle.std.proofs.Common.{◌≡◌, ◌++◌, ◌∷◌, [], List, ℕ, ◌+◌, drop, sym, subst, ◌∙◌}
+use Rattle.std.proofs.Common.{◌≡◌, ◌++◌, ◌∷◌, [], List, ℕ, ◌+◌, drop, refl, sym, subst, ◌∙◌}
 use Rattle.netset_lib.specs.PlanAnswers.{IsLengthText}
 use Rattle.netset_commands.specs.Words.{AreLengths}
 use Rattle.netset_commands.proofs.WordLaws.{next_value, all_values, if_ok}
@@ -14,7 +14,7 @@ loop-word-preserved c =
     → AreLengths words (all ++ rest) in
     subst P (sym pushed)
     (next_value IsLengthText words c.loop-word.word-index c.in-Some.length c.loop-word.lengths.items _
-    c.loop-word-test.true c.in-Some.ensures c.loop-word.invariant)
+    c.loop-word-test.true ((c.in-Some.ensures c.in-Some.length).0 refl) c.loop-word.invariant)
 
 pub returns-clause-lengths : goal.returns-clause-lengths
 returns-clause-lengths c =

@@ -1,8 +1,10 @@
 use Rattle.std.proofs.Common.{refl, inl, inr}
+use Rattle.ipnet_sets.specs.Members.{IsMember}
+use Rattle.netset_lib.specs.RuleAnswers.{IsPermittedBy}
 use Rattle.netset_lib.specs.RuleContentsOf.{contents_of}
 use Rattle.netset_lib.proofs.RuleLaws.{all_rules}
 use Rattle.netset_lib.proofs.RunLaws.{whole_weaker, front_weaker}
-use Rattle.netset_forms.proofs.FormLaws.{text_of_rules}
+use Rattle.netset_forms.proofs.FormLaws.{text_of_rules, enough_same}
 use Rattle.netset_forms.proofs.program.PermittedCommandCommand.write.Goals as goal
 
 pub returns-in-Ok-write_form-clause-whole : goal.returns-in-Ok-write_form-clause-whole
@@ -12,6 +14,12 @@ returns-in-Ok-write_form-clause-whole g c =
     text_of_rules of.default of.form grammar bytes (contents_of of.list)
     (all_rules grammar bytes of.list h c.in-Ok.ensures.none) c.in-Ok.set c.in-Ok.ensures.set text right)
     (g.W.Write.contents c.args.out.now) (g.W.Write.contents c.write_form.new.out) c.in-Ok-write_form.ensures.whole
+
+pub returns-in-Ok-write_form-clause-outcome : goal.returns-in-Ok-write_form-clause-outcome
+returns-in-Ok-write_form-clause-outcome g c =
+    let of = c.args.self in
+    enough_same of.needs_address of.form (IsMember c.in-Ok.set) (IsPermittedBy (contents_of of.list).rules of.default)
+    c.in-Ok.ensures.set c.is_enough-succeeds.result c.is_enough-succeeds.ensures
 
 pub returns-in-Err-write_form-clause-front : goal.returns-in-Err-write_form-clause-front
 returns-in-Err-write_form-clause-front g c =

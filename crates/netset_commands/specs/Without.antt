@@ -1,0 +1,51 @@
+-- Lists that an option takes out of the first list of a command: `--taken` of `plan`, and `--except` of `filter`.
+use Rattle.std.specs.Prelude.{◌≡◌, ◌↔◌, ◌<◌, ◌∷◌, ◌++◌, ℕ, Bool, true, false, List, map, codes}
+use Rattle.clap.specs.declared.parser.matches.ArgMatches.{ArgMatches}
+use Rattle.ipnet_base.specs.Address.{Address, Family, IsAddress}
+use Rattle.ipnet_lists.specs.Names.{Names}
+use Rattle.ipnet_sets.specs.Members.{IsMember}
+use Rattle.ipnet_sets.specs.declared.set.IpSet.{IpSet}
+use Rattle.netset_commands.specs.Arguments.{input_count, list_name, values_of}
+use Rattle.netset_lib.specs.Filters.{IsOnSide}
+use Rattle.netset_lib.specs.Operations.{IsInFirstAlone}
+use Rattle.netset_lib.specs.PlanAnswers.{IsPlanFamily}
+use Rattle.netset_lib.specs.declared.answerer.Answerer.{Answerer}
+use Rattle.netset_lib.specs.declared.answerer.Answerer.TheVariants as Answerers
+use Rattle.netset_lib.specs.declared.filter.Side.{Side}
+use Rattle.netset_lib.specs.declared.operation.Families.{Families}
+use Rattle.netset_lib.specs.declared.operation.Families.TheVariants as Chosen
+
+-- These are the names of the first list, then of the lists that the option with this id takes out of it, and the last
+-- names. At most one list is standard input.
+-- Example: `s`, `a`, `b`, `f` of `filter s f --except a --except b`, with the last name `f`.
+pub record AreNamesWithout (matches : ArgMatches) (id : List ℕ) (last names : Names) : Type 0 where
+  pub are : map (λ name. name.now) names
+      ≡ list_name matches (codes "first") ∷ values_of matches id ++ map (λ name. name.now) last
+  pub once : ¬ (1 < input_count names)
+
+-- The set has the addresses of the first set that are in no other: what `netset difference` prints of them.
+-- Example: 10.0.0.0 to 10.0.0.2 for 10.0.0.0/30, 10.0.0.3 and ::1.
+abbrev pub IsWithout : List IpSet → IpSet → Type 0
+IsWithout sets set = (x : Address) → IsMember set x ↔ IsInFirstAlone IsMember sets x
+
+-- The only family of a pool, by whether it has addresses of IPv4 and of IPv6; or `Both`, which has no plan.
+abbrev pub only_families : Bool → Bool → Families
+only_families true false = Chosen.Ipv4
+only_families false true = Chosen.Ipv6
+only_families true true = Chosen.Both
+only_families false false = Chosen.Both
+
+-- The family of `plan --taken` is the one that the list FREE and the flags choose, however many of its addresses are
+-- taken: with `chosen`, a plan in any set has this family.
+-- Example: `Ipv4` for the pool 10.0.0.0/30 and `Named`; `Both`, which has no family, for the pool of no address.
+abbrev pub IsFamilyOfPool : Families → IpSet → Families → Type 0
+IsFamilyOfPool families pool chosen = (free : IpSet) (f : Family)
+    → IsPlanFamily chosen (IsMember free) f ↔ IsPlanFamily families (IsMember pool) f
+
+-- The answerer of `filter --except`: it keeps an entry whose addresses are all on this side of the first set without
+-- the others.
+-- Example: with 10.0.0.0/8 and 10.0.0.1, `10.0.0.2` lies inside, and `10.0.0.1` lies outside.
+abbrev pub IsFilterWithout : Side → List IpSet → Answerer → Type 0
+IsFilterWithout side sets (Answerers.Filter set) =
+    (x : Address) → IsAddress x → IsMember set x ↔ IsOnSide side (IsInFirstAlone IsMember sets) x
+IsFilterWithout side sets (Answerers.Route table) = ⊥

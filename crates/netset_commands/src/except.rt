@@ -1,0 +1,123 @@
+//! The option `--except` of `filter`, and the run of a filter by a list without others.
+ghost use Rattle.std.specs.Prelude.{◌≡◌, ◌≤◌, ◌<◌, ◌↔◌, length, codes, IsTrue, IfOk, IfErr};
+ghost use Rattle.netset_commands.specs.Arguments.{values_of};
+ghost use Rattle.netset_commands.specs.Without.{IsFilterWithout};
+ghost use Rattle.netset_lib.specs.declared.failure.Failure.TheVariants.{Memory};
+
+use crate::arguments::{OTHERS, flags_of};
+use crate::entry_options::entries_or_report;
+use crate::named_lists::last_name;
+use crate::reading::{finish, set_reader};
+use crate::table::{ARGUMENT, Argument, Form};
+use crate::without::{names_without_or_report, set_without};
+use clap::ArgMatches;
+use ipnet_sets::IpSet;
+use netset_files::{Lists, Writers, read_answers_by, stream_list};
+use netset_lib::filter::side_set;
+use netset_lib::runs::end_with;
+use netset_lib::{Answerer, Failure, SetReader, Side, Stream, run_text};
+use std::alloc::Global;
+
+/// The id and the name of the option for lists that are taken out of SET.
+pub const EXCEPT: &str = "except";
+
+/// The option for lists that are taken out of SET.
+pub const EXCEPT_OPTION: Argument = Argument {
+    id: EXCEPT,
+    form: Form::Values(EXCEPT, "FILE"),
+    help: "A list whose addresses are taken out of SET; any number of times",
+    ..ARGUMENT
+};
+
+/// Whether lists are taken out of SET.
+pub fn has_excepts(matches: &ArgMatches) -> bool
+    ensures { IsTrue result ↔ (0 < length (values_of matches.now (codes "except"))) }
+{
+    let names = matches.get_strs(EXCEPT).unwrap_or(&[]);
+    !names.is_empty()
+}
+
+/// The answerer of a filter by the first of the sets without the others. Fails only if memory runs out.
+///
+/// ```text
+/// Inside, of 10.0.0.0/8 and 10.0.0.1: keeps 10.0.0.2; Outside: keeps 10.0.0.1 and 11.0.0.0/8
+/// ```
+fn answerer_without(alloc: Global, side: Side, sets: Vec<IpSet>) -> Result<Answerer, Failure>
+    ensures answerer { IfOk result (IsFilterWithout side sets.items) }
+    ensures failed { IfErr result (λ failure. failure ≡ Memory) }
+{
+    let set = set_without(alloc, sets)?;
+    Ok(Answerer::Filter(side_set(alloc, side, set)?))
+}
+
+/// Reads SET and the lists that are taken out of it, which have these names. Returns the reader, and the answerer of
+/// the filter. If that fails, it is reported, and the error is the exit status.
+fn read_answerer(
+    rt: &HostRuntime,
+    matches: &ArgMatches,
+    names: &[&str],
+    writers: &mut Writers<'_>,
+) -> Result<(Lists<SetReader>, Answerer), u8>
+    ensures { IfErr result (λ status. status ≡ 2) }
+{
+    let lists = Lists::new(set_reader(rt, matches)?, writers.reports);
+    let (lists, sets) = lists.read_all(rt, names, None)?;
+    match answerer_without(rt.alloc(), flags_of(matches).side(), sets) {
+        Ok(answerer) => Ok((lists, answerer)),
+        Err(failure) => {
+            let _ = end_with(&failure, names, &mut writers.faults);
+            Err(2)
+        }
+    }
+}
+
+/// Reads the lists of these names, of which FILE is the last, prints the entries of FILE that are kept, and returns the
+/// status. If that fails, it is reported, and the error is the exit status.
+fn print_kept(
+    rt: &HostRuntime,
+    matches: &ArgMatches,
+    names: &[&str],
+    streamed: bool,
+    writers: &mut Writers<'_>,
+) -> Result<u8, u8>
+    ensures kept { IfOk result (λ status. status ≤ 2) }
+    ensures failed { IfErr result (λ status. status ≡ 2) }
+{
+    let file = last_name(matches, OTHERS);
+    let first_names = &names[..names.len().saturating_sub(1)];
+    let (lists, answerer) = read_answerer(rt, matches, first_names, writers)?;
+    if streamed {
+        let lists = lists.end()?;
+        let stream = Stream { lists, answerer };
+        return Ok(stream_list(rt, stream, names, file, writers));
+    }
+    let entries = entries_or_report(rt, matches)?;
+    let (lists, allowed, answer) = read_answers_by(rt, lists, answerer, file, entries)?;
+    finish(lists, names, writers)?;
+    if !allowed {
+        return Err(2);
+    }
+    Ok(run_text(answer, names, &mut writers.answer, &mut writers.faults))
+}
+
+/// Reads the lists, prints the entries that lie in SET without the lists that are taken out of it, and returns the
+/// exit status. If they are streamed, the answer to an entry is written before more of FILE is read.
+#[inline(never)]
+pub fn filter_without(
+    rt: &HostRuntime,
+    matches: &ArgMatches,
+    streamed: bool,
+    writers: &mut Writers<'_>,
+) -> u8
+    ensures { result ≤ 2 }
+{
+    let file = last_name(matches, OTHERS);
+    let names = match names_without_or_report(rt, matches, EXCEPT, &[file]) {
+        Ok(names) => names,
+        Err(status) => return status,
+    };
+    match print_kept(rt, matches, names.as_slice(), streamed, writers) {
+        Ok(status) => status,
+        Err(status) => status,
+    }
+}
