@@ -5,8 +5,9 @@ from ipaddress import IPv4Address
 
 from entry_model import address_of, is_entry
 
-# The bytes that cut words, as characters: the model takes each byte as one character.
-CUTS = "\0\t\n\v\f\r \"#%&'(),;<=>?[\\]`{|}"
+# The signs that cut words. All bytes outside "!" to "~" cut too; the model takes each byte as one character.
+CUT_SIGNS = "\"#%&'(),;<=>?[\\]`{|}"
+CUTS = "".join(map(chr, range(33))) + CUT_SIGNS + "".join(map(chr, range(127, 256)))
 NAME = "[A-Za-z][A-Za-z0-9+._-]*"
 # A path after an address and "/": signs and a letter, if it has one, or digits and "/" and a letter.
 PATH = "[^0-9A-Za-z]*([A-Za-z].*)?|[0-9/]+[A-Za-z].*"
@@ -83,6 +84,8 @@ class Places:
 
     def at_colon(self, text):
         front, sign, back = text.partition(":")
+        if sign and re.fullmatch("[+~-]?ip[46]", front, re.IGNORECASE) and is_entry(back, self.legacy):
+            return back
         if not sign or not re.fullmatch(NAME, front):
             return self.before_colon(text)
         return self.host(back)

@@ -239,8 +239,10 @@ no_slash grammar w text place h (within, inr (not_first, is)) =
 
 no_colon : (grammar : Grammar) (text place : List ℕ) → HasFewSigns text → IsCutAt 58 (IsAtColon grammar place) text → ⊥
 no_colon grammar text place h (within, inl is) =
+    no_entry grammar (after_first (λ c. c == 58) text) is.1.1.0 (back_of_cut 58 text h) is.1.1.1
+no_colon grammar text place h (within, inr (other, inl is)) =
     lone_ipv4 grammar (before_first (λ c. c == 58) text) place (front_of_cut 58 text h) is.1
-no_colon grammar text place h (within, inr is) =
+no_colon grammar text place h (within, inr (other, inr is)) =
     no_host grammar (after_first (λ c. c == 58) text) place (back_of_cut 58 text h) is.1
 
 trimmed_low : (text : List ℕ) → HasFewSigns text → HasFewSigns (trimmed text)

@@ -1,11 +1,12 @@
 -- The place of an entry in a word: what may be before it and after it. `extract` and `filter --lines` share this
 -- definition. A place is named by the text of its entry: the place in `http://203.0.113.9/` is `203.0.113.9`.
 --
--- A "/" and digits are a prefix length only if the word, without the signs at its end, is an entry of a list.
--- Everywhere else they are a port or a path, and the place is the address.
+-- A "/" and digits are a prefix length only if the word, without the signs at its end, is an entry of a list, or if that
+-- entry follows the name of a mechanism of SPF. Everywhere else they are a port or a path, and the place is the
+-- address.
 use Rattle.std.specs.Prelude.{◌≡◌, ◌≢◌, ◌⊎◌, ◌<◌, ℕ, ◌+◌, ◌-◌, Bool, ◌||◌, ◌&&◌, ◌==◌, not, true, false}
-use Rattle.std.specs.Prelude.{List, [], ◌∷◌, ◌++◌, length, slice_index, take, drop, codes, if◌then◌else◌}
-use Rattle.std.specs.Char.{is_ascii_alphabetic, is_ascii_alphanumeric, is_ascii_digit}
+use Rattle.std.specs.Prelude.{List, [], ◌∷◌, ◌++◌, length, map, slice_index, take, drop, codes, if◌then◌else◌}
+use Rattle.std.specs.Char.{is_ascii_alphabetic, is_ascii_alphanumeric, is_ascii_digit, to_ascii_lowercase}
 use Rattle.std.specs.List.{before_first, list_all, list_any, suffix_len}
 use Rattle.ipnet_base.specs.Address.{Address, IPv4}
 use Rattle.ipnet_base.specs.Ranges.{AddressRange}
@@ -168,11 +169,33 @@ IsAtSlash grammar w place front back =
     Else (λ z. IsBeforePort grammar z front back ⊎ IsAfterSlash grammar w z front back)
     (λ z. IsBeforePath grammar z front back) place
 
--- At ":": an IPv4 address before it, or a host after a name.
+-- The text without "+" (43), "-" (45) or "~" (126) at its front. Example: `ip4` of `-ip4` and of `ip4`.
+abbrev pub without_qualifier : List ℕ → List ℕ
+without_qualifier [] = []
+without_qualifier (b ∷ text) = if ((b == 43) || (b == 45)) || (b == 126) then text else b ∷ text
+
+-- The texts are the same in small letters. Example: `IP4` and `ip4`.
+abbrev pub HasSameLetters : (text other : List ℕ) → Type 0
+HasSameLetters text other = map to_ascii_lowercase text ≡ map to_ascii_lowercase other
+
+-- The text names a mechanism of SPF that has a network (RFC 7208, sections 4.6 and 5.6). Example: `ip4`, `-ip6`.
+abbrev pub IsMechanism : List ℕ → Type 0
+IsMechanism name = HasSameLetters (without_qualifier name) (codes "ip4")
+    ⊎ HasSameLetters (without_qualifier name) (codes "ip6")
+
+-- An entry after the name of such a mechanism. Example: `192.0.2.0/24` in `ip4:192.0.2.0/24`.
+abbrev pub IsOfMechanism : Grammar → (front back place : List ℕ) → Type 0
+IsOfMechanism grammar front back place = IsMechanism front × IsWhole grammar back place
+
+-- An IPv4 address before ":", or a host after a name and ":".
 -- Example: `203.0.113.9:443`, `203.0.113.9:/export`, `outside:203.0.113.9/443`.
-abbrev pub IsAtColon : Grammar → (place front back : List ℕ) → Type 0
-IsAtColon grammar place front back = ((is_name front ≡ false) × IsBefore grammar place front back)
+abbrev pub IsAroundColon : Grammar → (front back place : List ℕ) → Type 0
+IsAroundColon grammar front back place = ((is_name front ≡ false) × IsBefore grammar place front back)
     ⊎ ((is_name front ≡ true) × IsHost grammar back place)
+
+-- At ":": the entry of a mechanism of SPF; or else an IPv4 address before it, or a host after a name.
+abbrev pub IsAtColon : Grammar → (place front back : List ℕ) → Type 0
+IsAtColon grammar place front back = Else (IsOfMechanism grammar front back) (IsAroundColon grammar front back) place
 
 -- ` > ` is before the word, and ":" is its last byte.
 abbrev pub IsDestination : Word → Type 0
@@ -201,8 +224,8 @@ IsInside grammar w =
     (Else (IsBeforeLastPort grammar (trimmed w.text)) (IsAtDot grammar w))))
 
 -- The word has this place: it is an entry, or else it is one without its last signs, or else an entry is inside it.
--- Example: `10.0.0.0/8` in `10.0.0.0/8.`; `10.1.2.3` in `outside:10.1.2.3/22` and `10.1.2.3/x`; no place in `12:34:56`,
--- `1.3.6.1.4.1` or `10.1.2.3/24-x`.
+-- Example: `10.0.0.0/8` in `10.0.0.0/8.` and `ip4:10.0.0.0/8`; `10.1.2.3` in `outside:10.1.2.3/22` and `10.1.2.3/x`; no
+-- place in `12:34:56`, `1.3.6.1.4.1` or `10.1.2.3/24-x`.
 abbrev pub IsPlace : Grammar → (w : Word) → (place : List ℕ) → Type 0
 IsPlace grammar w =
     Else (IsWhole grammar w.text) (Else (IsWhole grammar (trimmed w.text)) (IsInside grammar w))

@@ -1,18 +1,18 @@
 -- The words of a line.
-use Rattle.std.specs.Prelude.{ℕ, Bool, ◌==◌, List, [], ◌∷◌, if◌then◌else◌}
+use Rattle.std.specs.Prelude.{ℕ, Bool, not, ◌||◌, ◌==◌, List, [], ◌∷◌, if◌then◌else◌}
+use Rattle.std.specs.Char.{is_ascii_graphic}
 use Rattle.std.specs.List.{list_any}
 
--- The bytes that cut a line into words: NUL, tab, line feed, vertical tab, form feed, carriage return, space, and the
--- signs `"`, `#`, `%`, `&`, `'`, `(`, `)`, `,`, `;`, `<`, `=`, `>`, `?`, `[`, a backslash, `]`, a backquote, `{`, `|`,
--- `}`, in this order.
-abbrev pub cut_bytes : List ℕ
-cut_bytes =
-    0 ∷ 9 ∷ 10 ∷ 11 ∷ 12 ∷ 13 ∷ 32 ∷ 34 ∷ 35 ∷ 37 ∷ 38 ∷ 39 ∷ 40 ∷ 41 ∷ 44 ∷ 59 ∷ 60 ∷ 61 ∷ 62 ∷ 63 ∷ 91 ∷ 92 ∷ 93 ∷ 96
-    ∷ 123 ∷ 124 ∷ 125 ∷ []
+-- The signs that cut a line into words: `"`, `#`, `%`, `&`, `'`, `(`, `)`, `,`, `;`, `<`, `=`, `>`, `?`, `[`, a
+-- backslash, `]`, a backquote, `{`, `|`, `}`, in this order.
+abbrev pub cut_signs : List ℕ
+cut_signs =
+    34 ∷ 35 ∷ 37 ∷ 38 ∷ 39 ∷ 40 ∷ 41 ∷ 44 ∷ 59 ∷ 60 ∷ 61 ∷ 62 ∷ 63 ∷ 91 ∷ 92 ∷ 93 ∷ 96 ∷ 123 ∷ 124 ∷ 125 ∷ []
 
--- The byte cuts a line into words. Example: 44, a comma, does; 47, a slash, does not.
+-- The byte cuts a line into words: it is one of these signs, or it is not a graphic character of ASCII. Blanks, control
+-- characters and the bytes of other characters are not. Example: 44, a comma, cuts; 47, a slash, does not.
 abbrev pub cuts : ℕ → Bool
-cuts b = list_any (λ c. c == b) cut_bytes
+cuts b = not (is_ascii_graphic b) || list_any (λ c. c == b) cut_signs
 
 -- A word of a line, the bytes between it and the word before it, and the bytes between it and the word after it.
 -- Example: the second word of `a, b > c` is `b`, with `, ` before it and ` > ` after it.

@@ -4,8 +4,9 @@ ghost use Rattle.std.specs.Prelude.{true, IsTrue};
 ghost use Rattle.std.specs.List.{list_all, suffix_len};
 ghost use Rattle.ipnet_lists.specs.Causes.{IsCutAt};
 ghost use Rattle.netset_words.specs.Places as places;
-ghost use Rattle.netset_words.specs.Places.{IsAfterSlash, IsAtColon, IsAtDot, IsAtSlash, IsAtUser, IsDestination};
-ghost use Rattle.netset_words.specs.Places.{IsInside, IsNamed, IsPacketEnd, IsPlace, IsWhole};
+ghost use Rattle.netset_words.specs.Places.{IsAfterSlash, IsAroundColon, IsAtColon, IsAtDot, IsAtSlash, IsAtUser};
+ghost use Rattle.netset_words.specs.Places.{IsDestination, IsInside, IsMechanism, IsNamed, IsOfMechanism, IsPacketEnd};
+ghost use Rattle.netset_words.specs.Places.{IsPlace, IsWhole};
 ghost use Rattle.netset_words.specs.PlaceSteps.{Finds};
 ghost use Rattle.netset_words.specs.Words.{first_gap, words_of};
 ghost use Rattle.netset_words.specs.WordSteps.{word_of};
@@ -201,17 +202,55 @@ fn at_slash<'a>(word: NextWord<'a>, text: &'a [u8], grammar: Grammar) -> Option<
     before_path(parts.front, parts.back, grammar)
 }
 
+/// Returns the text without "+", "-" or "~" at its front.
+fn without_qualifier(text: &[u8]) -> &[u8]
+    ensures { result.now ≡ places.without_qualifier text.now }
+{
+    match text.split_first() {
+        Some((b'+' | b'-' | b'~', rest)) => rest,
+        _ => text,
+    }
+}
+
+/// Whether the text names a mechanism of SPF that has a network.
+fn is_mechanism(name: &[u8]) -> bool
+    ensures { IsTrue result ↔ IsMechanism name.now }
+{
+    let name = without_qualifier(name);
+    name.eq_ignore_ascii_case(b"ip4") || name.eq_ignore_ascii_case(b"ip6")
+}
+
+/// Reads an entry after the name of a mechanism of SPF and ":".
+fn of_mechanism<'a>(parts: Parts<'a>, grammar: Grammar) -> Option<Place<'a>>
+    ensures { Finds grammar (IsOfMechanism grammar parts.entry.front.now parts.entry.back.now) result }
+{
+    if !is_mechanism(parts.front) {
+        return None;
+    }
+    read_whole(parts.back, grammar)
+}
+
 /// Reads an IPv4 address before ":", or a host after a name and ":".
+fn around_colon<'a>(parts: Parts<'a>, grammar: Grammar) -> Option<Place<'a>>
+    ensures { Finds grammar (IsAroundColon grammar parts.entry.front.now parts.entry.back.now) result }
+{
+    if !is_name(parts.front) {
+        return read_ipv4(parts.front, grammar);
+    }
+    read_host(parts.back, grammar)
+}
+
+/// Reads the entry of a mechanism of SPF, or else an IPv4 address before ":", or a host after a name and ":".
 fn at_colon(text: &[u8], grammar: Grammar) -> Option<Place<'_>>
     ensures { Finds grammar (λ place. IsCutAt 58 (IsAtColon grammar place) text.now) result }
 {
     let Some(parts) = cut_at(text, b':') else {
         return None;
     };
-    if !is_name(parts.front) {
-        return read_ipv4(parts.front, grammar);
+    if let Some(place) = of_mechanism(parts, grammar) {
+        return Some(place);
     }
-    read_host(parts.back, grammar)
+    around_colon(parts, grammar)
 }
 
 /// Whether ` > ` is before the word, and ":" is its last byte.
@@ -286,6 +325,7 @@ fn read_inside<'a>(word: NextWord<'a>, body: &'a [u8], grammar: Grammar) -> Opti
 /// ```text
 /// 10.0.0.0/8.             10.0.0.0/8
 /// outside:10.1.2.3/22     10.1.2.3
+/// ip4:10.0.0.0/8          10.0.0.0/8
 /// http://10.1.2.3:80/x    10.1.2.3
 /// 10.1.2.3/index.html     10.1.2.3
 /// 12:34:56                None

@@ -1,7 +1,7 @@
-use Rattle.std.proofs.Common.{◌≡◌, true, false, sym, ◌∙◌}
-use Rattle.netset_words.specs.Places.{IsAtColon, IsBefore, IsHost, is_name}
+use Rattle.std.proofs.Common.{Some}
+use Rattle.netset_words.specs.Places.{IsAroundColon, IsAtColon, IsOfMechanism}
 use Rattle.netset_words.proofs.Cases.{match_none}
-use Rattle.netset_words.proofs.PlaceLaws.{cut_finds, no_cut, only_first, or_second, with_so}
+use Rattle.netset_words.proofs.PlaceLaws.{cut_finds, else_first, else_second, no_cut, none_found}
 use Rattle.netset_words.proofs.place.at_colon.Goals as goal
 
 pub returns-in_default : goal.returns-in_default
@@ -9,26 +9,22 @@ returns-in_default c =
     no_cut c.args.grammar 58 (IsAtColon c.args.grammar) c.args.text.now
     (match_none c.cut_at.result _ _ c.cut_at.ensures c.in_default.not-Some)
 
-pub returns-then-not-is_name : goal.returns-then-not-is_name
-returns-then-not-is_name c =
+pub returns-in-Some-of_mechanism : goal.returns-in-Some-of_mechanism
+returns-in-Some-of_mechanism c =
     let g = c.args.grammar in
     let front = c.in-Some.parts.front.now in
     let back = c.in-Some.parts.back.now in
-    let other : is_name front ≡ false = sym c.is_name.ensures ∙ c.if-not-is_name.true in
-    cut_finds g 58 (IsAtColon g) c.args.text.now front back c.read_ipv4.result c.in-Some.ensures
-    (only_first g (λ z. (is_name front ≡ false) × IsBefore g z front back)
-    (λ z. (is_name front ≡ true) × IsHost g back z) c.read_ipv4.result
-    (λ place is. let clash : true ≡ false = sym is.0 ∙ other in absurd cc)
-    (with_so g (is_name front ≡ false) (λ z. IsBefore g z front back) c.read_ipv4.result other c.read_ipv4.ensures))
+    let place = c.in-Some-of_mechanism.place in
+    cut_finds g 58 (IsAtColon g) c.args.text.now front back (Some place) c.in-Some.ensures
+    (else_first g (IsOfMechanism g front back) (IsAroundColon g front back) place c.in-Some-of_mechanism.ensures)
 
 pub returns : goal.returns
 returns c =
     let g = c.args.grammar in
     let front = c.in-Some.parts.front.now in
     let back = c.in-Some.parts.back.now in
-    let so : is_name front ≡ true = sym c.is_name.ensures ∙ c.if-not-is_name.false in
-    cut_finds g 58 (IsAtColon g) c.args.text.now front back c.read_host.result c.in-Some.ensures
-    (or_second g (λ z. (is_name front ≡ false) × IsBefore g z front back)
-    (λ z. (is_name front ≡ true) × IsHost g back z) c.read_host.result
-    (λ place is. let clash : true ≡ false = sym so ∙ is.0 in absurd cc)
-    (with_so g (is_name front ≡ true) (IsHost g back) c.read_host.result so c.read_host.ensures))
+    let r = c.around_colon.result in
+    cut_finds g 58 (IsAtColon g) c.args.text.now front back r c.in-Some.ensures
+    (else_second g (IsOfMechanism g front back) (IsAroundColon g front back) r
+    (none_found g (IsOfMechanism g front back) c.of_mechanism.result c.of_mechanism.ensures
+    c.in_default-of_mechanism.not-Some) c.around_colon.ensures)
