@@ -1,8 +1,8 @@
 -- The place of an entry in a word: what may be before it and after it. `extract` and `filter --lines` share this
 -- definition. A place is named by the text of its entry: the place in `http://203.0.113.9/` is `203.0.113.9`.
 --
--- A "/" and digits are a prefix length only if the word, without the signs at its end, is an entry of a list, or if that
--- entry follows the name of a mechanism of SPF. Everywhere else they are a port or a path, and the place is the
+-- A "/" and digits are a prefix length only if the word, without the signs at its end, is an entry of a list, or if an
+-- entry follows the name of a mechanism of SPF. Everywhere else they are a port or a path. Then the place is the
 -- address.
 use Rattle.std.specs.Prelude.{◌≡◌, ◌≢◌, ◌⊎◌, ◌<◌, ℕ, ◌+◌, ◌-◌, Bool, ◌||◌, ◌&&◌, ◌==◌, not, true, false}
 use Rattle.std.specs.Prelude.{List, [], ◌∷◌, ◌++◌, length, map, slice_index, take, drop, codes, if◌then◌else◌}
