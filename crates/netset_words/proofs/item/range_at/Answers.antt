@@ -1,4 +1,4 @@
-use Rattle.std.proofs.Common.{◌≡◌, codes, refl, sym, subst, rules, ◌∙◌}
+use Rattle.std.proofs.Common.{◌≡◌, codes, refl, sym, subst, rules}
 use Rattle.ipnet_lists.specs.Entries.{IsEntryText}
 use Rattle.ipnet_lists.specs.FoundEntry.{found_range}
 use Rattle.netset_words.specs.Words.{words_of}
