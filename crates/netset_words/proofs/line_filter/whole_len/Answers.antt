@@ -19,8 +19,8 @@ loop-end-preserved c = record {
   within = omega (arith, c.loop-end.invariant.within);
   letters = λ k low high. elim (cases_lt k c.loop-end.end) [
     | inl less ↦
-      let is : c.loop-end.end - 1 ≡ k = omega (arith, low, less) in
-      subst (λ i. cuts (get_or c.args.front.now i 0) ≡ false) is (sym c.is_cut.ensures ∙ c.if-not-is_cut.true)
+        let is : c.loop-end.end - 1 ≡ k = omega (arith, low, less) in
+        subst (λ i. cuts (get_or c.args.front.now i 0) ≡ false) is (sym c.is_cut.ensures ∙ c.if-not-is_cut.true)
     | inr more ↦ c.loop-end.invariant.letters k more high
   ];
 }
