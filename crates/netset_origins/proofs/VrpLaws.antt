@@ -12,8 +12,8 @@ use Rattle.ipnet_lists.specs.Entries.{IsNetworkOrMasked}
 use Rattle.ipnet_origins.specs.declared.payload.Payload.{Payload}
 use Rattle.netset_origins.specs.Fields.{first_field, after_field, IsNumber, IsAsn}
 use Rattle.netset_origins.specs.VrpJson.{text_at, IsAsnFrom, IsAsnAt, IsMaxLenAt, IsVrpData, IsDataCause, AreVrpItems}
-use Rattle.netset_origins.specs.VrpLines.{network_field, length_field, last_fields, all_added, IsVrpOf, IsVrpText}
-use Rattle.netset_origins.specs.VrpLines.{IsLengthCause, IsVrpCause}
+use Rattle.netset_origins.specs.VrpLines.{network_field, length_field, free_fields, all_added, IsVrpOf, IsVrpText}
+use Rattle.netset_origins.specs.VrpLines.{IsDivided, IsLengthCause, IsVrpCause}
 use Rattle.netset_origins.specs.declared.vrp_line.VrpCause.{VrpCause}
 use Rattle.netset_origins.specs.declared.vrp_line.VrpCause.TheVariants as Causes
 
@@ -26,40 +26,46 @@ added_last [] added = append-nil added
 added_last (line ∷ lines) added =
     ap (λ z. line ++ z) (added_last lines added) ∙ sym (append_assoc line (all_added lines) added)
 
--- the search for a comma in the last fields, which found none
-pub few_fields : (found : Bool) (text one two three last : List ℕ) → one ≡ after_field text → two ≡ after_field one
-    → three ≡ after_field two → last ≡ after_field three → (Has 44 last → found ≡ true) → found ≡ false
-    → ¬ (Has 44 (last_fields text))
-few_fields found text one two three last first second third fourth finds none h =
-    let is : last ≡ last_fields text
-    = fourth ∙ ap after_field (third ∙ ap after_field (second ∙ ap after_field first)) in
-    let clash : found ≡ true = finds (subst (Has 44) (sym is) h) in
-    absurd cc
+-- the search for a comma in the last fields found none, nor did the search for a `;` from the fourth field on
+pub is_divided : (comma semicolon : Bool) (text one two free last : List ℕ) → one ≡ after_field text
+    → two ≡ after_field one → free ≡ after_field two → last ≡ after_field free → (Has 44 last → comma ≡ true)
+    → comma ≡ false → (Has 59 free → semicolon ≡ true) → semicolon ≡ false → IsDivided text
+is_divided comma semicolon text one two free last first second third fourth few no_comma plain no_semicolon =
+    let is : free ≡ free_fields text
+    = third ∙ ap after_field (second ∙ ap after_field first) in (
+      λ h.
+          let clash : comma ≡ true = few (subst (Has 44) (sym (fourth ∙ ap after_field is)) h) in
+          absurd cc,
+      λ h.
+          let clash : semicolon ≡ true = plain (subst (Has 59) (sym is) h) in
+          absurd cc,
+    )
 
 module _ (grammar : Grammar) (text : List ℕ) (asn : ℕ) (n : Network) (max : Option ℕ)
     (has_asn : IsAsn (first_field text) asn) (writes : IsNetworkOrMasked grammar (network_field text) n)
     (same : (m : ℕ) → (max ≡ Some m) ↔ IsNumber (length_field text) m) where
-  pub line_vrp : (r : Result Payload VrpCause) → ¬ (Has 44 (last_fields text))
+  pub line_vrp : (r : Result Payload VrpCause) → IsDivided text
       → IfOk r (λ vrp. IsVrpOf asn n vrp × (max ≡ Some vrp.max_len)) → IfOk r (IsVrpText grammar text)
-  line_vrp (Ok vrp) few h = record {
+  line_vrp (Ok vrp) divided h = record {
     network = n;
     without_host_bits = h.0.of_network;
     writes_asn = subst (IsAsn (first_field text)) (sym h.0.of_asn) has_asn;
     writes_network = writes;
     writes_max_len = (same vrp.max_len).0 h.1;
-    fields = few;
+    fields = divided;
   }
-  line_vrp (Err cause) few h = tt
+  line_vrp (Err cause) divided h = tt
 
-  pub line_cause : (r : Result Payload VrpCause) → ¬ (Has 44 (last_fields text))
+  pub line_cause : (r : Result Payload VrpCause) → IsDivided text
       → IfErr r (IsLengthCause n (λ m. max ≡ Some m)) → IfErr r (IsVrpCause grammar text)
-  line_cause (Ok vrp) few h = tt
-  line_cause (Err Causes.TooManyFields) few h = absurd h
-  line_cause (Err Causes.NoAsn) few h = absurd h
-  line_cause (Err (Causes.NoNetwork cause)) few h = absurd h
-  line_cause (Err Causes.NoMaxLen) few h = ((few, (asn, has_asn)), (n, writes, λ m k. h m ((same m).1 k)))
-  line_cause (Err (Causes.RefusedMaxLen error)) few (m, is, refused) =
-      ((few, (asn, has_asn)), (n, writes, (m, (same m).0 is, refused)))
+  line_cause (Ok vrp) divided h = tt
+  line_cause (Err Causes.TooManyFields) divided h = absurd h
+  line_cause (Err Causes.Semicolon) divided h = absurd h
+  line_cause (Err Causes.NoAsn) divided h = absurd h
+  line_cause (Err (Causes.NoNetwork cause)) divided h = absurd h
+  line_cause (Err Causes.NoMaxLen) divided h = ((divided, (asn, has_asn)), (n, writes, λ m k. h m ((same m).1 k)))
+  line_cause (Err (Causes.RefusedMaxLen error)) divided (m, is, refused) =
+      ((divided, (asn, has_asn)), (n, writes, (m, (same m).0 is, refused)))
 
 -- ---- JSON
 
@@ -97,6 +103,7 @@ module _ (grammar : Grammar) (d : Data) (asn : ℕ) (n : Network) (max : Option 
       → IfErr r (IsDataCause grammar d)
   data_cause (Ok vrp) h = tt
   data_cause (Err Causes.TooManyFields) h = absurd h
+  data_cause (Err Causes.Semicolon) h = absurd h
   data_cause (Err Causes.NoAsn) h = absurd h
   data_cause (Err (Causes.NoNetwork cause)) h = absurd h
   data_cause (Err Causes.NoMaxLen) h = ((asn, has_asn), (n, writes, λ m k. h m ((same m).1 k)))

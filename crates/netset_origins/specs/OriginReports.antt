@@ -37,6 +37,7 @@ length_reason MaxLenAboveWidth = codes "the greatest length is above 32, or 128 
 -- Why a line is not a VRP.
 abbrev pub vrp_reason : VrpCause → List ℕ
 vrp_reason Vrps.TooManyFields = codes "more than five fields"
+vrp_reason Vrps.Semicolon = codes "; in the last fields: write # before a comment"
 vrp_reason Vrps.NoAsn = codes "the AS number is missing or wrong"
 vrp_reason (Vrps.NoNetwork cause) = network_reason cause
 vrp_reason Vrps.NoMaxLen = codes "the greatest length is missing or wrong"

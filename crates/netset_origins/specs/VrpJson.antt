@@ -68,6 +68,7 @@ HasLengthFault grammar d cause = ((asn : ℕ) × IsAsnAt d asn)
 -- length that is refused for the network.
 abbrev pub IsDataCause : Grammar → Data → VrpCause → Type 0
 IsDataCause grammar d Causes.TooManyFields = ⊥
+IsDataCause grammar d Causes.Semicolon = ⊥
 IsDataCause grammar d Causes.NoAsn = (asn : ℕ) → ¬ (IsAsnAt d asn)
 IsDataCause grammar d (Causes.NoNetwork cause) =
     ((asn : ℕ) × IsAsnAt d asn) × IsArgumentCause grammar (text_at (codes "prefix") d) cause

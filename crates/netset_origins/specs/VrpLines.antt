@@ -27,9 +27,18 @@ network_field text = first_field (after_field text)
 abbrev pub length_field : List ℕ → List ℕ
 length_field text = first_field (after_field (after_field text))
 
+-- The text from the fourth field on. Example: `x,0` of `AS64496,192.0.2.0/24,24,x,0`.
+abbrev pub free_fields : List ℕ → List ℕ
+free_fields text = after_field (after_field (after_field text))
+
 -- The text from the fifth field on. Example: `0` of `AS64496,192.0.2.0/24,24,x,0`.
 abbrev pub last_fields : List ℕ → List ℕ
-last_fields text = after_field (after_field (after_field (after_field text)))
+last_fields text = after_field (free_fields text)
+
+-- The text has at most five fields, and no `;` (59) from the fourth field on. Byte 44 is the comma. So no field hides
+-- what a reader takes for a comment. Example: `AS64496,192.0.2.0/24,24,x` is; with `x;y` for `x`, it is not.
+abbrev pub IsDivided : List ℕ → Type 0
+IsDivided text = (¬ (Has 44 (last_fields text))) × (¬ (Has 59 (free_fields text)))
 
 -- The line is the header that validators write before the VRPs.
 -- Example: `ASN,IP Prefix,Max Length,Trust Anchor`.
@@ -50,7 +59,7 @@ pub record IsVrpText (grammar : Grammar) (text : List ℕ) (vrp : Payload) : Typ
   pub writes_asn : IsAsn (first_field text) vrp.asn
   pub writes_network : IsNetworkOrMasked grammar (network_field text) network
   pub writes_max_len : IsNumber (length_field text) vrp.max_len
-  pub fields : ¬ (Has 44 (last_fields text))
+  pub fields : IsDivided text
 
 -- The greatest prefix length is refused for this network: it is less than the prefix length, or more than the width.
 -- Example: 23 and 33 for 192.0.2.0/24.
@@ -62,15 +71,17 @@ IsLengthError n max_len MaxLenAboveWidth = width n.family < max_len
 -- what the number is. Example: `RefusedMaxLen` for the number 33 and 192.0.2.0/24.
 abbrev pub IsLengthCause : Network → (ℕ → Type 0) → VrpCause → Type 0
 IsLengthCause n IsLength Causes.TooManyFields = ⊥
+IsLengthCause n IsLength Causes.Semicolon = ⊥
 IsLengthCause n IsLength Causes.NoAsn = ⊥
 IsLengthCause n IsLength (Causes.NoNetwork cause) = ⊥
 IsLengthCause n IsLength Causes.NoMaxLen = (number : ℕ) → ¬ (IsLength number)
 IsLengthCause n IsLength (Causes.RefusedMaxLen error) =
     (number : ℕ) × IsLength number × IsLengthError n number error
 
--- The text has at most five fields, and the first one is an AS number. Example: `AS64496,x`.
+-- The text has at most five fields, no `;` from the fourth field on, and an AS number as its first field.
+-- Example: `AS64496,x`.
 abbrev pub HasAsn : List ℕ → Type 0
-HasAsn text = (¬ (Has 44 (last_fields text))) × ((asn : ℕ) × IsAsn (first_field text) asn)
+HasAsn text = IsDivided text × ((asn : ℕ) × IsAsn (first_field text) asn)
 
 -- The first two fields are an AS number and a network, and the third is refused for this cause.
 -- Example: `NoMaxLen` for `AS64496,192.0.2.0/24,x`.
@@ -79,14 +90,14 @@ HasLengthCause grammar text cause = HasAsn text
     × ((n : Network) × IsNetworkOrMasked grammar (network_field text) n
     × IsLengthCause n (IsNumber (length_field text)) cause)
 
--- Why a text is not a VRP: it has more than five fields; its first field is not an AS number; its second field is not a
--- network; its third field is not a number, or a length that is refused for the network. If several of these are true,
--- the cause is the first of them.
--- Example: `ASx,192.0.2.0/24,24`; `AS64496,192.0.2.0,24`; `AS64496,192.0.2.0/24,x`; `AS64496,192.0.2.0/24,33`.
+-- Why a text is not a VRP: it has more than five fields; it has a `;` from the fourth field on; its first field is not
+-- an AS number; its second field is not a network; its third field is not a number, or a length that is refused for the
+-- network. If several of these are true, the cause is the first of them.
+-- Example: `AS64496,192.0.2.0/24,24,x;y`; `ASx,192.0.2.0/24,24`; `AS64496,192.0.2.0,24`; `AS64496,192.0.2.0/24,x`; `AS64496,192.0.2.0/24,33`.
 abbrev pub IsVrpCause : Grammar → List ℕ → VrpCause → Type 0
 IsVrpCause grammar text Causes.TooManyFields = Has 44 (last_fields text)
-IsVrpCause grammar text Causes.NoAsn =
-    (¬ (Has 44 (last_fields text))) × ((asn : ℕ) → ¬ (IsAsn (first_field text) asn))
+IsVrpCause grammar text Causes.Semicolon = (¬ (Has 44 (last_fields text))) × Has 59 (free_fields text)
+IsVrpCause grammar text Causes.NoAsn = IsDivided text × ((asn : ℕ) → ¬ (IsAsn (first_field text) asn))
 IsVrpCause grammar text (Causes.NoNetwork cause) =
     HasAsn text × IsArgumentCause grammar (network_field text) cause
 IsVrpCause grammar text Causes.NoMaxLen = HasLengthCause grammar text Causes.NoMaxLen

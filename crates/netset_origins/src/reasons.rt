@@ -37,6 +37,7 @@ pub(crate) fn vrp_reason(cause: &VrpCause) -> &'static str
 {
     match cause {
         VrpCause::TooManyFields => "more than five fields",
+        VrpCause::Semicolon => "; in the last fields: write # before a comment",
         VrpCause::NoAsn => "the AS number is missing or wrong",
         VrpCause::NoNetwork(cause) => network_reason(*cause),
         VrpCause::NoMaxLen => "the greatest length is missing or wrong",

@@ -14,6 +14,7 @@ use netset_lib::ArgumentCause;
 ///
 /// ```text
 /// AS64496,192.0.2.0/24,24,x,0,0   TooManyFields
+/// AS64496,192.0.2.0/24,24,x;y     Semicolon
 /// ASx,192.0.2.0/24,24             NoAsn
 /// AS64496,192.0.2.0,24            NoNetwork(Address)
 /// AS64496,192.0.2.0/24,x          NoMaxLen
@@ -25,6 +26,8 @@ use netset_lib::ArgumentCause;
 pub enum VrpCause {
     /// The line has more than five fields.
     TooManyFields,
+    /// A `;` is in the fourth or the fifth field. Nobody could say whether it begins a comment.
+    Semicolon,
     /// The first field is not an AS number.
     NoAsn,
     /// The second field is not a network with a prefix length.
@@ -75,10 +78,13 @@ pub(crate) fn read_vrp(text: &[u8], grammar: Grammar) -> Result<Payload, VrpCaus
 {
     let (asn, rest) = cut_field(text);
     let (network, rest) = cut_field(rest);
-    let (max_len, rest) = cut_field(rest);
-    let (_, rest) = cut_field(rest);
-    if has_byte(rest, b',') {
+    let (max_len, free) = cut_field(rest);
+    let (_, last) = cut_field(free);
+    if has_byte(last, b',') {
         return Err(VrpCause::TooManyFields);
+    }
+    if has_byte(free, b';') {
+        return Err(VrpCause::Semicolon);
     }
     let Some(asn) = asn_of(asn) else {
         return Err(VrpCause::NoAsn);
