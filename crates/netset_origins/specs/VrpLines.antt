@@ -93,7 +93,8 @@ HasLengthCause grammar text cause = HasAsn text
 -- Why a text is not a VRP: it has more than five fields; it has a `;` from the fourth field on; its first field is not
 -- an AS number; its second field is not a network; its third field is not a number, or a length that is refused for the
 -- network. If several of these are true, the cause is the first of them.
--- Example: `AS64496,192.0.2.0/24,24,x;y`; `ASx,192.0.2.0/24,24`; `AS64496,192.0.2.0,24`; `AS64496,192.0.2.0/24,x`; `AS64496,192.0.2.0/24,33`.
+-- Example: `AS64496,192.0.2.0/24,24,x;y`; `ASx,192.0.2.0/24,24`; `AS64496,192.0.2.0,24`; `AS64496,192.0.2.0/24,x`;
+-- `AS64496,192.0.2.0/24,33`.
 abbrev pub IsVrpCause : Grammar → List ℕ → VrpCause → Type 0
 IsVrpCause grammar text Causes.TooManyFields = Has 44 (last_fields text)
 IsVrpCause grammar text Causes.Semicolon = (¬ (Has 44 (last_fields text))) × Has 59 (free_fields text)
