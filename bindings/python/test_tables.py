@@ -224,7 +224,12 @@ class Tables(unittest.TestCase):
         self.assertRaises(BadLine, RouteTable, [("10.0.0.0/8\n10.0.0.0/9", 1)])
         self.assertRaises(OverflowError, RouteTable, {"10.0.0.0/8": 1 << 32})
         self.assertRaises(NotATable, RouteTable.from_bytes, b"")
-        self.assertRaises(ValueError, RouteTable().get, "10.0.0.0/8")
+        for network in ("10.0.0.0/8", ipaddress.ip_network("fd00::/8")):
+            self.assertRaisesRegex(NotANetwork, "not one address", RouteTable().get, network)
+        for routes in ("10.0.0.0/8", ["10.0.0.0/8"], ["ab"], [b"ab"], b"ab", [("10.0.0.0/8",)], [("::/8", 1, 2)], [1]):
+            for table in (RouteTable, ValueTable):
+                with self.subTest(routes=routes, table=table):
+                    self.assertRaises(TypeError, table, routes)
         self.assertRaises(KeyError, RouteTable().__getitem__, "10.0.0.1")
         self.assertRaises(ValueError, RouteTable().get_packed, b"12345", 4)
 

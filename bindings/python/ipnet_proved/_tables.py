@@ -10,8 +10,8 @@ from typing import Any, Iterable, Iterator, List, Mapping, Optional, Set, Tuple,
 from . import _library as library
 from ._bulk import RAISE, Options, matched
 from ._columns import ArrowText
-from ._networks import (Network, Networks, OneNetwork, bytes_of, line_of_octets, network_of, refuse, text_of,
-                        with_lengths)
+from ._networks import (Network, Networks, NotANetwork, OneNetwork, bytes_of, line_of_octets, network_of, refuse,
+                        text_of, with_lengths)
 from ._rows import LARGEST, PIECE, WIDTH, checked
 
 try:
@@ -42,6 +42,21 @@ _longest_match_all = library.question("ipnet_table_longest_match_all")
 # a dictionary with one of these kinds of keys is a dictionary of networks: mypy compares the kinds of keys exactly
 Key = TypeVar("Key", bound=OneNetwork)
 Routes = Union[Mapping[Key, int], Iterable[Tuple[Key, int]]]
+Value = TypeVar("Value")
+
+
+def pairs_of(routes: Union[Mapping[Key, Value], Iterable[Tuple[Key, Value]]]) -> List[Tuple[Key, Value]]:
+    """The pairs of a network and its value. Raises TypeError if an item is no pair, such as a text.
+
+    >>> pairs_of({"10.0.0.0/8": 1})
+    [('10.0.0.0/8', 1)]
+    """
+    if isinstance(routes, Mapping):
+        return list(routes.items())
+    pairs = list(routes)
+    if any(issubclass(kind, (str, bytes)) for kind in set(map(type, pairs))) or not set(map(len, pairs)) <= {2}:
+        raise TypeError("a route is a pair of a network and its value")
+    return pairs
 
 
 class NotATable(ValueError):
@@ -74,7 +89,7 @@ class RouteTable:
     _numbered: bytes
 
     def __init__(self, routes: Routes[Key] = ()) -> None:
-        pairs = list(routes.items() if isinstance(routes, Mapping) else routes)
+        pairs = pairs_of(routes)
         self._image = image_of(text_of([network for network, _ in pairs]), [value for _, value in pairs])
 
     @classmethod
@@ -133,14 +148,14 @@ class RouteTable:
 
     def get(self, address: OneNetwork, default: Optional[int] = None) -> Optional[int]:
         """The number of the longest network that contains the address, or `default` if none does. Raises NotANetwork if
-        a text is not an address."""
+        it is not one address."""
         answer = longest_match(self._image, address)
         if answer is not NotImplemented:
             return default if answer is None else answer
         data = bytes_of(address)
         octets = data[1:-1]
         if data[-1] != 8 * len(octets):
-            raise ValueError(f"{address!r} is not one address")
+            raise NotANetwork(str(address), "a network, and not one address")
         value = ctypes.c_uint32(0)
         if _longest_match(self._image, len(self._image), octets, len(octets), ctypes.byref(value)) == 1:
             return value.value

@@ -3,16 +3,11 @@ from itertools import islice
 from typing import Any, Generic, Iterable, Iterator, List, Mapping, Optional, Tuple, TypeVar, Union, overload
 
 from ._networks import Network, Networks, OneNetwork
-from ._tables import Key, RouteTable, values_of, with_values
+from ._tables import Key, RouteTable, pairs_of, values_of, with_values
 
 Value = TypeVar("Value")
 Other = TypeVar("Other")
 Values = Union[Mapping[Key, Value], Iterable[Tuple[Key, Value]]]
-
-
-def pairs_of(routes: Values[Key, Value]) -> List[Tuple[Key, Value]]:
-    """The pairs of a network and its value."""
-    return list(routes.items() if isinstance(routes, Mapping) else routes)
 
 
 class ValueTable(Generic[Value]):
