@@ -46,7 +46,7 @@ Value = TypeVar("Value")
 
 
 def pairs_of(routes: Union[Mapping[Key, Value], Iterable[Tuple[Key, Value]]]) -> List[Tuple[Key, Value]]:
-    """The pairs of a network and its value. Raises TypeError if an item is no pair, such as a text.
+    """The pairs of a network and its value. Raises TypeError if an item is not a pair: a text is not.
 
     >>> pairs_of({"10.0.0.0/8": 1})
     [('10.0.0.0/8', 1)]

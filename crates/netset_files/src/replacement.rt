@@ -82,6 +82,9 @@ pub struct Replacement<'a> {
     unfinished: PathBuf,
     file: File,
     folder: File,
+    /// The folder twice more: so the file never has the number of a standard stream that is closed, and no report is
+    /// written into it. A folder cannot be read or written as a stream.
+    _streams: (File, File),
     mode: u32,
 }
 
@@ -200,6 +203,7 @@ impl<'a> Replacement<'a> {
         let (target, found) = find_target(rt, name)?;
         let (folder, base) = folder_and_name(target.as_path())?;
         let opened = File::open(rt, folder)?;
+        let (second, third) = (File::open(rt, folder)?, File::open(rt, folder)?);
         remove_leftovers(rt, folder, base);
         let first_mode = match &found {
             Some(_) => UNFINISHED_MODE,
@@ -219,6 +223,7 @@ impl<'a> Replacement<'a> {
             unfinished,
             file,
             folder: opened,
+            _streams: (second, third),
             mode: mode & PERMISSION_BITS,
         })
     }
