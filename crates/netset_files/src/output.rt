@@ -180,6 +180,7 @@ impl<'a> Writers<'a> {
         ensures file { IfOk result (λ writers. IsFile writers.answer.destination
             ↔ IsNamedFile (option_map (λ text. text.now) name.entry)) }
         ensures answer { IfOk result (λ writers. writers.answer.is_withheld ≡ false) }
+        ensures unpublished { IfOk result (λ writers. writers.answer.is_published ≡ false) }
         ensures reports { IfOk result (λ writers. writers.reports ≡ reports) }
         ensures skipped { IfOk result (λ writers. writers.skipped ≡ false) }
     {
@@ -231,27 +232,24 @@ impl<'a> Writers<'a> {
     /// Ends a command with this status, and returns the exit status of the program. The file is replaced at status 0
     /// or 1, if the command has an answer; otherwise it stays as it is.
     #[inline(never)]
-    pub fn end(self, status: u8) -> u8
+    pub fn end(&mut self, status: u8) -> u8
         ensures usual { status ≤ 2 → IsUsualStatus result }
         ensures kept { (result ≡ status) ⊎ ((result ≡ 141) ⊎ ((status ≤ 1) × (result ≡ 2))) }
-        ensures withheld { self.entry.answer.is_withheld ≡ true → (result ≡ status) ⊎ (result ≡ 141) }
+        ensures withheld { self.old.answer.is_withheld ≡ true → (result ≡ status) ⊎ (result ≡ 141) }
+        ensures published { self.old.answer.is_withheld ≡ false → self.old.answer.is_published ≡ false
+            → result ≤ 1 → IsTrue self.new.answer.is_published }
     {
-        let Writers {
-            mut answer,
-            mut faults,
-            ..
-        } = self;
-        let status = if answer.is_withheld {
+        let status = if self.answer.is_withheld {
             status
         } else {
-            finish(status, &mut answer, &mut faults)
+            finish(status, &mut self.answer, &mut self.faults)
         };
-        if let Destination::File(file) = &answer.destination {
-            if !answer.is_published {
+        if let Destination::File(file) = &self.answer.destination {
+            if !self.answer.is_published {
                 file.discard();
             }
         }
-        if answer.ends.closed.get() {
+        if self.answer.ends.closed.get() {
             return CLOSED;
         }
         status
