@@ -1,21 +1,23 @@
 //! The command `filter --lines` of the program, over any readers and writers.
-ghost use Rattle.std.specs.Prelude.{◌≡◌, ◌≤◌, ◌==◌, ◌↔◌, ◌⊎◌, ◌++◌, List, ℕ, [], IfOk, IfErr, OnOk};
+ghost use Rattle.std.specs.Prelude.{◌≡◌, ◌≢◌, ◌≤◌, ◌==◌, ◌↔◌, ◌⊎◌, ◌++◌, List, ℕ, [], IfOk, IfErr, OnOk};
 ghost use Rattle.std.specs.Io.{StartsWith};
 ghost use Rattle.std.specs.Io.KnownBytes.{Appends, Keeps};
 ghost use Rattle.ipnet.specs.Lines.{lines_of};
 ghost use Rattle.ipnet_sets.specs.Members.{IsMember};
 ghost use Rattle.ipnet_sets.specs.declared.set.IpSet.{IpSet};
 ghost use Rattle.ipnet_text.specs.Inputs.{GaveWhole};
+ghost use Rattle.ipnet_text.specs.Outputs.{IsFrontWritten};
 ghost use Rattle.ipnet_lists.specs.Lists.{after_mark};
 ghost use Rattle.netset_words.specs.declared.lines_request.LinesRequest.{LinesRequest};
 ghost use Rattle.netset_words.specs.LogLines.{LogResult};
+ghost use Rattle.netset_words.specs.LogReports.{lines_word, log_name, nones_line};
 ghost use Rattle.netset_words.specs.Logs.{IsLogFiltered, IsLogFilteredButSome, IsLogFilteredInPart, IsFrontPrinted};
 ghost use Rattle.netset_words.specs.Logs.{IsFilterFor, HasCounts};
 ghost use Rattle.netset_words.specs.FilterSteps.{IsLogUpTo, IsTaken, IsStreamed};
 
 use crate::line_filter::LineFilter;
 use crate::refused_word::RefusedWords;
-use ipnet_lists::{MOST_READS, ReadFailure, begin_input, report_since};
+use ipnet_lists::{MOST_READS, Part, ReadFailure, begin_input, report_since, write_parts};
 use ipnet_text::{ReadError, Window};
 use netset_lib::write_and_flush;
 use std::alloc::AllocError;
@@ -166,16 +168,33 @@ fn report_failure<X: Write>(faults: &mut X, name: &str, failure: &LogFailure) ->
     }
 }
 
+/// The word for this number of lines.
+fn lines_word(count: usize) -> &'static str
+    ensures { result.now ≡ lines_word count }
+{
+    if count == 1 { " line" } else { " lines" }
+}
+
 /// Reports the number of lines without an entry. Nothing is printed if there is none.
 fn report_nones<X: Write>(faults: &mut X, name: &str, nones: usize) -> io::Result<()>
-    ensures { nones ≡ 0 → Keeps (X.contents faults.old) (X.contents faults.new) }
+    ensures none { nones ≡ 0 → Keeps (X.contents faults.old) (X.contents faults.new) }
+    ensures begun { nones ≢ 0 → IsFrontWritten (λ t. t ≡ nones_line name.now nones)
+        (X.contents faults.old) (X.contents faults.new) }
 {
     if nones == 0 {
         return Ok(());
     }
-    let lines = if nones == 1 { "line" } else { "lines" };
-    let name = name.as_bytes().escape_ascii();
-    writeln!(faults, "netset: {name}: {nones} {lines} without an entry")
+    write_parts(
+        faults,
+        &[
+            Part::Words("netset: "),
+            Part::Escaped(name.as_bytes()),
+            Part::Words(": "),
+            Part::Number(nones),
+            Part::Words(lines_word(nones)),
+            Part::Words(" without an entry\n"),
+        ],
+    )
 }
 
 /// The exit status for a log that was read to its end.
@@ -191,6 +210,13 @@ fn log_status(log: &FilteredLog) -> u8
     } else {
         1
     }
+}
+
+/// The name of the log: the second of the names.
+fn log_name<'a>(names: &[&'a str]) -> &'a str
+    ensures { result.now ≡ log_name names.now }
+{
+    names.get(1).copied().unwrap_or("log")
 }
 
 /// Writes the lines of a log that are chosen to `out`, while the log is read from `input`, and returns the exit status.
@@ -222,6 +248,8 @@ pub fn run_lines<R: Read, W: Write, X: Write>(
         → IsFilterFor how set filter
         → ((r : LogResult) × (r.undecided ≡ []) × (r.printed ≡ (result == 0))
         × (r.nones ≡ 0 → Keeps (X.contents faults.old) (X.contents faults.new))
+        × (r.nones ≢ 0 → IsFrontWritten (λ t. t ≡ nones_line (log_name names.now) r.nones)
+        (X.contents faults.old) (X.contents faults.new))
         × IsLogFiltered how set (R.remaining input.old) (R.remaining input.new)
         (W.contents out.old) (W.contents out.new) r) }
     ensures cut_short { result ≡ 2 → (how : LinesRequest) → (set : IpSet)
@@ -230,7 +258,7 @@ pub fn run_lines<R: Read, W: Write, X: Write>(
         (W.contents out.old) (W.contents out.new)
         ⊎ IsLogFilteredInPart how set (R.remaining input.old) (W.contents out.old) (W.contents out.new) }
 {
-    let name = names.get(1).copied().unwrap_or("log");
+    let name = log_name(names);
     match filter_log(filter, names, input, out, faults) {
         Ok(log) => {
             let _ = report_nones(faults, name, log.nones);

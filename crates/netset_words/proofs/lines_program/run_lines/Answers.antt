@@ -1,4 +1,6 @@
-use Rattle.std.proofs.Common.{inl, inr}
+use Rattle.std.proofs.Common.{◌≡◌, ◌≢◌, inl, inr, subst}
+use Rattle.ipnet_text.specs.Outputs.{IsFrontWritten}
+use Rattle.netset_words.specs.LogReports.{log_name, nones_line}
 use Rattle.netset_words.proofs.LogRuns.{all_decided, some_undecided}
 use Rattle.netset_words.proofs.lines_program.run_lines.Goals as goal
 
@@ -8,7 +10,12 @@ returns-in-Ok-clause-filtered g c = λ few how set h.
     (g.W.Write.contents c.args.out.now) (g.W.Write.contents c.filter_log.new.out) c.in-Ok.log c.log_status.result few
     c.log_status.ensures.decided c.log_status.ensures.printed (g.X.Write.contents c.args.faults.now)
     (g.X.Write.contents c.filter_log.new.faults) (g.X.Write.contents c.report_nones.new.faults)
-    (c.in-Ok.ensures.quiet how set h) c.report_nones.ensures (c.in-Ok.ensures.whole how set h)
+    (c.in-Ok.ensures.quiet how set h) c.report_nones.ensures.none
+    (λ n. nones_line (log_name c.args.names.now) n)
+    (subst (λ name. (c.in-Ok.log.nones ≢ 0) → IsFrontWritten (λ t. t ≡ nones_line name c.in-Ok.log.nones)
+    (g.X.Write.contents c.filter_log.new.faults) (g.X.Write.contents c.report_nones.new.faults))
+    c.log_name.ensures c.report_nones.ensures.begun)
+    (c.in-Ok.ensures.whole how set h)
 
 pub returns-in-Ok-clause-cut_short : goal.returns-in-Ok-clause-cut_short
 returns-in-Ok-clause-cut_short g c = λ two how set h.

@@ -1,0 +1,19 @@
+-- What `filter --lines` reports of a log that was read to its end.
+use Rattle.std.specs.Prelude.{◌==◌, ℕ, if◌then◌else◌, List, [], ◌∷◌, ◌++◌, codes, decimal, option_map, unwrap_or, slice_get}
+use Rattle.std.specs.List.{concat}
+use Rattle.ipnet_lists.specs.Names.{Names}
+use Rattle.ipnet_lists.specs.Reports.{escaped}
+
+-- The name of the log: the second of the names. Example: `b` of the names `a` and `b`.
+abbrev pub log_name : Names → List ℕ
+log_name names = unwrap_or (option_map (λ name. name.now) (slice_get names 1)) (codes "log")
+
+-- The word for so many lines: `line` for 1, and `lines` otherwise.
+abbrev pub lines_word : ℕ → List ℕ
+lines_word n = if n == 1 then codes " line" else codes " lines"
+
+-- The line that says how many lines of the log with this name have no entry.
+-- Example: `netset: log: 2 lines without an entry`, and byte 10.
+abbrev pub nones_line : List ℕ → ℕ → List ℕ
+nones_line name n = concat (codes "netset: " ∷ escaped name ∷ codes ": " ∷ decimal n ∷ lines_word n
+    ∷ (codes " without an entry" ++ 10 ∷ []) ∷ [])
