@@ -1,13 +1,11 @@
 //! A writer that remembers whether a write failed, and whether its last call was a flush.
-ghost use Rattle.std.specs.Prelude.{◌≡◌, ◌↔◌, ℕ, List, IsOk, IsErr, IsTrue, OnOk};
+ghost use Rattle.std.specs.Prelude.{◌≡◌, ◌↔◌, ◌⊎◌, ℕ, List, IsOk, IsErr, IsTrue, OnOk};
 ghost use Rattle.std.specs.Io.{StartsWith};
 ghost use Rattle.std.specs.Io.KnownBytes.{Appends, Keeps};
-ghost use Rattle.ipnet_text.specs.LineTexts.{text_of_lines};
-ghost use Rattle.ipnet_text.specs.NetLists.{networks_of};
-ghost use Rattle.ipnet_tool.specs.Watched.{writer_of, place_of, IsFlushed, HasFailed};
+ghost use Rattle.ipnet_text.specs.Watched.{writer_of, place_of, IsFlushed, HasFailed};
 
-use crate::answer::write_networks;
-use ipnet_text::{NetLists, write_whole};
+use crate::output::write_whole;
+use crate::pieces::PieceText;
 use std::io;
 use std::io::Write;
 
@@ -47,7 +45,7 @@ impl<'a, W: Write> Watched<'a, W> {
         *is_flushed
     }
 
-    /// Whether the last bytes that `put` was given were not all written.
+    /// Whether some bytes that the writer was given were not all written.
     pub fn has_failed(&self) -> bool
         ensures { IsTrue result ↔ HasFailed self.now }
     {
@@ -55,20 +53,37 @@ impl<'a, W: Write> Watched<'a, W> {
         *has_failed
     }
 
-    /// Writes all the bytes. After that it is not flushed. If a write fails, the writer has taken a front of the bytes.
+    /// Writes all the bytes. After that it is not flushed. If a write fails, the writer has taken a front of the bytes,
+    /// and has failed from then on.
     pub fn put(&mut self, bytes: &[u8]) -> io::Result<()>
         ensures whole { OnOk result
             (Appends (W.contents (writer_of self.old)) (W.contents (writer_of self.new)) bytes.now) }
         ensures front { (front : List ℕ) × StartsWith bytes.now front
             × Appends (W.contents (writer_of self.old)) (W.contents (writer_of self.new)) front }
-        ensures failed { HasFailed self.new ↔ IsErr result }
+        ensures failed { HasFailed self.new ↔ (HasFailed self.old ⊎ IsErr result) }
         ensures unflushed { ¬ (IsFlushed self.new) }
         ensures same_reference { place_of self.new ≡ place_of self.old }
     {
         self.is_flushed = false;
         let result = write_whole(&mut *self.writer, bytes);
-        self.has_failed = result.is_err();
+        self.has_failed = self.has_failed | result.is_err();
         result
+    }
+
+    /// Writes the text in its pieces, as `put` writes bytes.
+    pub fn put_pieces<T: PieceText>(&mut self, text: &T) -> io::Result<()>
+        ensures whole { OnOk result
+            (Appends (W.contents (writer_of self.old)) (W.contents (writer_of self.new)) (T.bytes text.now)) }
+        ensures front { (front : List ℕ) × StartsWith (T.bytes text.now) front
+            × Appends (W.contents (writer_of self.old)) (W.contents (writer_of self.new)) front }
+        ensures failed { HasFailed self.new ↔ (HasFailed self.old ⊎ IsErr result) }
+        ensures unflushed { ¬ (IsFlushed self.new) }
+        ensures same_reference { place_of self.new ≡ place_of self.old }
+    {
+        self.is_flushed = false;
+        let written = text.write(&mut *self.writer);
+        self.has_failed = self.has_failed | written.is_err();
+        written
     }
 
     /// Flushes the writer. It is flushed if and only if that succeeds. Whether it has failed stays the same.
@@ -81,20 +96,5 @@ impl<'a, W: Write> Watched<'a, W> {
         let result = self.writer.flush();
         self.is_flushed = result.is_ok();
         result
-    }
-
-    /// Writes the canonical texts of the networks, one per line, IPv4 first, and flushes the writer. If a write or the
-    /// flush fails, a front of the lines has been written.
-    pub(crate) fn put_networks(&mut self, families: &NetLists) -> io::Result<()>
-        ensures whole { OnOk result (Appends (W.contents (writer_of self.old)) (W.contents (writer_of self.new))
-            (text_of_lines (networks_of families.now))) }
-        ensures front { (front : List ℕ) × StartsWith (text_of_lines (networks_of families.now)) front
-            × Appends (W.contents (writer_of self.old)) (W.contents (writer_of self.new)) front }
-        ensures flushed { IsOk result → IsFlushed self.new }
-        ensures same_reference { place_of self.new ≡ place_of self.old }
-    {
-        self.is_flushed = false;
-        write_networks(&mut *self.writer, families)?;
-        self.flush()
     }
 }

@@ -1,7 +1,7 @@
 -- A watched writer, as contracts see it.
 use Rattle.std.specs.Prelude.{IsTrue}
 use base.Fml.{GName}
-use Rattle.ipnet_tool.specs.declared.watched.Watched.{Watched}
+use Rattle.ipnet_text.specs.declared.watched.Watched.{Watched}
 
 -- The writer that is watched.
 abbrev pub writer_of : {W : Type 0} → Watched W → W
@@ -16,6 +16,7 @@ place_of w = w.writer.ghost_name
 abbrev pub IsFlushed : {W : Type 0} → Watched W → Type 0
 IsFlushed w = IsTrue w.is_flushed
 
--- A write failed, so the last bytes that the writer was given as a whole were not all written.
+-- A write failed since the writer is watched, so some bytes that it was given as a whole were not all written.
+-- Example: true after a write to a full disk, also if a later write succeeds.
 abbrev pub HasFailed : {W : Type 0} → Watched W → Type 0
 HasFailed w = IsTrue w.has_failed
