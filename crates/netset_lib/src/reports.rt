@@ -1,10 +1,13 @@
 //! Reports of failures.
-ghost use Rattle.std.specs.Prelude.{◌≡◌, OnOk};
+ghost use Rattle.std.specs.Prelude.{◌≡◌, IsErr, OnOk};
 ghost use Rattle.ipnet_text.specs.Outputs.{IsWritten, IsFrontWritten};
-ghost use Rattle.netset_lib.specs.Reports.{words_line, long_words};
+ghost use Rattle.ipnet_text.specs.Watched.{writer_of, HasFailed};
+ghost use Rattle.netset_lib.specs.Reports.{words_line, named_line, IsReasonLine, long_words};
 
+use crate::error_words::error_words;
 use arrayvec::ArrayString;
 use ipnet_lists::{Part, write_parts};
+use ipnet_text::Watched;
 use itoa::Buffer;
 use std::io;
 use std::io::Write;
@@ -20,16 +23,73 @@ pub const UNWRITABLE: &str = "output cannot be written";
 /// ```text
 /// "out of memory": faults gets "netset: out of memory\n"
 /// ```
-pub fn report_words<X: Write>(faults: &mut X, words: &str) -> io::Result<()>
+pub fn report_words<X: Write>(faults: &mut Watched<'_, X>, words: &str) -> io::Result<()>
     ensures whole { OnOk result (IsWritten (λ t. t ≡ words_line words.now)
-        (X.contents faults.old) (X.contents faults.new)) }
-    ensures front { IsFrontWritten (λ t. t ≡ words_line words.now) (X.contents faults.old) (X.contents faults.new) }
+        (X.contents (writer_of faults.old)) (X.contents (writer_of faults.new))) }
+    ensures front { IsFrontWritten (λ t. t ≡ words_line words.now)
+        (X.contents (writer_of faults.old)) (X.contents (writer_of faults.new)) }
+    ensures failed { IsErr result → HasFailed faults.new }
 {
     write_parts(
         faults,
         &[
             Part::Words("netset: "),
             Part::Plain(words.as_bytes()),
+            Part::Words("\n"),
+        ],
+    )
+}
+
+/// Reports these words about the list of this name. Bytes of the name that are not printable ASCII are escaped. If a
+/// write fails, a front of the line has been written.
+///
+/// ```text
+/// the name "a\t" and "cannot be read": faults gets "netset: a\\t: cannot be read\n"
+/// ```
+pub fn report_named<'a, X: Write>(faults: &mut Watched<'_, X>, name: &'a str, words: &'a str) -> io::Result<()>
+    ensures whole { OnOk result (IsWritten (λ t. t ≡ named_line name.now words.now)
+        (X.contents (writer_of faults.old)) (X.contents (writer_of faults.new))) }
+    ensures front { IsFrontWritten (λ t. t ≡ named_line name.now words.now)
+        (X.contents (writer_of faults.old)) (X.contents (writer_of faults.new)) }
+    ensures failed { IsErr result → HasFailed faults.new }
+{
+    write_parts(
+        faults,
+        &[
+            Part::Words("netset: "),
+            Part::Escaped(name.as_bytes()),
+            Part::Words(": "),
+            Part::Plain(words.as_bytes()),
+            Part::Words("\n"),
+        ],
+    )
+}
+
+/// Reports these words, and the words of the system for the error, in one line. If a write fails, a front of the line
+/// has been written.
+///
+/// ```text
+/// "output cannot be written": "netset: output cannot be written: No space left on device (os error 28)\n"
+/// ```
+pub fn report_error<X: Write>(
+    faults: &mut Watched<'_, X>,
+    words: &str,
+    error: &io::Error,
+) -> io::Result<()>
+    ensures whole { OnOk result (IsWritten (IsReasonLine words.now)
+        (X.contents (writer_of faults.old)) (X.contents (writer_of faults.new))) }
+    ensures front { IsFrontWritten (IsReasonLine words.now)
+        (X.contents (writer_of faults.old)) (X.contents (writer_of faults.new)) }
+    ensures failed { IsErr result → HasFailed faults.new }
+{
+    let reason = error_words(error);
+    write_parts(
+        faults,
+        &[
+            Part::Words("netset: "),
+            Part::Plain(words.as_bytes()),
+            Part::Words(": "),
+            Part::Plain(reason.as_str().as_bytes()),
             Part::Words("\n"),
         ],
     )

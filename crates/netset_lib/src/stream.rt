@@ -9,12 +9,13 @@ ghost use Rattle.netset_lib.specs.Streams.{IsStreamed, IsWritten, IsWrittenInPar
 ghost use Rattle.netset_lib.specs.declared.query.Query.{Query};
 ghost use Rattle.ipnet_lists.specs.declared.reading.ReadFailure.TheVariants.{Unreadable, Memory};
 ghost use Rattle.netset_lib.specs.declared.stream.StreamFailure.TheVariants as StreamFailures;
+ghost use Rattle.ipnet_text.specs.Watched.{writer_of};
 
 use crate::answerer::{Answerer, Answers};
 use crate::set_reader::SetReader;
 use crate::write::write_and_flush;
 use ipnet_lists::{MOST_READS, ReadFailure, Reading, RefusedLines, report_since};
-use ipnet_text::ReadError;
+use ipnet_text::{ReadError, Watched};
 use std::alloc::AllocError;
 use std::io::{Read, Write};
 
@@ -96,12 +97,12 @@ fn stream_entries<R: Read, W: Write, X: Write>(
     names: &[&str],
     input: &mut R,
     out: &mut W,
-    faults: &mut X,
+    faults: &mut Watched<'_, X>,
 ) -> Result<(Reading, bool), StreamFailure>
     ensures whole { IfOk result (λ r. WasMadeOf (R.remaining input.old) (R.remaining input.new) stream.lists.reading r.0
         (IsWritten stream.answerer (W.contents out.old) (W.contents out.new) (found_by stream.answerer r.1))) }
     ensures quiet { IfOk result (λ r. r.0.lines.refused.count ≡ stream.lists.reading.lines.refused.count
-        → Keeps (X.contents faults.old) (X.contents faults.new)) }
+        → Keeps (X.contents (writer_of faults.old)) (X.contents (writer_of faults.new))) }
     ensures part { IfErr result (λ _. IsWrittenInPart stream.answerer stream.lists.reading.lines.grammar
         stream.lists.reading.lines.list (R.remaining input.old) (W.contents out.old) (W.contents out.new)) }
     ensures cause { IfErr result IsBroken }
@@ -146,14 +147,14 @@ impl Stream {
         names: &[&str],
         input: &mut R,
         out: &mut W,
-        faults: &mut X,
+        faults: &mut Watched<'_, X>,
     ) -> Result<Streamed, StreamFailure>
         ensures streamed { IfOk result (λ streamed. (query : Query) → (grammar : Grammar) → (lists : List (List ℕ))
             → WasAsked query grammar lists self
             → IsStreamed query grammar lists (R.remaining input.old) (R.remaining input.new)
             (W.contents out.old) (W.contents out.new) streamed) }
         ensures quiet { IfOk result (λ streamed. streamed.refused ≡ 0
-            → Keeps (X.contents faults.old) (X.contents faults.new)) }
+            → Keeps (X.contents (writer_of faults.old)) (X.contents (writer_of faults.new))) }
         ensures failure { IfErr result (λ failure. (query : Query) → (grammar : Grammar) → (lists : List (List ℕ))
             → WasAsked query grammar lists self
             → IsStreamFailure query grammar lists (R.remaining input.old) (W.contents out.old) (W.contents out.new)

@@ -4,10 +4,12 @@ ghost use Rattle.std.specs.Io.KnownBytes.{Keeps};
 ghost use Rattle.ipnet.specs.declared.parser.Grammar.{Grammar};
 ghost use Rattle.netset_lib.specs.Streams.{WasAsked, IsStreamed, IsStreamedInPart};
 ghost use Rattle.netset_lib.specs.declared.query.Query.{Query};
+ghost use Rattle.ipnet_text.specs.Watched.{writer_of};
 
 use crate::reports::{UNWRITABLE, report_words};
 use crate::stream::{Stream, StreamFailure, Streamed};
 use ipnet_lists::{name_of, report_since};
+use ipnet_text::Watched;
 use std::io;
 use std::io::{Read, Write};
 
@@ -31,7 +33,7 @@ pub fn run_stream<R: Read, W: Write, X: Write>(
     names: &[&str],
     input: &mut R,
     out: &mut W,
-    faults: &mut X,
+    faults: &mut Watched<'_, X>,
 ) -> u8
     ensures status { result ≤ 2 }
     ensures streamed { result ≤ 1 → (query : Query) → (grammar : Grammar) → (lists : List (List ℕ))
@@ -43,7 +45,7 @@ pub fn run_stream<R: Read, W: Write, X: Write>(
         → WasAsked query grammar lists stream
         → Keeps (W.contents out.old) (W.contents out.new)
         ⊎ IsStreamedInPart query grammar lists (R.remaining input.old) (W.contents out.old) (W.contents out.new) }
-    ensures faultless { result ≤ 1 → Keeps (X.contents faults.old) (X.contents faults.new) }
+    ensures faultless { result ≤ 1 → Keeps (X.contents (writer_of faults.old)) (X.contents (writer_of faults.new)) }
 {
     match stream.answer(names, input, out, faults) {
         Ok(streamed) => stream_status(streamed),
@@ -71,7 +73,7 @@ fn stream_status(streamed: Streamed) -> u8
 
 /// Reports why a stream ended. The last name is the list's. Its bytes that are not printable ASCII are escaped.
 fn report_stream<X: Write>(
-    faults: &mut X,
+    faults: &mut Watched<'_, X>,
     names: &[&str],
     failure: &StreamFailure,
 ) -> io::Result<()> {
