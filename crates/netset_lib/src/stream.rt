@@ -103,6 +103,8 @@ fn stream_entries<R: Read, W: Write, X: Write>(
         (IsWritten stream.answerer (W.contents out.old) (W.contents out.new) (found_by stream.answerer r.1))) }
     ensures quiet { IfOk result (λ r. r.0.lines.refused.count ≡ stream.lists.reading.lines.refused.count
         → Keeps (X.contents (writer_of faults.old)) (X.contents (writer_of faults.new))) }
+    ensures appended { (text : List ℕ)
+        × Appends (X.contents (writer_of faults.old)) (X.contents (writer_of faults.new)) text }
     ensures part { IfErr result (λ _. IsWrittenInPart stream.answerer stream.lists.reading.lines.grammar
         stream.lists.reading.lines.list (R.remaining input.old) (W.contents out.old) (W.contents out.new)) }
     ensures cause { IfErr result IsBroken }
@@ -155,6 +157,8 @@ impl Stream {
             (W.contents out.old) (W.contents out.new) streamed) }
         ensures quiet { IfOk result (λ streamed. streamed.refused ≡ 0
             → Keeps (X.contents (writer_of faults.old)) (X.contents (writer_of faults.new))) }
+        ensures appended { (text : List ℕ)
+            × Appends (X.contents (writer_of faults.old)) (X.contents (writer_of faults.new)) text }
         ensures failure { IfErr result (λ failure. (query : Query) → (grammar : Grammar) → (lists : List (List ℕ))
             → WasAsked query grammar lists self
             → IsStreamFailure query grammar lists (R.remaining input.old) (W.contents out.old) (W.contents out.new)

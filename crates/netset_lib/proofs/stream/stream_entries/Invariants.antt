@@ -1,12 +1,13 @@
-use Rattle.std.proofs.Common.{◌≡◌, false, [], string_bytes}
-use Rattle.std.specs.Io.KnownBytes.{Keeps}
+use Rattle.std.proofs.Common.{◌≡◌, false, ℕ, List, [], string_bytes}
+use Rattle.std.specs.Io.KnownBytes.{Appends, Keeps}
+use Rattle.ipnet_text.specs.Watched.{writer_of}
 use Rattle.ipnet_lists.specs.Reading.{at_first_line}
 use Rattle.netset_lib.specs.Streams.{IsWritten}
 use Rattle.ipnet_lists.proofs.WindowReading.{IsListUpTo}
 use Rattle.netset_lib.proofs.stream.stream_entries.Given as goal
 
--- the list was read up to what is pending, the answers to its entries were written, and if no line was refused, nothing
--- was reported
+-- the list was read up to what is pending, the answers to its entries were written, some text was reported, and if no
+-- line was refused, nothing
 abbrev pub invariant-loop : goal.invariant-loop
 invariant-loop g l = record {
   text : string_bytes l.answers.text ≡ [];
@@ -15,6 +16,8 @@ invariant-loop g l = record {
       (at_first_line l.fn.stream.lists.reading.lines) l.reading
       (IsWritten l.fn.stream.answerer (g.W.Write.contents l.fn.out) (g.W.Write.contents l.fn.out) false)
       (IsWritten l.fn.stream.answerer (g.W.Write.contents l.fn.out) (g.W.Write.contents l.out) l.found);
+  appended : (text : List ℕ) × Appends (g.X.Write.contents (writer_of l.fn.faults))
+      (g.X.Write.contents (writer_of l.faults)) text;
   quiet : l.reading.lines.refused.count ≡ l.fn.stream.lists.reading.lines.refused.count
-      → Keeps (g.X.Write.contents l.fn.faults) (g.X.Write.contents l.faults);
+      → Keeps (g.X.Write.contents (writer_of l.fn.faults)) (g.X.Write.contents (writer_of l.faults));
 }
