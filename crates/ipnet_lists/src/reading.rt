@@ -37,8 +37,8 @@ impl ReadFailure {
         ensures { result.now ≡ read_words self }
     {
         match self {
-            ReadFailure::Unreadable => "cannot be read",
-            ReadFailure::Memory => "out of memory",
+            Self::Unreadable => "cannot be read",
+            Self::Memory => "out of memory",
         }
     }
 }

@@ -59,11 +59,7 @@ pub fn run_split<W: Write, X: Write>(
 }
 
 /// Reports that the network has no subnet of this prefix length, and returns the exit status.
-fn end_without_subnets<X: Write>(
-    network: &IpNet,
-    prefix_len: u8,
-    faults: &mut Watched<'_, X>,
-) -> u8
+fn end_without_subnets<X: Write>(network: &IpNet, prefix_len: u8, faults: &mut Watched<'_, X>) -> u8
     ensures status { result ≡ 2 }
     ensures reported { IsReportedAs (no_subnet_line (ip_network network.now) prefix_len)
         (X.contents (writer_of faults.old)) (X.contents (writer_of faults.new)) (¬ (HasFailed faults.new)) }
@@ -110,7 +106,11 @@ fn report_no_subnet<X: Write>(
 /// 10.0.0.9/30: status 0, and out gets "10.0.0.9\n10.0.0.10\n"
 /// fd00::/127:  status 0, and out gets "fd00::\nfd00::1\n"
 /// ```
-pub fn run_hosts<W: Write, X: Write>(network: &IpNet, out: &mut W, faults: &mut Watched<'_, X>) -> u8
+pub fn run_hosts<W: Write, X: Write>(
+    network: &IpNet,
+    out: &mut W,
+    faults: &mut Watched<'_, X>,
+) -> u8
     ensures status { (result ≡ 0) ⊎ (result ≡ 2) }
     ensures answered { result ≡ 0
         → IsWritten (IsHostsText (ip_network network.now)) (W.contents out.old) (W.contents out.new) }

@@ -30,11 +30,12 @@ pub fn report_words<X: Write>(faults: &mut Watched<'_, X>, words: &str) -> io::R
         (X.contents (writer_of faults.old)) (X.contents (writer_of faults.new)) }
     ensures failed { IsErr result → HasFailed faults.new }
 {
+    let bytes = words.as_bytes();
     write_parts(
         faults,
         &[
             Part::Words("netset: "),
-            Part::Plain(words.as_bytes()),
+            Part::Plain(bytes),
             Part::Words("\n"),
         ],
     )
@@ -46,7 +47,11 @@ pub fn report_words<X: Write>(faults: &mut Watched<'_, X>, words: &str) -> io::R
 /// ```text
 /// the name "a\t" and "cannot be read": faults gets "netset: a\\t: cannot be read\n"
 /// ```
-pub fn report_named<'a, X: Write>(faults: &mut Watched<'_, X>, name: &'a str, words: &'a str) -> io::Result<()>
+pub fn report_named<'a, X: Write>(
+    faults: &mut Watched<'_, X>,
+    name: &'a str,
+    words: &'a str,
+) -> io::Result<()>
     ensures whole { OnOk result (IsWritten (λ t. t ≡ named_line name.now words.now)
         (X.contents (writer_of faults.old)) (X.contents (writer_of faults.new))) }
     ensures front { IsFrontWritten (λ t. t ≡ named_line name.now words.now)

@@ -9,8 +9,11 @@ use Rattle.ipnet_lists.proofs.ReportLaws.{lines_written, lines_front, lines_begu
 use Rattle.ipnet_lists.proofs.report.report_lines.Goals as goal
 
 pub loop-line-init : goal.loop-line-init
-loop-line-init g c = record { text = []; right = refl; written = Appends-nil
-(g.X.Write.contents (writer_of c.args.faults.now)) }
+loop-line-init g c = record {
+  text = [];
+  right = refl;
+  written = Appends-nil (g.X.Write.contents (writer_of c.args.faults.now));
+}
 
 pub loop-line-preserved : goal.loop-line-preserved
 loop-line-preserved g c =

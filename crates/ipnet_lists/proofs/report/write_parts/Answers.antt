@@ -38,6 +38,6 @@ returns-clause-front g c = (
   flat_map part_text c.args.parts.now,
   whole_front (flat_map part_text c.args.parts.now),
   subst (λ z. Appends (g.X.Write.contents (writer_of c.args.out.now)) (g.X.Write.contents (writer_of c.loop-part.out))
-  (flat_map part_text z))
+      (flat_map part_text z))
       (take_all c.loop-part.part-index c.args.parts.now c.loop-part-test.false) c.loop-part.invariant,
 )
