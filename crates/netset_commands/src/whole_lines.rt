@@ -13,6 +13,7 @@ use crate::table::{ARGUMENT, Argument, Form};
 use crate::without::{names_without_or_report, without_or_report};
 use clap::ArgMatches;
 use ipnet_sets::IpSet;
+use ipnet_text::Watched;
 use netset_files::{Writers, open_log, report_unread};
 use netset_lib::Failure;
 use netset_lib::runs::end_with;
@@ -114,7 +115,7 @@ pub fn filter_lines(rt: &HostRuntime, matches: &ArgMatches, writers: &mut Writer
 
 /// Ends a run that printed the lines of the log of this name and has this status, and returns the exit status. If the
 /// log begins like UTF-16, that is reported, and the status is 2, since the entries of such a text are not found.
-fn end_log<X: Write>(is_utf16: bool, log: &str, status: u8, faults: &mut X) -> u8
+fn end_log<X: Write>(is_utf16: bool, log: &str, status: u8, faults: &mut Watched<'_, X>) -> u8
     ensures exact { result ≡ cond is_utf16 2 status }
     ensures status { status ≤ 2 → result ≤ 2 }
 {

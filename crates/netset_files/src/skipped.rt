@@ -2,9 +2,11 @@
 ghost use Rattle.std.specs.Prelude.{◌≡◌, IsTrue, IsOk, OnOk, IfErr};
 ghost use Rattle.ipnet_lists.specs.Reports.{ExplainsEntry, IsReport, IsReportBegun, OfNew};
 ghost use Rattle.ipnet_text.specs.Outputs.{IsWritten, IsFrontWritten};
+ghost use Rattle.ipnet_text.specs.Watched.{writer_of};
 ghost use Rattle.netset_files.specs.Statuses.{IsExitStatus, IsUsualStatus, status_after};
 
 use ipnet_lists::RefusedLines;
+use ipnet_text::Watched;
 use netset_lib::runs::end_with;
 use std::io::Write;
 
@@ -21,13 +23,13 @@ pub fn report_bad_lines<X: Write>(
     lines: &RefusedLines,
     names: &[&str],
     skips: bool,
-    faults: &mut X,
+    faults: &mut Watched<'_, X>,
 ) -> Result<(), u8>
     ensures skips { IsOk result → IsTrue skips }
     ensures reported { OnOk result (IsWritten (OfNew (IsReport ExplainsEntry names.now) lines.now 0 0)
-        (X.contents faults.old) (X.contents faults.new)) }
+        (X.contents (writer_of faults.old)) (X.contents (writer_of faults.new))) }
     ensures begun { IsFrontWritten (OfNew (IsReportBegun ExplainsEntry names.now) lines.now 0 0)
-        (X.contents faults.old) (X.contents faults.new) }
+        (X.contents (writer_of faults.old)) (X.contents (writer_of faults.new)) }
     ensures failed { IfErr result (λ status. status ≡ 2) }
 {
     let ended = end_with(lines, names, faults);

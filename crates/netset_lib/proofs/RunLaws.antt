@@ -1,8 +1,9 @@
 -- Texts that a writer received: by a weaker property, and after nothing else.
-use Rattle.std.proofs.Common.{ℕ, List, ◌++◌, Option, Some, None, ap, ◌∙◌}
+use Rattle.std.proofs.Common.{◌≡◌, ℕ, List, ◌++◌, Option, Some, None, ap, ◌∙◌}
 use Rattle.std.specs.Io.KnownBytes.{Appends, Keeps}
 use Rattle.std.proofs.KnownBytes.{Appends-trans}
 use Rattle.ipnet_text.specs.Outputs.{IsWritten, IsFrontWritten}
+use Rattle.netset_lib.specs.Reports.{IsReportedAs}
 
 module _ {A B : List ℕ → Type 0} (weaker : (text : List ℕ) → A text → B text) (held held_after : Option (List ℕ)) where
   pub whole_weaker : IsWritten A held held_after → IsWritten B held held_after
@@ -41,6 +42,11 @@ kept_front IsText a b c k h = record {
   begins = h.begins;
   written = kept_then a b c h.front k h.written;
 }
+
+pub kept_report : (report : List ℕ) (IsSure : Type 0) (a b c : Option (List ℕ)) → Keeps a b
+    → IsReportedAs report b c IsSure → IsReportedAs report a c IsSure
+kept_report report IsSure a b c k (front, whole) =
+    (kept_front (λ t. t ≡ report) a b c k front, λ sure. kept_whole (λ t. t ≡ report) a b c k (whole sure))
 
 -- what was written after a text, perhaps only its front
 pub appended_more : {IsText : List ℕ → Type 0} (a b c : Option (List ℕ)) → (text : List ℕ) × Appends a b text

@@ -1,14 +1,15 @@
 -- Runs of the filter of a log, by its set.
-use Rattle.std.proofs.Common.{◌≡◌, ◌≢◌, ◌≤◌, ◌==◌, ◌↔◌, ℕ, List, [], ◌∷◌, ◌++◌, length, Option, Some, None, refl, sym, ap, ◌∙◌, subst}
+use Rattle.std.proofs.Common.{◌≡◌, ◌≢◌, ◌≤◌, ◌==◌, ◌↔◌, ℕ, List, [], ◌∷◌, ◌++◌, length, Option, refl, sym, ap, ◌∙◌, subst}
 use Rattle.std.proofs.Common.{arith}
 use Rattle.std.proofs.Common.{append-nil}
 use Rattle.std.specs.Io.KnownBytes.{Appends, Keeps}
 use Rattle.std.proofs.KnownBytes.{Keeps-trans}
 use Rattle.ipnet.specs.Lines.{lines_of}
-use Rattle.ipnet_text.specs.Outputs.{IsFrontWritten}
 use Rattle.ipnet_sets.specs.Members.{IsMember}
 use Rattle.ipnet_sets.specs.declared.set.IpSet.{IpSet}
 use Rattle.netset_lib.specs.Filters.{IsOnSide}
+use Rattle.netset_lib.specs.Reports.{IsReportedAs}
+use Rattle.netset_lib.proofs.RunLaws.{kept_report}
 use Rattle.ipnet_lists.specs.Lists.{after_mark}
 use Rattle.netset_words.specs.declared.line_filter.LineFilter.{LineFilter}
 use Rattle.netset_words.specs.declared.lines_program.FilteredLog.{FilteredLog}
@@ -71,39 +72,22 @@ module _ (how : LinesRequest) (set : IpSet) (left left_after held held_after : O
   no_refusal [] none = refl
   no_refusal (r ∷ rs) none = absurd (omega (arith, none))
 
-  kept_then : (a b c : Option (List ℕ)) (bs : List ℕ) → Keeps a b → Appends b c bs → Appends a c bs
-  kept_then None b c bs k h = tt
-  kept_then (Some xs) None c bs k h = absurd k
-  kept_then (Some xs) (Some ys) None bs k h = absurd h
-  kept_then (Some xs) (Some ys) (Some zs) bs k h = h ∙ ap (λ z. z ++ bs) k
-
-  -- what was written after nothing
-  kept_front : (IsText : List ℕ → Type 0) (a b c : Option (List ℕ)) → Keeps a b → IsFrontWritten IsText b c
-      → IsFrontWritten IsText a c
-  kept_front IsText a b c kept h = record {
-    text = h.text;
-    right = h.right;
-    front = h.front;
-    begins = h.begins;
-    written = kept_then a b c h.front kept h.written;
-  }
-
   -- the status, if each line is decided
   pub all_decided : (log : FilteredLog) (status : ℕ) → status ≤ 1 → (status ≤ 1) ↔ (log.undecided.count ≡ 0)
       → (status ≤ 1 → log.printed ≡ (status == 0)) → (faults then after : Option (List ℕ))
       → (log.undecided.count ≡ 0 → Keeps faults then) → (log.nones ≡ 0 → Keeps then after)
-      → (line : ℕ → List ℕ) → (log.nones ≢ 0 → IsFrontWritten (λ t. t ≡ line log.nones) then after)
+      → (line : ℕ → List ℕ) (IsSure : Type 0) → (log.nones ≢ 0 → IsReportedAs (line log.nones) then after IsSure)
       → IsResultFor how set left left_after held held_after log
       → ((r : LogResult) × (r.undecided ≡ []) × (r.printed ≡ (status == 0)) × (r.nones ≡ 0 → Keeps faults after)
-      × (r.nones ≢ 0 → IsFrontWritten (λ t. t ≡ line r.nones) faults after)
+      × (r.nones ≢ 0 → IsReportedAs (line r.nones) faults after IsSure)
       × IsLogFiltered how set left left_after held held_after r)
-  all_decided log status few decided printed faults then after quiet report line begun (r, counts, is) = (
+  all_decided log status few decided printed faults then after quiet report line IsSure reported (r, counts, is) = (
     r,
     no_refusal r.undecided (sym counts.undecided.count ∙ decided.0 few),
     sym counts.printed ∙ printed few,
     λ none. Keeps-trans faults then after (quiet (decided.0 few)) (report (counts.nones ∙ none)),
-    λ some. subst (λ n. IsFrontWritten (λ t. t ≡ line n) faults after) counts.nones (kept_front (λ t. t ≡ line log.nones)
-    faults then after (quiet (decided.0 few)) (begun (λ none. some (sym counts.nones ∙ none)))),
+    λ some. subst (λ n. IsReportedAs (line n) faults after IsSure) counts.nones (kept_report (line log.nones) IsSure
+        faults then after (quiet (decided.0 few)) (reported (λ none. some (sym counts.nones ∙ none)))),
     is,
   )
 

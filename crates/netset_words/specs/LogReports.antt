@@ -1,8 +1,12 @@
--- What `filter --lines` reports of a log that was read to its end.
-use Rattle.std.specs.Prelude.{◌==◌, ℕ, if◌then◌else◌, List, [], ◌∷◌, ◌++◌, codes, decimal, option_map, unwrap_or, slice_get}
+-- What `filter --lines` reports of a log.
+use Rattle.std.specs.Prelude.{◌==◌, ℕ, if◌then◌else◌, List, [], ◌∷◌, ◌++◌, codes, decimal}
+use Rattle.std.specs.Prelude.{option_map, unwrap_or, slice_get}
 use Rattle.std.specs.List.{concat}
 use Rattle.ipnet_lists.specs.Names.{Names}
-use Rattle.ipnet_lists.specs.Reports.{escaped}
+use Rattle.ipnet_lists.specs.Reports.{escaped, read_words}
+use Rattle.netset_lib.specs.Reports.{named_line, unwritable, words_line}
+use Rattle.netset_words.specs.declared.lines_program.LogFailure.{LogFailure}
+use Rattle.netset_words.specs.declared.lines_program.LogFailure.TheVariants.{Read, Unwritable}
 
 -- The name of the log: the second of the names. Example: `b` of the names `a` and `b`.
 abbrev pub log_name : Names → List ℕ
@@ -17,3 +21,9 @@ lines_word n = if n == 1 then codes " line" else codes " lines"
 abbrev pub nones_line : List ℕ → ℕ → List ℕ
 nones_line name n = concat (codes "netset: " ∷ escaped name ∷ codes ": " ∷ decimal n ∷ lines_word n
     ∷ (codes " without an entry" ++ 10 ∷ []) ∷ [])
+
+-- The line that says why a log was not read to its end. The second name is of the log.
+-- Example: `netset: log: cannot be read`, and byte 10.
+abbrev pub log_line : LogFailure → Names → List ℕ
+log_line (Read failure) names = named_line (log_name names) (read_words failure)
+log_line Unwritable names = words_line unwritable

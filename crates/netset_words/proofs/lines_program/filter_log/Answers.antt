@@ -20,3 +20,9 @@ returns-in_err-answers-clause-part g c =
 
 pub returns-clause-quiet : goal.returns-clause-quiet
 returns-clause-quiet g c = λ how set h. c.in_ok-answers.ensures.quiet how c.args.filter.set h.begun
+
+pub returns-clause-appended : goal.returns-clause-appended
+returns-clause-appended g c = c.read_log.ensures.appended
+
+pub returns-in_err-answers-clause-appended : goal.returns-in_err-answers-clause-appended
+returns-in_err-answers-clause-appended g c = c.read_log.ensures.appended

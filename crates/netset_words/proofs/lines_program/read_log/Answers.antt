@@ -1,8 +1,10 @@
-use Rattle.std.proofs.Common.{refl, subst, ◌∙◌, ◌++◌, length, ap, arith}
+use Rattle.std.proofs.Common.{[], refl, subst, ◌∙◌, ◌++◌, length, ap, arith}
 use Rattle.std.proofs.Math.ListN.{drop_of_length-le}
-use Rattle.std.proofs.KnownBytes.{Keeps-refl}
+use Rattle.std.proofs.KnownBytes.{Appends-nil, Keeps-refl}
 use Rattle.ipnet_sets.specs.Members.{IsMember}
 use Rattle.ipnet_text.specs.Window.{held}
+use Rattle.ipnet_text.specs.Watched.{writer_of}
+use Rattle.netset_lib.proofs.RunLaws.{appended_more}
 use Rattle.netset_lib.proofs.StreamParts.{on_err}
 use Rattle.netset_words.specs.FilterSteps.{IsTaken}
 use Rattle.netset_words.proofs.LogParts.{nothing_part, reading_part, taken_part, starts_with_all}
@@ -14,7 +16,8 @@ loop-init g c = record {
   reading = reading_begins c.in_ok-more.more (g.R.Read.remaining c.args.input.now)
       (g.R.Read.remaining c.begin_input.new.input) (g.W.Write.contents c.args.out.now) c.args.filter
       c.begin_input.new.window c.in_ok-more.ensures;
-  quiet = λ how set begun none. Keeps-refl (g.X.Write.contents c.args.faults.now);
+  appended = ([], Appends-nil (g.X.Write.contents (writer_of c.args.faults.now)));
+  quiet = λ how set begun none. Keeps-refl (g.X.Write.contents (writer_of c.args.faults.now));
 }
 
 pub loop-preserved : goal.loop-preserved
@@ -48,9 +51,12 @@ loop-preserved g c =
           (c.in_ok-take_bytes.ensures how set written least before h))
           (c.take.ensures ∙ drop_of_length-le (held c.loop.window) (omega (arith, ap length c.held-held.ensures.value)))
           window read c.in_ok-more-2.ensures.end;
+      appended = appended_more (g.X.Write.contents (writer_of c.args.faults.now))
+          (g.X.Write.contents (writer_of c.loop.faults)) (g.X.Write.contents (writer_of c.report_since.new.faults))
+          c.loop.invariant.appended c.report_since.ensures.front;
       quiet = still_quiet c.loop.more (left c.args.input.now) (left c.loop.input) (to c.args.out.now) (to c.loop.out)
-          (g.X.Write.contents c.args.faults.now) (g.X.Write.contents c.loop.faults)
-          (g.X.Write.contents c.report_since.new.faults) c.args.filter c.loop.filter c.take_bytes.new.filter
+          (g.X.Write.contents (writer_of c.args.faults.now)) (g.X.Write.contents (writer_of c.loop.faults))
+          (g.X.Write.contents (writer_of c.report_since.new.faults)) c.args.filter c.loop.filter c.take_bytes.new.filter
           c.loop.window shown c.loop.invariant.reading c.in_ok-take_bytes.ensures c.loop.invariant.quiet
           c.report_since.ensures.none;
     }
@@ -86,8 +92,9 @@ returns-then-not-more-clause-quiet g c =
     let left = g.R.Read.remaining in
     let to = g.W.Write.contents in
     still_quiet c.loop.more (left c.args.input.now) (left c.loop.input) (to c.args.out.now) (to c.loop.out)
-    (g.X.Write.contents c.args.faults.now) (g.X.Write.contents c.loop.faults)
-    (g.X.Write.contents c.report_since.new.faults) c.args.filter c.loop.filter c.take_bytes.new.filter c.loop.window
+    (g.X.Write.contents (writer_of c.args.faults.now)) (g.X.Write.contents (writer_of c.loop.faults))
+    (g.X.Write.contents
+    (writer_of c.report_since.new.faults)) c.args.filter c.loop.filter c.take_bytes.new.filter c.loop.window
     c.held-held.result.now c.loop.invariant.reading c.in_ok-take_bytes.ensures c.loop.invariant.quiet
     c.report_since.ensures.none
 
@@ -138,3 +145,30 @@ returns-clause-part g c =
     reading_part c.loop.more (g.R.Read.remaining c.args.input.now) (g.R.Read.remaining c.loop.input)
     (g.W.Write.contents c.args.out.now) (g.W.Write.contents c.loop.out) c.args.filter c.loop.filter c.loop.window
     c.loop.invariant.reading
+
+-- ---- what was reported
+
+pub returns-then-not-more-clause-appended : goal.returns-then-not-more-clause-appended
+returns-then-not-more-clause-appended g c =
+    appended_more (g.X.Write.contents (writer_of c.args.faults.now)) (g.X.Write.contents (writer_of c.loop.faults))
+    (g.X.Write.contents (writer_of c.report_since.new.faults)) c.loop.invariant.appended c.report_since.ensures.front
+
+pub returns-in_err-more-2-clause-appended : goal.returns-in_err-more-2-clause-appended
+returns-in_err-more-2-clause-appended g c =
+    appended_more (g.X.Write.contents (writer_of c.args.faults.now)) (g.X.Write.contents (writer_of c.loop.faults))
+    (g.X.Write.contents (writer_of c.report_since.new.faults)) c.loop.invariant.appended c.report_since.ensures.front
+
+pub returns-in_err-window-clause-appended : goal.returns-in_err-window-clause-appended
+returns-in_err-window-clause-appended g c = ([], Appends-nil (g.X.Write.contents (writer_of c.args.faults.now)))
+
+pub returns-in_err-more-clause-appended : goal.returns-in_err-more-clause-appended
+returns-in_err-more-clause-appended g c = ([], Appends-nil (g.X.Write.contents (writer_of c.args.faults.now)))
+
+pub returns-in_err-take_bytes-clause-appended : goal.returns-in_err-take_bytes-clause-appended
+returns-in_err-take_bytes-clause-appended g c = c.loop.invariant.appended
+
+pub returns-in_err-put-clause-appended : goal.returns-in_err-put-clause-appended
+returns-in_err-put-clause-appended g c = c.loop.invariant.appended
+
+pub returns-clause-appended : goal.returns-clause-appended
+returns-clause-appended g c = c.loop.invariant.appended
