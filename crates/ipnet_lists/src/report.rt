@@ -4,7 +4,7 @@ ghost use Rattle.std.specs.Char.Escape.{escape_ascii};
 ghost use Rattle.std.specs.Io.{StartsWith};
 ghost use Rattle.std.specs.Io.KnownBytes.{Appends, Keeps};
 ghost use Rattle.ipnet_text.specs.Outputs.{IsWritten, IsFrontWritten};
-ghost use Rattle.ipnet_text.specs.Watched.{writer_of, HasFailed};
+ghost use Rattle.ipnet_text.specs.Watched.{writer_of, place_of, HasFailed};
 ghost use Rattle.ipnet_lists.specs.Names.{name_at};
 ghost use Rattle.ipnet_lists.specs.RefusedLines.{refusal_of};
 ghost use Rattle.ipnet_lists.specs.Reports.{IsReportOf, AreReported, AreFirstReported, IsReport, IsReportBegun};
@@ -47,6 +47,7 @@ fn write_escape<X: Write>(out: &mut Watched<'_, X>, byte: &u8) -> io::Result<()>
     ensures front { (front : List ℕ) × StartsWith (escape_ascii byte.now) front
         × Appends (X.contents (writer_of out.old)) (X.contents (writer_of out.new)) front }
     ensures failed { IsErr result → HasFailed out.new }
+    ensures same_reference { place_of out.new ≡ place_of out.old }
 {
     let mut rest = byte.escape_ascii();
     'escape: while let Some(escaped) = rest.next() {
@@ -62,6 +63,7 @@ fn write_escaped<X: Write>(out: &mut Watched<'_, X>, bytes: &[u8]) -> io::Result
     ensures front { (front : List ℕ) × StartsWith (escaped bytes.now) front
         × Appends (X.contents (writer_of out.old)) (X.contents (writer_of out.new)) front }
     ensures failed { IsErr result → HasFailed out.new }
+    ensures same_reference { place_of out.new ≡ place_of out.old }
 {
     for byte in bytes {
         write_escape(out, byte)?;
@@ -76,6 +78,7 @@ fn write_part<X: Write>(out: &mut Watched<'_, X>, part: Part<'_>) -> io::Result<
     ensures front { (front : List ℕ) × StartsWith (part_text part.entry) front
         × Appends (X.contents (writer_of out.old)) (X.contents (writer_of out.new)) front }
     ensures failed { IsErr result → HasFailed out.new }
+    ensures same_reference { place_of out.new ≡ place_of out.old }
 {
     match part {
         Part::Words(words) => out.put(words.as_bytes()),
@@ -96,6 +99,7 @@ pub fn write_parts<X: Write>(out: &mut Watched<'_, X>, parts: &[Part<'_>]) -> io
     ensures front { (front : List ℕ) × StartsWith (parts_text parts.now) front
         × Appends (X.contents (writer_of out.old)) (X.contents (writer_of out.new)) front }
     ensures failed { IsErr result → HasFailed out.new }
+    ensures same_reference { place_of out.new ≡ place_of out.old }
 {
     for part in parts {
         write_part(out, *part)?;

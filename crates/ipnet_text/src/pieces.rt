@@ -16,22 +16,6 @@ use std::io::Write;
 /// How many bytes are written at once.
 pub const PIECE: usize = 8192;
 
-/// A text that is written in pieces.
-///
-/// ```text
-/// the lines of the networks of a list, which take no memory
-/// ```
-pub trait PieceText {
-    /// Its bytes.
-    ghost bytes: { Self → List ℕ };
-
-    /// Writes the text. If a write fails, a front of it has been written.
-    fn write<W: Write>(&self, out: &mut W) -> io::Result<()>
-        ensures whole { OnOk result (Appends (W.contents out.old) (W.contents out.new) (bytes self.now)) }
-        ensures front { (front : List ℕ) × StartsWith (bytes self.now) front
-            × Appends (W.contents out.old) (W.contents out.new) front };
-}
-
 /// Appends the network's canonical text and a newline to the piece. If they do not fit, the piece is written first.
 ///
 /// Fails if that write fails; then the writer received a front of the piece.

@@ -5,7 +5,6 @@ ghost use Rattle.std.specs.Io.KnownBytes.{Appends, Keeps};
 ghost use Rattle.ipnet_text.specs.Watched.{writer_of, place_of, IsFlushed, HasFailed};
 
 use crate::output::write_whole;
-use crate::pieces::PieceText;
 use std::io;
 use std::io::Write;
 
@@ -68,22 +67,6 @@ impl<'a, W: Write> Watched<'a, W> {
         let result = write_whole(&mut *self.writer, bytes);
         self.has_failed = self.has_failed | result.is_err();
         result
-    }
-
-    /// Writes the text in its pieces, as `put` writes bytes.
-    pub fn put_pieces<T: PieceText>(&mut self, text: &T) -> io::Result<()>
-        ensures whole { OnOk result
-            (Appends (W.contents (writer_of self.old)) (W.contents (writer_of self.new)) (T.bytes text.now)) }
-        ensures front { (front : List ℕ) × StartsWith (T.bytes text.now) front
-            × Appends (W.contents (writer_of self.old)) (W.contents (writer_of self.new)) front }
-        ensures failed { HasFailed self.new ↔ (HasFailed self.old ⊎ IsErr result) }
-        ensures unflushed { ¬ (IsFlushed self.new) }
-        ensures same_reference { place_of self.new ≡ place_of self.old }
-    {
-        self.is_flushed = false;
-        let written = text.write(&mut *self.writer);
-        self.has_failed = self.has_failed | written.is_err();
-        written
     }
 
     /// Flushes the writer. It is flushed if and only if that succeeds. Whether it has failed stays the same.

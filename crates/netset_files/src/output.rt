@@ -1,12 +1,14 @@
 //! The output of a command: standard output, or a file that only a whole answer replaces.
 ghost use Rattle.std.specs.Prelude.{◌≡◌, ◌≢◌, ◌≤◌, ◌⊎◌, ◌↔◌, true, false, IfOk, IfErr, IsTrue};
 ghost use Rattle.std.specs.Option.{option_map};
+ghost use Rattle.ipnet_text.specs.Watched.{HasFailed};
 ghost use Rattle.netset_files.specs.Outputs.{IsFile, IsNamedFile};
 ghost use Rattle.netset_files.specs.Statuses.{IsUsualStatus};
 
 use crate::input::{ERROR_STREAM, Input, OUTPUT_STREAM};
 use crate::lists::Reports;
 use crate::replacement::{OutputFailure, Replacement};
+use ipnet_text::Watched;
 use netset_lib::{Output, finish};
 use std::cell::Cell;
 use std::io;
@@ -144,6 +146,14 @@ pub struct Faults<'a> {
     ends: &'a Ends,
 }
 
+impl<'a> Faults<'a> {
+    /// Standard error, until `ends` notes the end of the output.
+    pub fn new(rt: &HostRuntime, ends: &'a Ends) -> Faults<'a> {
+        let err = rt.stderr();
+        Faults { err, ends }
+    }
+}
+
 impl Write for Faults<'_> {
     fn write(&mut self, buf: &[u8]) -> io::Result<usize> {
         if self.ends.is_over() {
@@ -161,21 +171,21 @@ impl Write for Faults<'_> {
 #[derive(Drop)]
 pub struct Writers<'a> {
     pub answer: AnswerWriter<'a>,
-    pub faults: Faults<'a>,
+    pub faults: Watched<'a, Faults<'a>>,
     pub reports: Reports,
     /// Whether bad lines were skipped.
     pub skipped: bool,
 }
 
 impl<'a> Writers<'a> {
-    /// Opens the output of this name: standard output if there is no name or it is "-", and otherwise a file.
-    /// `ends` notes what ends the output early.
+    /// Opens the output of this name: standard output if there is no name or it is "-", and otherwise a file. `faults`
+    /// gets the reports.
     #[inline(never)]
     pub fn open(
         rt: &HostRuntime,
         name: Option<&'a str>,
         reports: Reports,
-        ends: &'a Ends,
+        faults: &'a mut Faults<'a>,
     ) -> Result<Writers<'a>, OutputFailure>
         ensures file { IfOk result (λ writers. IsFile writers.answer.destination
             ↔ IsNamedFile (option_map (λ text. text.now) name.entry)) }
@@ -183,6 +193,7 @@ impl<'a> Writers<'a> {
         ensures unpublished { IfOk result (λ writers. writers.answer.is_published ≡ false) }
         ensures reports { IfOk result (λ writers. writers.reports ≡ reports) }
         ensures skipped { IfOk result (λ writers. writers.skipped ≡ false) }
+        ensures sound { IfOk result (λ writers. ¬ (HasFailed writers.faults)) }
     {
         let destination = match name {
             Some(name) if name != STANDARD_OUTPUT => Destination::File(Replacement::open(
@@ -194,12 +205,11 @@ impl<'a> Writers<'a> {
             destination,
             is_published: false,
             is_withheld: false,
-            ends,
+            ends: faults.ends,
         };
-        let err = rt.stderr();
         Ok(Writers {
             answer,
-            faults: Faults { err, ends },
+            faults: Watched::new(faults),
             reports,
             skipped: false,
         })

@@ -1,6 +1,0 @@
-use Rattle.ipnet_text.proofs.WatchedLaws.{failed_or}
-use Rattle.ipnet_text.proofs.watched.Watched.put_pieces.Goals as goal
-
-pub returns-clause-failed : goal.returns-clause-failed
-returns-clause-failed g c =
-    failed_or c.args.self.now.has_failed c.is_err.result c.write-written.result c.is_err.ensures.value
