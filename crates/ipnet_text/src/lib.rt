@@ -1,4 +1,5 @@
-//! Texts of networks below the programs: lines, the window on bytes that are read, and what is written in pieces.
+//! Texts of networks below the programs: lines, the window on bytes that are read, what is written in pieces, and
+//! writers that remember whether a write failed.
 #![tactic(auto)]
 
 pub mod front;

@@ -25,7 +25,7 @@ kept_then (Some xs) (Some ys) None bs k h = absurd h
 kept_then (Some xs) (Some ys) (Some zs) bs k h = h ∙ ap (λ z. z ++ bs) k
 
 -- what was written after nothing
-pub kept_whole : (IsText : List ℕ → Type 0) (a b c : Option (List ℕ)) → Keeps a b → IsWritten IsText b c
+kept_whole : (IsText : List ℕ → Type 0) (a b c : Option (List ℕ)) → Keeps a b → IsWritten IsText b c
     → IsWritten IsText a c
 kept_whole IsText a b c k h = record {
   text = h.text;
@@ -33,7 +33,7 @@ kept_whole IsText a b c k h = record {
   written = kept_then a b c h.text k h.written;
 }
 
-pub kept_front : (IsText : List ℕ → Type 0) (a b c : Option (List ℕ)) → Keeps a b → IsFrontWritten IsText b c
+kept_front : (IsText : List ℕ → Type 0) (a b c : Option (List ℕ)) → Keeps a b → IsFrontWritten IsText b c
     → IsFrontWritten IsText a c
 kept_front IsText a b c k h = record {
   text = h.text;

@@ -49,7 +49,7 @@ abbrev pub ExplainsNetwork : NetworkCause → List ℕ → List ℕ → Option (
 ExplainsNetwork = Explains no_network network_reason
 
 -- The text reports why a prefix list has no verdicts. For refused lines of the prefix list, `IsFirst` says so of the
--- kept ones and the number of the others, and `IsSecond` for those of the list of networks.
+-- kept ones and the number of the others, and `IsSecond` for the refused lines of the list of networks.
 abbrev pub IsVerdictText : (List (RefusalFor PrefixCause) → ℕ → List ℕ → Type 0)
     → (List (RefusalFor NetworkCause) → ℕ → List ℕ → Type 0) → PrefixFailure → List ℕ → Type 0
 IsVerdictText IsFirst IsSecond (Prefixes.Prefixes lines) text = OfNew IsFirst lines 0 0 text
@@ -70,7 +70,7 @@ IsVerdictBegun failure names text =
     IsVerdictText (IsReportBegun ExplainsPrefix names) (IsReportBegun ExplainsNetwork (drop 1 names)) failure text
 
 -- The text reports why a table with texts has no answers. For refused lines of the table, `IsFirst` says so of the kept
--- ones and the number of the others, and `IsSecond` for those of the list.
+-- ones and the number of the others, and `IsSecond` for the refused lines of the list.
 abbrev pub IsRouteText : (List (RefusalFor NotTextLine) → ℕ → List ℕ → Type 0)
     → (List Refusal → ℕ → List ℕ → Type 0) → TextFailure → List ℕ → Type 0
 IsRouteText IsFirst IsSecond (Texts.Table lines) text = OfNew IsFirst lines 0 0 text

@@ -5,9 +5,8 @@ use Rattle.netset_lib.specs.declared.runs.Fault.{Fault}
 use Rattle.netset_lib.specs.declared.runs.Fault.TheVariants.{Lists, Other}
 use Rattle.ipnet_lists.specs.Names.{Names}
 
--- A failure with this property has this exit status, and a front of its report was written, perhaps all. `IsBegun` says
--- so of a failure and the bytes of the writer, before and after. If `IsSure`, the whole report was written, as `IsWhole`
--- says.
+-- A failure with this property has this exit status, and a front of its report was written, perhaps all; all of it, if
+-- `IsSure`. `IsBegun` and `IsWhole` say so of a failure and the bytes of the writer, before and after.
 abbrev pub IsReported : {F : Type 0} → (F → Type 0) → (F → ℕ) → (F → Option (List ℕ) → Option (List ℕ) → Type 0)
     → (F → Option (List ℕ) → Option (List ℕ) → Type 0) → ℕ → Option (List ℕ) → Option (List ℕ) → Type 0 → Type 0
 IsReported IsFailure exit IsWhole IsBegun status held held_after IsSure = (failure : _) × IsFailure failure

@@ -68,7 +68,8 @@ fn end_without_subnets<X: Write>(network: &IpNet, prefix_len: u8, faults: &mut W
     2
 }
 
-/// Reports that the network has no subnet of this prefix length. If a write fails, a front of the line has been written.
+/// Reports that the network has no subnet of this prefix length. If a write fails, a front of the line has been
+/// written.
 fn report_no_subnet<X: Write>(
     faults: &mut Watched<'_, X>,
     network: &IpNet,

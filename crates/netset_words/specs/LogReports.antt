@@ -12,7 +12,7 @@ use Rattle.netset_words.specs.declared.lines_program.LogFailure.TheVariants.{Rea
 abbrev pub log_name : Names → List ℕ
 log_name names = unwrap_or (option_map (λ name. name.now) (slice_get names 1)) (codes "log")
 
--- The word for so many lines: `line` for 1, and `lines` otherwise.
+-- The word for this number of lines: `line` for 1, and `lines` otherwise.
 abbrev pub lines_word : ℕ → List ℕ
 lines_word n = if n == 1 then codes " line" else codes " lines"
 

@@ -3,7 +3,7 @@ use Rattle.std.proofs.Common.{◌≡◌, true, false, refl, subst, inl, inr, ari
 use Rattle.std.proofs.KnownBytes.{Keeps-refl, Keeps-trans}
 use Rattle.ipnet_text.specs.Watched.{writer_of, HasFailed}
 use Rattle.netset_lib.specs.Reports.{IsReportedAs, failure_words, memory_line, unwritable, words_line}
-use Rattle.netset_lib.proofs.RunLaws.{kept_report}
+use Rattle.netset_lib.proofs.RunLaws.{front_weaker, kept_report}
 use Rattle.netset_routes.proofs.RefusedLaws.{not_both}
 use Rattle.netset_routes.proofs.shorten.ShortenRequest.run.Goals as goal
 
@@ -27,13 +27,9 @@ returns-in-None-clause-refused g c refused h = (refl, Keeps-refl (g.W.Write.cont
 pub returns-in-Some-clause-cut_short : goal.returns-in-Some-clause-cut_short
 returns-in-Some-clause-cut_short g c two = elim (c.run_text.ensures.cut_short two) [
   | inl (kept, reported) ↦ inl kept
-  | inr (begun, reported) ↦ inr (record {
-    text = begun.text;
-    right = record { table = c.in-Some.table; read = c.in-Some.ensures.table; shortened = begun.right };
-    front = begun.front;
-    begins = begun.begins;
-    written = begun.written;
-  })
+  | inr (begun, reported) ↦ inr (front_weaker
+      (λ text right. record { table = c.in-Some.table; read = c.in-Some.ensures.table; shortened = right })
+      (g.W.Write.contents c.args.out.now) (g.W.Write.contents c.run_text.new.out) begun)
 ]
 
 pub returns-in-None-clause-cut_short : goal.returns-in-None-clause-cut_short
@@ -67,13 +63,9 @@ returns-in-Some-clause-reported g c two =
           ))
       | inr (begun, report) ↦
           inr (inr (
-            record {
-              text = begun.text;
-              right = record { table = c.in-Some.table; read = c.in-Some.ensures.table; shortened = begun.right };
-              front = begun.front;
-              begins = begun.begins;
-              written = begun.written;
-            },
+            front_weaker
+                (λ text right. record { table = c.in-Some.table; read = c.in-Some.ensures.table; shortened = right })
+                (g.W.Write.contents c.args.out.now) (g.W.Write.contents c.run_text.new.out) begun,
             kept_report (words_line unwritable) IsSure before now after silent report,
           ))
     ]
