@@ -14,8 +14,8 @@ use std::io::Write;
 const SKIPPED: u8 = 3;
 
 /// Reports these bad lines of the lists of these names. The report is whole, unless a write to `faults` has failed. The
-/// error is the exit status. There is none if the lines are to be skipped and the report is whole, so no line is skipped
-/// in silence.
+/// error is the exit status. There is none if the lines are to be skipped and the report is whole, so no line is
+/// skipped in silence.
 ///
 /// ```text
 /// line 1 of a, "x", to be skipped: faults gets "a:1: not a network, an address or a range: x\n", and no error

@@ -11,7 +11,8 @@ ghost use Rattle.netset_lib.specs.ListReports.{IsListReport, IsListBegun};
 ghost use Rattle.netset_lib.specs.Reports.{words_line, unwritable};
 ghost use Rattle.netset_lib.specs.Runs.{IsReported, OfFault, exit_of_fault};
 
-use crate::reports::{OUT_OF_MEMORY, UNWRITABLE, report_words};
+use crate::piece_failure::PieceFailure;
+use crate::reports::{OUT_OF_MEMORY, report_words};
 use crate::write::write_and_flush;
 use ipnet_lists::{LineCause, ListFailure, Refusals, report_refused, report_since};
 use ipnet_text::Watched;
@@ -218,8 +219,7 @@ pub fn end_unwritable<X: Write>(faults: &mut Watched<'_, X>) -> u8
     ensures front { IsFrontWritten (λ t. t ≡ words_line unwritable)
         (X.contents (writer_of faults.old)) (X.contents (writer_of faults.new)) }
 {
-    let _ = report_words(faults, UNWRITABLE);
-    2
+    end_with(&PieceFailure::Unwritable, &[], faults)
 }
 
 /// Runs the command, and returns the exit status: 0 if it succeeds, 1 if it has an answer and does not succeed, and
