@@ -48,8 +48,7 @@ pub kept_report : (report : List ℕ) (IsSure : Type 0) (a b c : Option (List �
 kept_report report IsSure a b c k (front, whole) =
     (kept_front (λ t. t ≡ report) a b c k front, λ sure. kept_whole (λ t. t ≡ report) a b c k (whole sure))
 
--- what was written after a text, perhaps only its front
-pub appended_more : {IsText : List ℕ → Type 0} (a b c : Option (List ℕ)) → (text : List ℕ) × Appends a b text
-    → IsFrontWritten IsText b c → (text : List ℕ) × Appends a c text
-appended_more a b c (text, written) more =
-    (text ++ more.front, Appends-trans a b c text more.front written more.written)
+-- what was written after a text
+pub appended_more : (a b c : Option (List ℕ)) → (text : List ℕ) × Appends a b text → (text : List ℕ) × Appends b c text
+    → (text : List ℕ) × Appends a c text
+appended_more a b c (text, written) (more, later) = (text ++ more, Appends-trans a b c text more written later)

@@ -1,12 +1,14 @@
 //! Reports of failures.
-ghost use Rattle.std.specs.Prelude.{◌≡◌, IsErr, OnOk};
+ghost use Rattle.std.specs.Prelude.{◌≡◌, List, ℕ, IsErr, OnOk};
+ghost use Rattle.std.specs.Io.KnownBytes.{Appends, Keeps};
+ghost use Rattle.ipnet_lists.specs.Reports.{OfNew, IsReport};
 ghost use Rattle.ipnet_text.specs.Outputs.{IsWritten, IsFrontWritten};
 ghost use Rattle.ipnet_text.specs.Watched.{writer_of, HasFailed};
 ghost use Rattle.netset_lib.specs.Reports.{words_line, named_line, IsReasonLine, long_words};
 
 use crate::error_words::error_words;
 use arrayvec::ArrayString;
-use ipnet_lists::{Part, write_parts};
+use ipnet_lists::{LineCause, Part, Refusals, report_since, write_parts};
 use ipnet_text::Watched;
 use itoa::Buffer;
 use std::io;
@@ -98,6 +100,33 @@ pub fn report_error<X: Write>(
             Part::Words("\n"),
         ],
     )
+}
+
+/// Reports the refused lines that are new, as `report_since` does, unless a write to `faults` has failed before. The
+/// report is whole, unless a write has failed.
+///
+/// ```text
+/// twelve lines, before (0, 0): ten lines, and "netset: and 2 more"
+/// ```
+pub fn report_new<X: Write, C: LineCause>(
+    faults: &mut Watched<'_, X>,
+    names: &[&str],
+    lines: &Refusals<C>,
+    before: (usize, usize),
+)
+    ensures none { lines.now.count ≡ before.1
+        → Keeps (X.contents (writer_of faults.old)) (X.contents (writer_of faults.new)) }
+    ensures whole { ¬ (HasFailed faults.new) → IsWritten
+        (OfNew (IsReport C.explains names.now) lines.now before.0 before.1)
+        (X.contents (writer_of faults.old)) (X.contents (writer_of faults.new)) }
+    ensures appended { (text : List ℕ)
+        × Appends (X.contents (writer_of faults.old)) (X.contents (writer_of faults.new)) text }
+    ensures kept { HasFailed faults.old → HasFailed faults.new }
+{
+    if faults.has_failed() {
+        return;
+    }
+    let _ = report_since(faults, names, lines, before);
 }
 
 /// The most bytes that the words of a failure have, without refused lines.

@@ -4,17 +4,20 @@ ghost use Rattle.std.specs.Io.{StartsWith};
 ghost use Rattle.std.specs.Io.KnownBytes.{Appends, Keeps};
 ghost use Rattle.ipnet.specs.declared.parser.Grammar.{Grammar};
 ghost use Rattle.ipnet_lists.specs.Reading.{WasMadeOf};
+ghost use Rattle.ipnet_lists.specs.Reports.{ExplainsEntry};
 ghost use Rattle.netset_lib.specs.Answering.{found_by};
+ghost use Rattle.netset_lib.specs.StepReports.{AreTold, AreToldSince};
 ghost use Rattle.netset_lib.specs.Streams.{IsStreamed, IsWritten, IsWrittenInPart, IsStreamFailure, IsBroken};
 ghost use Rattle.netset_lib.specs.declared.query.Query.{Query};
 ghost use Rattle.ipnet_lists.specs.declared.reading.ReadFailure.TheVariants.{Unreadable, Memory};
 ghost use Rattle.netset_lib.specs.declared.stream.StreamFailure.TheVariants as StreamFailures;
-ghost use Rattle.ipnet_text.specs.Watched.{writer_of};
+ghost use Rattle.ipnet_text.specs.Watched.{writer_of, HasFailed};
 
 use crate::answerer::{Answerer, Answers};
+use crate::reports::report_new;
 use crate::set_reader::SetReader;
 use crate::write::write_and_flush;
-use ipnet_lists::{MOST_READS, ReadFailure, Reading, RefusedLines, report_since};
+use ipnet_lists::{MOST_READS, ReadFailure, Reading, RefusedLines};
 use ipnet_text::{ReadError, Watched};
 use std::alloc::AllocError;
 use std::io::{Read, Write};
@@ -105,6 +108,9 @@ fn stream_entries<R: Read, W: Write, X: Write>(
         → Keeps (X.contents (writer_of faults.old)) (X.contents (writer_of faults.new))) }
     ensures appended { (text : List ℕ)
         × Appends (X.contents (writer_of faults.old)) (X.contents (writer_of faults.new)) text }
+    ensures told { IfOk result (λ r. ¬ (HasFailed faults.new) → AreToldSince ExplainsEntry names.now
+        stream.lists.reading.lines.refused r.0.lines.refused
+        (X.contents (writer_of faults.old)) (X.contents (writer_of faults.new))) }
     ensures part { IfErr result (λ _. IsWrittenInPart stream.answerer stream.lists.reading.lines.grammar
         stream.lists.reading.lines.list (R.remaining input.old) (W.contents out.old) (W.contents out.new)) }
     ensures cause { IfErr result IsBroken }
@@ -120,7 +126,7 @@ fn stream_entries<R: Read, W: Write, X: Write>(
         reading.take_lines(more, answerer, &mut answers)?;
         found = found | answers.found;
         put(&mut answers, out)?;
-        let _ = report_since(faults, names, &reading.lines.refused, before);
+        report_new(faults, names, &reading.lines.refused, before);
         if !more {
             reading.end_list()?;
             return Ok((reading, answerer.is_success(found)));
@@ -159,6 +165,10 @@ impl Stream {
             → Keeps (X.contents (writer_of faults.old)) (X.contents (writer_of faults.new))) }
         ensures appended { (text : List ℕ)
             × Appends (X.contents (writer_of faults.old)) (X.contents (writer_of faults.new)) text }
+        ensures told { IfOk result (λ streamed. (query : Query) → (grammar : Grammar) → (lists : List (List ℕ))
+            → WasAsked query grammar lists self → ¬ (HasFailed faults.new)
+            → AreTold ExplainsEntry names.now streamed.refused
+            (X.contents (writer_of faults.old)) (X.contents (writer_of faults.new))) }
         ensures failure { IfErr result (λ failure. (query : Query) → (grammar : Grammar) → (lists : List (List ℕ))
             → WasAsked query grammar lists self
             → IsStreamFailure query grammar lists (R.remaining input.old) (W.contents out.old) (W.contents out.new)

@@ -4,10 +4,12 @@ ghost use Rattle.std.specs.Io.KnownBytes.{Keeps};
 ghost use Rattle.ipnet.specs.declared.parser.Grammar.{Grammar};
 ghost use Rattle.netset_lib.specs.Streams.{WasAsked, IsStreamed, IsStreamedInPart};
 ghost use Rattle.netset_lib.specs.declared.query.Query.{Query};
+ghost use Rattle.ipnet_lists.specs.Reports.{ExplainsEntry};
 ghost use Rattle.ipnet_text.specs.Outputs.{IsWritten, IsFrontWritten};
 ghost use Rattle.ipnet_text.specs.Watched.{writer_of, HasFailed};
 ghost use Rattle.netset_lib.specs.ListReports.{IsStreamReport, IsStreamBegun};
 ghost use Rattle.netset_lib.specs.Runs.{IsReportedLast};
+ghost use Rattle.netset_lib.specs.StepReports.{AreTold};
 
 use crate::reports::{UNWRITABLE, report_named, report_words};
 use crate::runs::{Report, end_with};
@@ -53,7 +55,9 @@ pub fn run_stream<R: Read, W: Write, X: Write>(
         → WasAsked query grammar lists stream
         → ((s : Streamed) × (s.refused ≢ 0)
         × IsStreamed query grammar lists (R.remaining input.old) (R.remaining input.new)
-        (W.contents out.old) (W.contents out.new) s)
+        (W.contents out.old) (W.contents out.new) s
+        × (¬ (HasFailed faults.new) → AreTold ExplainsEntry names.now s.refused
+        (X.contents (writer_of faults.old)) (X.contents (writer_of faults.new))))
         ⊎ IsReportedLast (λ failure. IsWritten (IsStreamReport failure names.now))
         (λ failure. IsFrontWritten (IsStreamBegun failure names.now))
         (X.contents (writer_of faults.old)) (X.contents (writer_of faults.new)) (¬ (HasFailed faults.new)) }

@@ -11,18 +11,20 @@ ghost use Rattle.ipnet_text.specs.Watched.{writer_of, HasFailed};
 ghost use Rattle.ipnet_lists.specs.Lists.{after_mark};
 ghost use Rattle.netset_lib.specs.Reports.{IsReportedAs};
 ghost use Rattle.netset_lib.specs.Runs.{IsReportedLast};
+ghost use Rattle.netset_lib.specs.StepReports.{AreTold, AreToldSince};
 ghost use Rattle.netset_words.specs.declared.lines_request.LinesRequest.{LinesRequest};
 ghost use Rattle.netset_words.specs.LogLines.{LogResult};
 ghost use Rattle.netset_words.specs.LogReports.{lines_word, log_line, log_name, nones_line};
 ghost use Rattle.netset_words.specs.Logs.{IsLogFiltered, IsLogFilteredButSome, IsLogFilteredInPart, IsFrontPrinted};
 ghost use Rattle.netset_words.specs.Logs.{IsFilterFor, HasCounts};
 ghost use Rattle.netset_words.specs.FilterSteps.{IsLogUpTo, IsTaken, IsStreamed};
+ghost use Rattle.netset_words.specs.WordReports.{ExplainsWord};
 
 use crate::line_filter::LineFilter;
 use crate::refused_word::RefusedWords;
-use ipnet_lists::{MOST_READS, Part, ReadFailure, begin_input, report_since, write_parts};
+use ipnet_lists::{MOST_READS, Part, ReadFailure, begin_input, write_parts};
 use ipnet_text::{ReadError, Watched, Window};
-use netset_lib::reports::{UNWRITABLE, report_named, report_words};
+use netset_lib::reports::{UNWRITABLE, report_named, report_new, report_words};
 use netset_lib::runs::{Report, end_with};
 use netset_lib::write_and_flush;
 use std::alloc::AllocError;
@@ -104,6 +106,8 @@ fn read_log<R: Read, W: Write, X: Write>(
         (W.contents out.old) (W.contents out.new)) }
     ensures appended { (text : List ℕ)
         × Appends (X.contents (writer_of faults.old)) (X.contents (writer_of faults.new)) text }
+    ensures told { IfOk result (λ f. ¬ (HasFailed faults.new) → AreToldSince ExplainsWord names.now filter.undecided
+        f.undecided (X.contents (writer_of faults.old)) (X.contents (writer_of faults.new))) }
     ensures quiet { IfOk result (λ f. (how : LinesRequest) → (set : IpSet) → IsLogUpTo how set [] 0 [] filter
         → f.undecided.count ≡ 0 → Keeps (X.contents (writer_of faults.old)) (X.contents (writer_of faults.new))) }
 {
@@ -117,7 +121,7 @@ fn read_log<R: Read, W: Write, X: Write>(
         take_bytes(&mut filter, held, more)?;
         window.take(all);
         put(&mut filter.answers.text, out)?;
-        let _ = report_since(faults, names, &filter.undecided, before);
+        report_new(faults, names, &filter.undecided, before);
         if !more {
             return Ok(filter);
         }
@@ -150,6 +154,10 @@ pub fn filter_log<R: Read, W: Write, X: Write>(
         (W.contents out.old) (W.contents out.new)) }
     ensures appended { (text : List ℕ)
         × Appends (X.contents (writer_of faults.old)) (X.contents (writer_of faults.new)) text }
+    ensures told { IfOk result (λ log. (how : LinesRequest) → (set : IpSet)
+        → IsFilterFor how set filter → ¬ (HasFailed faults.new)
+        → AreTold ExplainsWord names.now log.undecided.count
+        (X.contents (writer_of faults.old)) (X.contents (writer_of faults.new))) }
     ensures quiet { IfOk result (λ log. (how : LinesRequest) → (set : IpSet)
         → IsFilterFor how set filter → log.undecided.count ≡ 0
         → Keeps (X.contents (writer_of faults.old)) (X.contents (writer_of faults.new))) }

@@ -20,6 +20,7 @@ returns-in-Ok-clause-reported g c = λ two query grammar lists h.
       c.in-Ok.streamed,
       λ none. absurd (omega (arith, two, c.stream_status.ensures.whole.1 none)),
       c.in-Ok.ensures.streamed query grammar lists h,
+      c.in-Ok.ensures.told query grammar lists h,
     )
 
 pub returns-in-Err-clause-reported : goal.returns-in-Err-clause-reported

@@ -5,8 +5,10 @@ use Rattle.ipnet_sets.specs.Members.{IsMember}
 use Rattle.ipnet_text.specs.Window.{held}
 use Rattle.ipnet_text.specs.Watched.{writer_of}
 use Rattle.netset_lib.proofs.RunLaws.{appended_more}
+use Rattle.netset_lib.proofs.StepLaws.{told_none, told_more}
 use Rattle.netset_lib.proofs.StreamParts.{on_err}
 use Rattle.netset_words.specs.FilterSteps.{IsTaken}
+use Rattle.netset_words.specs.WordReports.{ExplainsWord}
 use Rattle.netset_words.proofs.LogParts.{nothing_part, reading_part, taken_part, starts_with_all}
 use Rattle.netset_words.proofs.LogReading.{IsLogReading, reading_begins, reading_goes, reading_ends, still_quiet}
 use Rattle.netset_words.proofs.lines_program.read_log.Goals as goal
@@ -17,6 +19,8 @@ loop-init g c = record {
       (g.R.Read.remaining c.begin_input.new.input) (g.W.Write.contents c.args.out.now) c.args.filter
       c.begin_input.new.window c.in_ok-more.ensures;
   appended = ([], Appends-nil (g.X.Write.contents (writer_of c.args.faults.now)));
+  told = λ sound. told_none ExplainsWord c.args.names.now c.args.filter.undecided
+      (g.X.Write.contents (writer_of c.args.faults.now));
   quiet = λ how set begun none. Keeps-refl (g.X.Write.contents (writer_of c.args.faults.now));
 }
 
@@ -52,13 +56,19 @@ loop-preserved g c =
           (c.take.ensures ∙ drop_of_length-le (held c.loop.window) (omega (arith, ap length c.held-held.ensures.value)))
           window read c.in_ok-more-2.ensures.end;
       appended = appended_more (g.X.Write.contents (writer_of c.args.faults.now))
-          (g.X.Write.contents (writer_of c.loop.faults)) (g.X.Write.contents (writer_of c.report_since.new.faults))
-          c.loop.invariant.appended c.report_since.ensures.front;
+          (g.X.Write.contents (writer_of c.loop.faults)) (g.X.Write.contents (writer_of c.report_new.new.faults))
+          c.loop.invariant.appended c.report_new.ensures.appended;
+      told = λ sound.
+          told_more ExplainsWord c.args.names.now c.args.filter.undecided c.loop.filter.undecided
+          c.take_bytes.new.filter.undecided c.len.result (g.X.Write.contents (writer_of c.args.faults.now))
+          (g.X.Write.contents (writer_of c.loop.faults)) (g.X.Write.contents (writer_of c.report_new.new.faults))
+          c.len.ensures (c.loop.invariant.told (λ failed. sound (c.report_new.ensures.kept failed)))
+          (c.report_new.ensures.whole sound);
       quiet = still_quiet c.loop.more (left c.args.input.now) (left c.loop.input) (to c.args.out.now) (to c.loop.out)
           (g.X.Write.contents (writer_of c.args.faults.now)) (g.X.Write.contents (writer_of c.loop.faults))
-          (g.X.Write.contents (writer_of c.report_since.new.faults)) c.args.filter c.loop.filter c.take_bytes.new.filter
+          (g.X.Write.contents (writer_of c.report_new.new.faults)) c.args.filter c.loop.filter c.take_bytes.new.filter
           c.loop.window shown c.loop.invariant.reading c.in_ok-take_bytes.ensures c.loop.invariant.quiet
-          c.report_since.ensures.none;
+          c.report_new.ensures.none;
     }
 
 pub returns-then-not-more-clause-whole : goal.returns-then-not-more-clause-whole
@@ -94,9 +104,9 @@ returns-then-not-more-clause-quiet g c =
     still_quiet c.loop.more (left c.args.input.now) (left c.loop.input) (to c.args.out.now) (to c.loop.out)
     (g.X.Write.contents (writer_of c.args.faults.now)) (g.X.Write.contents (writer_of c.loop.faults))
     (g.X.Write.contents
-    (writer_of c.report_since.new.faults)) c.args.filter c.loop.filter c.take_bytes.new.filter c.loop.window
+    (writer_of c.report_new.new.faults)) c.args.filter c.loop.filter c.take_bytes.new.filter c.loop.window
     c.held-held.result.now c.loop.invariant.reading c.in_ok-take_bytes.ensures c.loop.invariant.quiet
-    c.report_since.ensures.none
+    c.report_new.ensures.none
 
 pub returns-in_err-window-clause-part : goal.returns-in_err-window-clause-part
 returns-in_err-window-clause-part g c =
@@ -151,12 +161,12 @@ returns-clause-part g c =
 pub returns-then-not-more-clause-appended : goal.returns-then-not-more-clause-appended
 returns-then-not-more-clause-appended g c =
     appended_more (g.X.Write.contents (writer_of c.args.faults.now)) (g.X.Write.contents (writer_of c.loop.faults))
-    (g.X.Write.contents (writer_of c.report_since.new.faults)) c.loop.invariant.appended c.report_since.ensures.front
+    (g.X.Write.contents (writer_of c.report_new.new.faults)) c.loop.invariant.appended c.report_new.ensures.appended
 
 pub returns-in_err-more-2-clause-appended : goal.returns-in_err-more-2-clause-appended
 returns-in_err-more-2-clause-appended g c =
     appended_more (g.X.Write.contents (writer_of c.args.faults.now)) (g.X.Write.contents (writer_of c.loop.faults))
-    (g.X.Write.contents (writer_of c.report_since.new.faults)) c.loop.invariant.appended c.report_since.ensures.front
+    (g.X.Write.contents (writer_of c.report_new.new.faults)) c.loop.invariant.appended c.report_new.ensures.appended
 
 pub returns-in_err-window-clause-appended : goal.returns-in_err-window-clause-appended
 returns-in_err-window-clause-appended g c = ([], Appends-nil (g.X.Write.contents (writer_of c.args.faults.now)))
@@ -172,3 +182,11 @@ returns-in_err-put-clause-appended g c = c.loop.invariant.appended
 
 pub returns-clause-appended : goal.returns-clause-appended
 returns-clause-appended g c = c.loop.invariant.appended
+
+pub returns-then-not-more-clause-told : goal.returns-then-not-more-clause-told
+returns-then-not-more-clause-told g c = λ sound.
+    told_more ExplainsWord c.args.names.now c.args.filter.undecided c.loop.filter.undecided
+    c.take_bytes.new.filter.undecided c.len.result (g.X.Write.contents (writer_of c.args.faults.now))
+    (g.X.Write.contents (writer_of c.loop.faults)) (g.X.Write.contents (writer_of c.report_new.new.faults))
+    c.len.ensures (c.loop.invariant.told (λ failed. sound (c.report_new.ensures.kept failed)))
+    (c.report_new.ensures.whole sound)
