@@ -1,4 +1,4 @@
-use Rattle.std.proofs.Common.{[], refl, subst, ◌∙◌, ◌++◌, length, ap, arith}
+use Rattle.std.proofs.Common.{◌≡◌, [], refl, subst, ◌∙◌, ◌++◌, length, ap, arith, vec_len, rules}
 use Rattle.std.proofs.Math.ListN.{drop_of_length-le}
 use Rattle.std.proofs.KnownBytes.{Appends-nil, Keeps-refl}
 use Rattle.ipnet_sets.specs.Members.{IsMember}
@@ -59,10 +59,12 @@ loop-preserved g c =
           (g.X.Write.contents (writer_of c.loop.faults)) (g.X.Write.contents (writer_of c.report_new.new.faults))
           c.loop.invariant.appended c.report_new.ensures.appended;
       told = λ sound.
+          let kept = c.loop.filter.undecided.shown in
+          let size : vec_len kept ≡ length kept.items = search rules in
           told_more ExplainsWord c.args.names.now c.args.filter.undecided c.loop.filter.undecided
           c.take_bytes.new.filter.undecided c.len.result (g.X.Write.contents (writer_of c.args.faults.now))
           (g.X.Write.contents (writer_of c.loop.faults)) (g.X.Write.contents (writer_of c.report_new.new.faults))
-          c.len.ensures (c.loop.invariant.told (λ failed. sound (c.report_new.ensures.kept failed)))
+          (c.len.ensures ∙ size) (c.loop.invariant.told (λ failed. sound (c.report_new.ensures.kept failed)))
           (c.report_new.ensures.whole sound);
       quiet = still_quiet c.loop.more (left c.args.input.now) (left c.loop.input) (to c.args.out.now) (to c.loop.out)
           (g.X.Write.contents (writer_of c.args.faults.now)) (g.X.Write.contents (writer_of c.loop.faults))
@@ -185,8 +187,10 @@ returns-clause-appended g c = c.loop.invariant.appended
 
 pub returns-then-not-more-clause-told : goal.returns-then-not-more-clause-told
 returns-then-not-more-clause-told g c = λ sound.
+    let kept = c.loop.filter.undecided.shown in
+    let size : vec_len kept ≡ length kept.items = search rules in
     told_more ExplainsWord c.args.names.now c.args.filter.undecided c.loop.filter.undecided
     c.take_bytes.new.filter.undecided c.len.result (g.X.Write.contents (writer_of c.args.faults.now))
     (g.X.Write.contents (writer_of c.loop.faults)) (g.X.Write.contents (writer_of c.report_new.new.faults))
-    c.len.ensures (c.loop.invariant.told (λ failed. sound (c.report_new.ensures.kept failed)))
+    (c.len.ensures ∙ size) (c.loop.invariant.told (λ failed. sound (c.report_new.ensures.kept failed)))
     (c.report_new.ensures.whole sound)
