@@ -1,6 +1,7 @@
 -- Lemmas of this crate.
 pub mod Cases
 pub mod WordLaws
+pub mod PartLaws
 pub mod MappedLaws
 pub mod PlaceLaws
 pub mod PlaceBytes

@@ -12,6 +12,7 @@ pub mod lines_request;
 mod log_entry;
 mod log_line;
 mod mapped;
+mod part;
 mod path;
 mod place;
 pub mod refused_word;

@@ -46,7 +46,7 @@ fn push_item(answer: &mut Vec<u8>, item: LineItem<'_>) -> Result<(), AllocError>
 /// Reads an entry of a line, and appends it to the answer if it is wanted.
 fn read_entry_item<'a>(
     answer: &mut Vec<u8>,
-    request: ExtractRequest,
+    request: ExtractRequest<'_>,
     state: LineState<'a>,
     item: LineItem<'a>,
 ) -> Result<LineState<'a>, AllocError>
@@ -83,7 +83,7 @@ fn read_mask_item<'a>(state: LineState<'a>, text: &'a [u8]) -> LineState<'a>
 /// Reads an item of a line: an entry is appended to the answer, if it is wanted.
 fn read_item<'a>(
     answer: &mut Vec<u8>,
-    request: ExtractRequest,
+    request: ExtractRequest<'_>,
     state: LineState<'a>,
     item: LineItem<'a>,
 ) -> Result<LineState<'a>, AllocError>
@@ -102,7 +102,7 @@ fn read_item<'a>(
 /// Fails if memory runs out.
 pub(crate) fn read_items<'a>(
     answer: &mut Vec<u8>,
-    request: ExtractRequest,
+    request: ExtractRequest<'_>,
     line: &'a [u8],
 ) -> Result<LineState<'a>, AllocError>
     ensures { IfOk result (λ state. (items : List Item) × AreItems request (words_of line.now) items

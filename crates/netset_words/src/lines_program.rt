@@ -71,7 +71,7 @@ fn put<W: Write>(text: &mut Vec<u8>, out: &mut W) -> Result<(), LogFailure>
 }
 
 /// Reads bytes of a log, and its end if no more may come.
-fn take_bytes(filter: &mut LineFilter, bytes: &[u8], more: bool) -> Result<(), AllocError>
+fn take_bytes(filter: &mut LineFilter<'_>, bytes: &[u8], more: bool) -> Result<(), AllocError>
     ensures { OnOk result ((how : LinesRequest) → (set : IpSet) → (written : List ℕ) → (least : ℕ)
         → (before : List ℕ) → IsLogUpTo how set written least before filter.old
         → IsTaken more how set written least (before ++ bytes.now) filter.new) }
@@ -84,13 +84,13 @@ fn take_bytes(filter: &mut LineFilter, bytes: &[u8], more: bool) -> Result<(), A
 }
 
 /// Reads a log up to its end, and returns the filter.
-fn read_log<R: Read, W: Write, X: Write>(
-    filter: LineFilter,
+fn read_log<'a, R: Read, W: Write, X: Write>(
+    filter: LineFilter<'a>,
     names: &[&str],
     input: &mut R,
     out: &mut W,
     faults: &mut X,
-) -> Result<LineFilter, LogFailure>
+) -> Result<LineFilter<'a>, LogFailure>
     ensures whole { IfOk result (λ f. (how : LinesRequest) → (set : IpSet)
         → IsLogUpTo how set [] 0 [] filter → IsStreamed how set (R.remaining input.old) (R.remaining input.new)
         (W.contents out.old) (W.contents out.new) f) }
@@ -128,7 +128,7 @@ fn read_log<R: Read, W: Write, X: Write>(
 /// by 10.0.0.0/8, of "10.0.0.1 GET /\n::1 GET /\nx\n": out gets "10.0.0.1 GET /\n"; printed, and one line has no entry
 /// ```
 pub fn filter_log<R: Read, W: Write, X: Write>(
-    filter: LineFilter,
+    filter: LineFilter<'_>,
     names: &[&str],
     input: &mut R,
     out: &mut W,
@@ -237,7 +237,7 @@ fn log_name<'a>(names: &[&'a str]) -> &'a str
 ///     "netset: log: 1 line without an entry\n"
 /// ```
 pub fn run_lines<R: Read, W: Write, X: Write>(
-    filter: LineFilter,
+    filter: LineFilter<'_>,
     names: &[&str],
     input: &mut R,
     out: &mut W,
