@@ -1,4 +1,5 @@
 -- The definitions that the contracts of this crate use.
+pub mod AfterTexts
 pub mod Arguments
 pub mod BadLines
 pub mod Calls

@@ -19,8 +19,8 @@ use Rattle.netset_words.specs.declared.log_line.Verdict.TheVariants as Verdicts
 use Rattle.netset_words.specs.declared.refused_word.WordCause.TheVariants as Causes
 use Rattle.ipnet_lists.specs.RefusedLines.{HasMore, AreRefused}
 use Rattle.netset_words.specs.LogLines.{LogResult, no_result, joined, IsShortLine, IsLogLine, AreLogLines}
-use Rattle.netset_words.specs.LogLines.{IsLineVerdict, treated, treated_front, is_printed, report_of, result_of, front_of}
-use Rattle.netset_words.specs.LogLines.{has_none}
+use Rattle.netset_words.specs.LogLines.{IsLineVerdict, treated, treated_front, is_printed, report_of, result_of}
+use Rattle.netset_words.specs.LogLines.{front_of, has_none}
 use Rattle.netset_words.specs.LogSteps.{AddsResult, rest_of, after_front}
 use Rattle.netset_words.specs.FilterSteps.{IsFilterUpTo}
 use Rattle.netset_words.specs.Words.{cuts}

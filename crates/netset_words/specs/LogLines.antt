@@ -67,7 +67,8 @@ IsVerdict how InSet words Verdicts.Other = AreNotChosen how.any how InSet words
 IsVerdict how InSet words Verdicts.NoEntry = All (IsNoEntryWord how.grammar) words
 
 -- The verdict on a line: on the words of the part that is read.
--- Example: with the set 10.0.0.0/8, and after `DST=`, `SRC=10.0.0.1 DST=::1` is not chosen, and `10.0.0.1` has no entry.
+-- Example: with the set 10.0.0.0/8 and after `DST=`, `SRC=10.0.0.1 DST=::1` is not chosen, and `10.0.0.1` has no
+-- entry.
 abbrev pub IsLineVerdict : LinesRequest → (Address → Type 0) → List ℕ → Verdict → Type 0
 IsLineVerdict how InSet line verdict =
     (part : List ℕ) × IsPartAfter how.after.now line part × IsVerdict how InSet (words_of part) verdict
