@@ -1,4 +1,4 @@
--- What follows the first occurrence of a text in a line.
+-- The part of a line that follows the first occurrence of a text.
 use Rattle.std.proofs.Common.{◌≡◌, ℕ, ◌+◌, ◌≤◌, List, [], ◌∷◌, ◌++◌, length, take, drop, refl, sym, ap, ◌∙◌}
 use Rattle.std.proofs.Common.{arith, inl, inr, length-take-le, length-append}
 use Rattle.std.proofs.Math.Seq.{drop-append_seam, take-append_seam}

@@ -15,3 +15,5 @@ pub mod FilterSteps
 pub mod Logs
 pub mod WordReports
 pub mod LogReports
+pub mod Tallies
+pub mod TallySteps

@@ -1,7 +1,7 @@
 -- The part of a line in which entries are looked for: what follows the first occurrence of a text.
 use Rattle.std.specs.Prelude.{◌≡◌, ◌≤◌, ◌⊎◌, ℕ, List, [], ◌++◌, length}
 
--- What follows the first occurrence of the text in the line. An empty text occurs at the start of each line.
+-- The rest of the line follows the first occurrence of the text. An empty text occurs at the start of each line.
 -- Example: `5.6.7.8` follows `DST=` in `SRC=1.2.3.4 DST=5.6.7.8`.
 pub record IsAfterFirst (text line rest : List ℕ) : Type 0 where
   pub front : List ℕ

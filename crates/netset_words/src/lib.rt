@@ -16,12 +16,17 @@ mod part;
 mod path;
 mod place;
 pub mod refused_word;
+pub mod tally;
+pub mod tally_program;
+mod tally_reader;
 mod word;
 mod word_reader;
 
 pub use extraction::Extraction;
 pub use item::ExtractRequest;
 pub use line_filter::LineFilter;
-pub use lines_program::{FilteredLog, LogFailure, filter_log, run_lines};
+pub use lines_program::{FilteredLog, LogFailure, filter_log, report_nones, run_lines};
 pub use lines_request::LinesRequest;
 pub use refused_word::{RefusedWord, RefusedWords, WordCause};
+pub use tally::{Tally, TallyRequest};
+pub use tally_program::TallyCommand;

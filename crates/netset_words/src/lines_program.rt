@@ -175,8 +175,12 @@ fn lines_word(count: usize) -> &'static str
     if count == 1 { " line" } else { " lines" }
 }
 
-/// Reports the number of lines without an entry. Nothing is printed if there is none.
-fn report_nones<X: Write>(faults: &mut X, name: &str, nones: usize) -> io::Result<()>
+/// Reports the number of lines of the log of this name that have no entry. Nothing is printed if there is none.
+///
+/// ```text
+/// of log, with 2: "netset: log: 2 lines without an entry\n"
+/// ```
+pub fn report_nones<X: Write>(faults: &mut X, name: &str, nones: usize) -> io::Result<()>
     ensures none { nones ≡ 0 → Keeps (X.contents faults.old) (X.contents faults.new) }
     ensures begun { nones ≢ 0 → IsFrontWritten (λ t. t ≡ nones_line name.now nones)
         (X.contents faults.old) (X.contents faults.new) }
