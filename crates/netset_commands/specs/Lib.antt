@@ -12,4 +12,5 @@ pub mod Words
 pub mod InfoWords
 pub mod FindOptions
 pub mod SelectOptions
+pub mod TallyOptions
 pub mod Without

@@ -29,6 +29,7 @@ mod rules;
 mod select;
 mod shorten;
 mod table;
+mod tally;
 mod texts;
 mod whole_lines;
 mod without;

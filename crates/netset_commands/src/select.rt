@@ -146,7 +146,7 @@ impl ListReader for SelectedLists {
 
 /// Reads the prefix length of the option, or `None` if it is omitted. If the word is not one, it is reported, and the
 /// error is the exit status.
-fn length_of(rt: &HostRuntime, matches: &ArgMatches, id: &str) -> Result<Option<u8>, u8>
+pub fn length_of(rt: &HostRuntime, matches: &ArgMatches, id: &str) -> Result<Option<u8>, u8>
     ensures length { IfOk result (IsLengthGiven matches.now id.now) }
     ensures failed { IfErr result (λ status. status ≡ 2) }
 {
@@ -160,7 +160,7 @@ fn length_of(rt: &HostRuntime, matches: &ArgMatches, id: &str) -> Result<Option<
 }
 
 /// Refuses a prefix length above the greatest of its family. It is reported, and the error is the exit status.
-fn check_length(rt: &HostRuntime, length: Option<u8>, greatest: u8) -> Result<(), u8>
+pub fn check_length(rt: &HostRuntime, length: Option<u8>, greatest: u8) -> Result<(), u8>
     ensures within { IsOk result ↔ IsAtMost greatest length }
     ensures failed { IfErr result (λ status. status ≡ 2) }
 {
