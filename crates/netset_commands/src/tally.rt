@@ -1,18 +1,23 @@
 //! The command `tally`: its arguments, and its run.
-ghost use Rattle.std.specs.Prelude.{◌≡◌, ◌≤◌, codes, IfOk, IfErr};
+ghost use Rattle.std.specs.Prelude.{◌≡◌, ◌≤◌, codes, IfOk, IfErr, option_map};
+ghost use Rattle.clap.specs.Matches.{first_value, found_of};
 ghost use Rattle.netset_commands.specs.FitOptions.{IsNumberGiven};
 ghost use Rattle.netset_commands.specs.TallyOptions.{IsFamilyLength, IsTallyRequest};
 
 use crate::after::{AFTER_OPTION, after_or_report};
-use crate::arguments::{FIRST, LEGACY_FLAG, MAPPED, OUTPUT_OPTION, flags_of, is_set};
+use crate::arguments::{
+    ArgumentFailure, FIRST, LEGACY_FLAG, MAPPED, OUTPUT_OPTION, flags_of, is_set,
+    report_argument_failure,
+};
 use crate::fit::number_of;
 use crate::named_lists::name_of_list;
 use crate::select::{check_length, length_of};
 use crate::table::{ARGUMENT, Argument, Form, Subcommand};
 use crate::whole_lines::end_log;
 use clap::ArgMatches;
-use netset_files::{Writers, open_log, report_unread};
-use netset_lib::run_text;
+use netset_entries::NumbersCommand;
+use netset_files::{STANDARD_INPUT, Writers, bytes_of, open_log, report_unread};
+use netset_lib::{TextCommand, run_text};
 use netset_words::{Tally, TallyCommand, TallyRequest, report_nones};
 
 /// The name of the command.
@@ -25,6 +30,9 @@ const IPV6_LENGTH: &str = "ipv6-length";
 
 /// The id and the name of the option for the number of networks.
 const TOP: &str = "top";
+
+/// The id and the name of the option for a list whose entries are counted.
+const BY: &str = "by";
 
 /// The options of a tally, and its log.
 const TALLY_ARGUMENTS: &[Argument] = &[
@@ -44,6 +52,13 @@ const TALLY_ARGUMENTS: &[Argument] = &[
         id: TOP,
         form: Form::Value(TOP, "N"),
         help: "Print only the N networks with the most lines",
+        ..ARGUMENT
+    },
+    Argument {
+        id: BY,
+        form: Form::Value(BY, "LIST"),
+        help: "Print for each entry of LIST, as written, how many lines have their first entry inside it",
+        conflicts: &[IPV4_LENGTH, IPV6_LENGTH, TOP],
         ..ARGUMENT
     },
     Argument {
@@ -108,31 +123,108 @@ fn top_of(rt: &HostRuntime, matches: &ArgMatches) -> Result<Option<usize>, u8>
     }
 }
 
-/// Reads the log of this name. If that fails, or if it begins like UTF-16, that is reported, and the error is the exit
+/// A log to tally: its name, and which of its networks are counted.
+#[derive(Clone, Copy)]
+struct Log<'a> {
+    name: &'a str,
+    request: TallyRequest<'a>,
+}
+
+/// Reads the log. If that fails, or if it begins like UTF-16, that is reported, and the error is the exit
 /// status.
-fn read_log(
-    rt: &HostRuntime,
-    request: TallyRequest<'_>,
-    log: &str,
-    writers: &mut Writers<'_>,
-) -> Result<Tally, u8>
+fn read_log(rt: &HostRuntime, log: Log<'_>, writers: &mut Writers<'_>) -> Result<Tally, u8>
     ensures { IfErr result (λ status. status ≡ 2) }
 {
-    let mut input = match open_log(rt, log) {
+    let name = log.name;
+    let mut input = match open_log(rt, name) {
         Ok(input) => input,
-        Err(unread) => return Err(report_unread(rt, log, &unread)),
+        Err(unread) => return Err(report_unread(rt, name, &unread)),
     };
-    let tally = match Tally::read(rt.alloc(), request, &mut input) {
+    let tally = match Tally::read(rt.alloc(), log.request, &mut input) {
         Ok(tally) => tally,
-        Err(failure) => return Err(report_unread(rt, log, &input.input().unread(failure))),
+        Err(failure) => return Err(report_unread(rt, name, &input.input().unread(failure))),
     };
     if input.is_utf16() {
-        return Err(end_log(true, log, 0, &mut writers.faults));
+        return Err(end_log(true, name, 0, &mut writers.faults));
     }
     Ok(tally)
 }
 
-/// Reads the arguments and the log, prints its networks with their numbers of lines, and returns the exit status.
+/// Runs the command, which has an answer for the log of this name, and then reports the number of lines without an
+/// entry. `names` are the names of the lists. Returns the exit status.
+fn run_and_report<C: TextCommand>(
+    command: C,
+    names: &[&str],
+    log: &str,
+    nones: usize,
+    writers: &mut Writers<'_>,
+) -> u8
+    ensures { result ≤ 2 }
+{
+    let status = run_text(command, names, &mut writers.answer, &mut writers.faults);
+    if status < 2 {
+        let _ = report_nones(&mut writers.faults, log, nones);
+    }
+    status
+}
+
+/// Reads the log, prints at most the first `top` of its networks with their numbers of lines, and returns the exit
+/// status.
+fn print_networks(
+    rt: &HostRuntime,
+    log: Log<'_>,
+    top: Option<usize>,
+    writers: &mut Writers<'_>,
+) -> u8
+    ensures { result ≤ 2 }
+{
+    let tally = match read_log(rt, log, writers) {
+        Ok(tally) => tally,
+        Err(status) => return status,
+    };
+    let (alloc, nones) = (rt.alloc(), tally.nones());
+    let command = TallyCommand { alloc, tally, top };
+    run_and_report(command, &[log.name], log.name, nones, writers)
+}
+
+/// Reads the list of this name and the log, prints the number of lines of each entry of the list, and returns the exit
+/// status.
+fn print_numbers(rt: &HostRuntime, list: &str, log: Log<'_>, writers: &mut Writers<'_>) -> u8
+    ensures { result ≤ 2 }
+{
+    if list == STANDARD_INPUT && log.name == STANDARD_INPUT {
+        return report_argument_failure(rt, ArgumentFailure::InputTwice);
+    }
+    let bytes = match bytes_of(rt, list, "entries", writers.reports) {
+        Ok(bytes) => bytes,
+        Err(status) => return status,
+    };
+    let tally = match read_log(rt, log, writers) {
+        Ok(tally) => tally,
+        Err(status) => return status,
+    };
+    let nones = tally.nones();
+    let Ok(rows) = tally.into_rows() else {
+        return report_argument_failure(rt, ArgumentFailure::Memory);
+    };
+    let command = NumbersCommand {
+        alloc: rt.alloc(),
+        list: bytes.as_slice(),
+        grammar: log.request.grammar,
+        rows,
+    };
+    run_and_report(command, &[list], log.name, nones, writers)
+}
+
+/// Returns the name of the list whose entries are counted, if it is given.
+fn list_of<'a>(matches: &ArgMatches<'a>) -> Option<&'a str>
+    ensures { option_map (λ name. name.now) result ≡ first_value (found_of matches.now) (codes "by") }
+{
+    matches.get_str(BY)
+}
+
+/// Reads the arguments and the log, prints its networks or the entries of a list with their numbers of lines, and
+/// returns the exit status.
 #[inline(never)]
 pub fn tally_log(rt: &HostRuntime, matches: &ArgMatches, writers: &mut Writers<'_>) -> u8
     ensures { result ≤ 2 }
@@ -145,17 +237,10 @@ pub fn tally_log(rt: &HostRuntime, matches: &ArgMatches, writers: &mut Writers<'
         Ok(top) => top,
         Err(status) => return status,
     };
-    let log = name_of_list(matches, FIRST);
-    let tally = match read_log(rt, request, log, writers) {
-        Ok(tally) => tally,
-        Err(status) => return status,
-    };
-    let nones = tally.nones();
-    let alloc = rt.alloc();
-    let command = TallyCommand { alloc, tally, top };
-    let status = run_text(command, &[log], &mut writers.answer, &mut writers.faults);
-    if status < 2 {
-        let _ = report_nones(&mut writers.faults, log, nones);
+    let name = name_of_list(matches, FIRST);
+    let log = Log { name, request };
+    match list_of(matches) {
+        Some(list) => print_numbers(rt, list, log, writers),
+        None => print_networks(rt, log, top, writers),
     }
-    status
 }

@@ -120,23 +120,24 @@ first_rows (Some n) rows = take n rows
 abbrev pub row_line : IpNet × ℕ → List ℕ
 row_line row = canonical_text (ip_network row.0) ++ 9 ∷ (decimal row.1 ++ 10 ∷ [])
 
--- The text of a tally: the networks of the list, each once with the number of times that it occurs. The larger number
--- comes first; networks with one number are ascending. At most the first `top` are printed.
--- Example: of 10.0.0.0/8, ::1/128, 10.0.0.0/8: `10.0.0.0/8`, a tab and 2, then `::1/128`, a tab and 1.
-pub record IsTallyText (top : Option ℕ) (networks : List Network) (text : List ℕ) : Type 0 where
-  pub rows : List (IpNet × ℕ)
-  pub ascending : IsAscending (networks_of (ip_routes rows))
-  pub counted : AreOccurrences networks (ip_routes rows)
-  pub sorted : List (IpNet × ℕ)
-  pub by_number : AreByNumber rows sorted
-  pub spelled : text ≡ flat_map row_line (first_rows top sorted)
-
--- The text is the tally of the networks of these lines.
-pub record IsTallyAnswer (how : TallyRequest) (top : Option ℕ) (lines : List (List ℕ)) (text : List ℕ) : Type 0 where
+-- The networks of these lines, each once with the number of times that it occurs, in ascending order.
+pub record AreTallyRows (how : TallyRequest) (lines : List (List ℕ)) (rows : List (IpNet × ℕ)) : Type 0 where
   pub networks : List Network
   pub nones : ℕ
   pub are : AreLineNetworks how lines networks nones
-  pub right : IsTallyText top networks text
+  pub ascending : IsAscending (networks_of (ip_routes rows))
+  pub counted : AreOccurrences networks (ip_routes rows)
+
+-- The text is the tally of these lines: the larger number comes first, networks with one number are ascending, and at
+-- most the first `top` are printed.
+-- Example: of lines with the networks 10.0.0.0/8, ::1/128 and 10.0.0.0/8: `10.0.0.0/8`, a tab and 2, then `::1/128`, a
+-- tab and 1.
+pub record IsTallyAnswer (how : TallyRequest) (top : Option ℕ) (lines : List (List ℕ)) (text : List ℕ) : Type 0 where
+  pub rows : List (IpNet × ℕ)
+  pub are : AreTallyRows how lines rows
+  pub sorted : List (IpNet × ℕ)
+  pub by_number : AreByNumber rows sorted
+  pub spelled : text ≡ flat_map row_line (first_rows top sorted)
 
 -- `found` says whether a line has an entry.
 pub record IsTallyOutcome (how : TallyRequest) (lines : List (List ℕ)) (found : Bool) : Type 0 where

@@ -3,13 +3,10 @@
 use Rattle.std.specs.Prelude.{◌≡◌, ℕ, Bool, true, false, List, [], ◌++◌}
 use Rattle.ipnet_base.specs.Network.{Network}
 use Rattle.ipnet.specs.Lines.{lines_of}
-use Rattle.ipnet_base.specs.Blocks.{IsAscending}
-use Rattle.ipnet.specs.declared.net.IpNet.{IpNet}
 use Rattle.ipnet_routes.specs.RouteMapsOf.{map_routes}
-use Rattle.ipnet_routes.specs.Routes.{Route, ip_routes, networks_of}
 use Rattle.netset_words.specs.declared.tally.Tally.{Tally}
 use Rattle.netset_words.specs.declared.tally.TallyRequest.{TallyRequest}
-use Rattle.netset_words.specs.Tallies.{AreByNumber, AreLineNetworks, AreOccurrences}
+use Rattle.netset_words.specs.Tallies.{AreLineNetworks, AreOccurrences}
 
 -- The tally has exactly the networks of these lines, with the number of times that each occurs, and the number of lines
 -- without an entry.
@@ -22,13 +19,6 @@ pub record IsTallyOf (how : TallyRequest) (lines : List (List ℕ)) (t : Tally) 
 abbrev pub ReadsLines : TallyRequest → Tally → Tally → List (List ℕ) → Type 0
 ReadsLines how old new lines =
     (before : List (List ℕ)) → IsTallyOf how before old → IsTallyOf how (before ++ lines) new
-
--- The list has these routes, the larger number first.
-pub record AreSortedRoutes (routes : List (Route ℕ)) (sorted : List (IpNet × ℕ)) : Type 0 where
-  pub ascending : IsAscending (networks_of routes)
-  pub rows : List (IpNet × ℕ)
-  pub same : ip_routes rows ≡ routes
-  pub by_number : AreByNumber rows sorted
 
 -- The bytes begin with lines that were read, and the others are the front of a line, which is kept. If no more bytes
 -- come, all of them were read.

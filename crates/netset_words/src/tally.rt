@@ -1,5 +1,5 @@
 //! The networks of the lines of a log, counted.
-ghost use Rattle.std.specs.Prelude.{◌≡◌, ◌∷◌, ◌++◌, [], ℕ, List, OnOk, MatchOption};
+ghost use Rattle.std.specs.Prelude.{◌≡◌, ◌∷◌, ◌++◌, [], ℕ, List, IfOk, OnOk, MatchOption};
 ghost use Rattle.ipnet_base.specs.Network.{Network, truncation};
 ghost use Rattle.ipnet.specs.Lines.{lines_of};
 ghost use Rattle.ipnet.specs.NetworkOf.{ip_network};
@@ -115,7 +115,7 @@ pub struct Tally {
 }
 
 impl Tally {
-    ghost use Rattle.netset_words.specs.Tallies.{IsTallyOutcome};
+    ghost use Rattle.netset_words.specs.Tallies.{AreTallyRows, IsTallyOutcome};
     ghost use Rattle.netset_words.specs.TallySteps.{IsTallyOf, ReadsLines};
     ghost use Rattle.netset_words.specs.declared.tally.TallyRequest.{TallyRequest};
 
@@ -182,14 +182,18 @@ impl Tally {
         !self.counts.is_empty()
     }
 
-    /// Returns the networks, each with the number of times that it occurs.
+    /// Returns the networks in ascending order, each with the number of times that it occurs. Fails if memory runs out.
     ///
     /// ```text
     /// of "10.0.0.1 GET /\n10.0.0.2\n", with the lengths 24 and 48: 10.0.0.0/24 with 2
     /// ```
-    pub fn into_counts(self) -> RouteMap<usize>
-        ensures { result ≡ self.counts }
+    pub fn into_rows(self) -> Result<Vec<(IpNet, usize)>, AllocError>
+        ensures { IfOk result (λ rows. (how : TallyRequest) → (lines : List (List ℕ)) → IsTallyOf how lines self
+            → AreTallyRows how lines rows.items) }
     {
-        self.counts
+        // The contract of `routes` says that they are ascending.
+        let _ = self.counts.routes();
+        let table = self.counts.into_table()?;
+        Ok(table.into_routes())
     }
 }

@@ -1,14 +1,12 @@
 //! The command `tally` of the program: the networks of a log with their numbers of lines.
 ghost use Rattle.std.specs.Prelude.{◌≡◌, ◌++◌, List, ℕ, flat_map, string_bytes, IfOk, OnOk};
-ghost use Rattle.ipnet_routes.specs.RouteMapsOf.{map_routes};
 ghost use Rattle.netset_lib.specs.declared.failure.Failure.TheVariants.{Memory};
 ghost use Rattle.netset_words.specs.Tallies.{AreByNumber, IsTallyAnswer, IsTallyOutcome, first_rows, row_line};
-ghost use Rattle.netset_words.specs.TallySteps.{AreSortedRoutes, IsTallyOf};
+ghost use Rattle.netset_words.specs.TallySteps.{IsTallyOf};
 ghost use Rattle.netset_words.specs.declared.tally.TallyRequest.{TallyRequest};
 
 use crate::tally::Tally;
 use ipnet::IpNet;
-use ipnet_routes::RouteMap;
 use netset_lib::{Failure, TextCommand};
 use std::alloc::{AllocError, Global};
 use std::cmp::Reverse;
@@ -18,18 +16,6 @@ fn sort_rows(rows: &mut Vec<(IpNet, usize)>) -> Result<(), AllocError>
     ensures { OnOk result (AreByNumber rows.old.items rows.new.items) }
 {
     rows.sort_by_key(|row| Reverse(row.1))
-}
-
-/// Returns the networks in the order in which they are printed.
-fn sorted_rows(counts: RouteMap<usize>) -> Result<Vec<(IpNet, usize)>, AllocError>
-    ensures { IfOk result (λ sorted. AreSortedRoutes (map_routes counts) sorted.items) }
-{
-    // The contract of `routes` says that they are ascending.
-    let _ = counts.routes();
-    let table = counts.into_table()?;
-    let mut rows = table.into_routes();
-    sort_rows(&mut rows)?;
-    Ok(rows)
 }
 
 /// Returns at most the first `top` networks, or all.
@@ -101,7 +87,8 @@ impl TextCommand for TallyCommand {
     fn answer(self) -> Result<(String, bool), Failure> {
         let TallyCommand { alloc, tally, top } = self;
         let found = tally.has_entry();
-        let rows = sorted_rows(tally.into_counts())?;
+        let mut rows = tally.into_rows()?;
+        sort_rows(&mut rows)?;
         let text = rows_text(alloc, shown_rows(rows.as_slice(), top))?;
         Ok((text, found))
     }
