@@ -21,3 +21,7 @@ pub mod LogBytes
 pub mod LogReading
 pub mod LogParts
 pub mod LogRuns
+pub mod TallyLaws
+pub mod TallyReading
+pub mod TallyTexts
+pub mod TallyNetworks

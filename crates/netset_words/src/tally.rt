@@ -6,7 +6,7 @@ ghost use Rattle.ipnet.specs.NetworkOf.{ip_network};
 ghost use Rattle.ipnet_lists.specs.EntryOf.{entry_range};
 ghost use Rattle.ipnet_routes.specs.RouteMapsOf.{map_routes};
 ghost use Rattle.netset_words.specs.Tallies.{AreOccurrences, HasNoEntry, IsLineNetwork, IsRangeNetwork};
-ghost use Rattle.netset_words.specs.Tallies.{cut_network, length_for, line_request};
+ghost use Rattle.netset_words.specs.Tallies.{cut_network, length_for, line_request, occurrences};
 
 use crate::lines_request::LinesRequest;
 use crate::log_line::next_log_entry;
@@ -91,17 +91,24 @@ impl<'a> TallyRequest<'a> {
     }
 }
 
+/// Returns the number of times that the network, without its host bits, occurs.
+fn count_of(counts: &RouteMap<usize>, network: &IpNet) -> usize
+    ensures { (networks : List Network) → AreOccurrences networks (map_routes counts.now)
+        → result ≡ occurrences (truncation (ip_network network.now)) networks }
+{
+    match counts.get(network) {
+        Some(count) => *count,
+        None => 0,
+    }
+}
+
 /// Counts the network, without its host bits, once more. Fails if memory runs out, or if it occurs more often than a
 /// `usize` counts.
 fn count_network(counts: &mut RouteMap<usize>, network: &IpNet) -> Result<(), AllocError>
     ensures { OnOk result ((networks : List Network) → AreOccurrences networks (map_routes counts.old)
         → AreOccurrences (networks ++ truncation (ip_network network.now) ∷ []) (map_routes counts.new)) }
 {
-    let before = match counts.get(network) {
-        Some(count) => *count,
-        None => 0,
-    };
-    let count = next_number(before)?;
+    let count = next_number(count_of(counts, network))?;
     counts.insert(network, count)?;
     Ok(())
 }
