@@ -182,7 +182,7 @@ fn print_networks(
         Ok(tally) => tally,
         Err(status) => return status,
     };
-    let (alloc, nones) = (rt.alloc(), tally.nones());
+    let (alloc, nones) = (rt.alloc(), tally.nones);
     let command = TallyCommand { alloc, tally, top };
     run_and_report(command, &[log.name], log.name, nones, writers)
 }
@@ -203,7 +203,7 @@ fn print_numbers(rt: &HostRuntime, list: &str, log: Log<'_>, writers: &mut Write
         Ok(tally) => tally,
         Err(status) => return status,
     };
-    let nones = tally.nones();
+    let nones = tally.nones;
     let Ok(rows) = tally.into_rows() else {
         return report_argument_failure(rt, ArgumentFailure::Memory);
     };

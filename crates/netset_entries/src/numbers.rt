@@ -53,7 +53,8 @@ fn push_number(
     ensures { OnOk result ((added : List ℕ) × IsNumberLine (ip_routes rows.now) (numbered line.now) added
         × (text.new.items ≡ text.old.items ++ added)) }
 {
-    let tail = number_text(alloc, number_in(rows, line.entry)?)?;
+    let number = number_in(rows, line.entry)?;
+    let tail = number_text(alloc, number)?;
     text.extend_from_slice(line.text)?;
     text.extend_from_slice(tail.as_bytes())
 }

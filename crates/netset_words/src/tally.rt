@@ -118,7 +118,7 @@ fn count_network(counts: &mut RouteMap<usize>, network: &IpNet) -> Result<(), Al
 pub struct Tally {
     pub(crate) counts: RouteMap<usize>,
     /// The number of lines without an entry.
-    pub(crate) nones: usize,
+    pub nones: usize,
 }
 
 impl Tally {
@@ -164,17 +164,6 @@ impl Tally {
             rest = after;
         }
         Ok(())
-    }
-
-    /// Returns the number of lines without an entry.
-    ///
-    /// ```text
-    /// of "10.0.0.1 GET /\nx\n": 1
-    /// ```
-    pub fn nones(&self) -> usize
-        ensures { result ≡ self.now.nones }
-    {
-        self.nones
     }
 
     /// Returns whether a line has an entry.
