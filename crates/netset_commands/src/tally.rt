@@ -6,8 +6,7 @@ ghost use Rattle.netset_commands.specs.TallyOptions.{IsFamilyLength, IsTallyRequ
 
 use crate::after::{AFTER_OPTION, after_or_report};
 use crate::arguments::{
-    ArgumentFailure, FIRST, LEGACY_FLAG, MAPPED, OUTPUT_OPTION, flags_of, is_set,
-    report_argument_failure,
+    ArgumentFailure, FIRST, MAPPED, SHARED, flags_of, is_set, report_argument_failure,
 };
 use crate::fit::number_of;
 use crate::named_lists::name_of_list;
@@ -80,7 +79,7 @@ const TALLY_ARGUMENTS: &[Argument] = &[
 pub const TALLY_COMMAND: Subcommand = Subcommand {
     name: TALLY,
     about: "For each network of the first entries of LOG's lines, how many lines it has, the most first",
-    arguments: &[&[LEGACY_FLAG, OUTPUT_OPTION], TALLY_ARGUMENTS],
+    arguments: &[SHARED, TALLY_ARGUMENTS],
 };
 
 /// Reads the prefix length of a family from the option with this id. It is at most `greatest`, and that if the option
