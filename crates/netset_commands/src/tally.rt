@@ -78,7 +78,7 @@ const TALLY_ARGUMENTS: &[Argument] = &[
 /// The command `tally`.
 pub const TALLY_COMMAND: Subcommand = Subcommand {
     name: TALLY,
-    about: "For each network of the first entries of LOG's lines, how many lines it has, the most first",
+    about: "How many lines of LOG have their first entry in each network, the most first; status 1 if none has one",
     arguments: &[SHARED, TALLY_ARGUMENTS],
 };
 
