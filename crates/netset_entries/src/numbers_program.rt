@@ -12,8 +12,8 @@ use ipnet_lists::{ListFailure, NotEntry};
 use netset_lib::TextCommand;
 use std::alloc::Global;
 
-/// The sum of the numbers of the networks that lie in each entry of a list. A line has the entry as it is written, a tab
-/// and the sum. A network that lies in several entries counts in each of them.
+/// The sum of the numbers of the networks that lie in each entry of a list. A line has the entry as it is written, a
+/// tab and the sum. A network that lies in several entries counts in each of them.
 ///
 /// The last name is the list's.
 ///

@@ -1,7 +1,7 @@
 -- The networks of lines that are read one after another, and how often each occurs.
 use Rattle.std.proofs.Common.{◌≡◌, ◌≢◌, ◌↔◌, ◌⊎◌, ℕ, ◌+◌, ◌<◌, ◌&&◌, Bool, true, false, List, [], ◌∷◌, ◌++◌, All}
-use Rattle.std.proofs.Common.{length, nat_eq, cond, refl, sym, ap, ◌∙◌, arith, inl, inr, subst, append_assoc, append-nil}
-use Rattle.std.proofs.Common.{Contains, IsTrue, zero, suc}
+use Rattle.std.proofs.Common.{length, nat_eq, cond, refl, sym, ap, ◌∙◌, arith, inl, inr, subst, append_assoc}
+use Rattle.std.proofs.Common.{append-nil, Contains, IsTrue, zero, suc}
 use Rattle.std.proofs.lemmas.Bool.{and_parts, and_from, eqb-true, eq-eqb}
 use Rattle.std.proofs.lemmas.List.Sums.{sum_by-append}
 use Rattle.ipnet.specs.Lines.{lines_of}

@@ -69,7 +69,8 @@ impl Tally {
         request: TallyRequest<'_>,
         input: &mut R,
     ) -> Result<Tally, ReadFailure>
-        ensures { IfOk result (λ tally. (bytes : List ℕ) × GaveWhole (R.remaining input.old) (R.remaining input.new) bytes
+        ensures { IfOk result (λ tally. (bytes : List ℕ)
+            × GaveWhole (R.remaining input.old) (R.remaining input.new) bytes
             × IsTallyOf request (lines_of (after_mark bytes)) tally) }
     {
         let mut window = Window::new(alloc)?;

@@ -6,8 +6,8 @@ use Rattle.netset_words.proofs.tally.count_of.Goals as goal
 
 pub returns-in-Some : goal.returns-in-Some
 returns-in-Some c = λ networks h.
-    number_there networks (truncation (ip_network c.args.network.now)) c.in-Some.count.now (map_routes c.args.counts.now)
-    c.in-Some.ensures.some h
+    number_there networks (truncation (ip_network c.args.network.now)) c.in-Some.count.now
+    (map_routes c.args.counts.now) c.in-Some.ensures.some h
 
 pub returns-in-None : goal.returns-in-None
 returns-in-None c = λ networks h.
