@@ -59,7 +59,7 @@ impl<'a> Extraction<'a> {
 
     /// Returns an extraction that has read no text. Fails if memory runs out.
     pub fn new(alloc: Global, request: ExtractRequest<'a>) -> Result<Extraction<'a>, AllocError>
-        ensures { IfOk result (WereExtracted request []) }
+        ensures { IfOk result (WereExtracted request.entry []) }
     {
         Ok(Extraction {
             window: Window::new(alloc)?,

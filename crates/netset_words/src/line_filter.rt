@@ -122,7 +122,7 @@ impl LineAnswers {
     ) -> Result<(), AllocError>
         requires { length line.now ≤ 1048576 }
         ensures { OnOk result ((number : ℕ)
-            → ((r : LogResult) × IsShortLine request (IsMember set.now) number line.now r × (r.undecided ≡ [])
+            → ((r : LogResult) × IsShortLine request.entry (IsMember set.now) number line.now r × (r.undecided ≡ [])
             × AddsResult self.old self.new r)) }
     {
         let verdict = line_verdict(set, request, line);
@@ -229,7 +229,7 @@ impl<'a> LineFilter<'a> {
         set: IpSet,
         how: LinesRequest<'a>,
     ) -> Result<LineFilter<'a>, AllocError>
-        ensures { IfOk result (IsFilterFor how set) }
+        ensures { IfOk result (IsFilterFor how.entry set) }
     {
         let side = side_set(alloc, how.side, set)?;
         Ok(LineFilter::new(alloc, how, side))
@@ -237,7 +237,7 @@ impl<'a> LineFilter<'a> {
 
     /// A filter by this set that has read no line.
     fn new(alloc: Global, request: LinesRequest<'a>, set: IpSet) -> LineFilter<'a>
-        ensures begun { IsLogUpTo request set [] 0 [] result }
+        ensures begun { IsLogUpTo request.entry set [] 0 [] result }
         ensures set { result.set ≡ set }
     {
         LineFilter {

@@ -51,8 +51,8 @@ fn read_entry_item<'a>(
     item: LineItem<'a>,
 ) -> Result<LineState<'a>, AllocError>
     ensures { IfOk result (λ after. (base : List ℕ) → (items : List Item)
-        → IsLineUpTo request base items answer.old.items state.entry
-        → IsLineUpTo request base (items ++ entry_item (shown_text item.entry.mapped item.entry.text.now) ∷ [])
+        → IsLineUpTo request.entry base items answer.old.items state.entry
+        → IsLineUpTo request.entry base (items ++ entry_item (shown_text item.entry.mapped item.entry.text.now) ∷ [])
         answer.new.items after) }
 {
     if request.first && state.has_entry {
@@ -88,8 +88,8 @@ fn read_item<'a>(
     item: LineItem<'a>,
 ) -> Result<LineState<'a>, AllocError>
     ensures { IfOk result (λ after. (base : List ℕ) → (items : List Item)
-        → IsLineUpTo request base items answer.old.items state.entry
-        → IsLineUpTo request base (items ++ item_of item.entry ∷ []) answer.new.items after) }
+        → IsLineUpTo request.entry base items answer.old.items state.entry
+        → IsLineUpTo request.entry base (items ++ item_of item.entry ∷ []) answer.new.items after) }
 {
     match item.kind {
         Kind::Entry => read_entry_item(answer, request, state, item),
@@ -105,8 +105,8 @@ pub(crate) fn read_items<'a>(
     request: ExtractRequest<'_>,
     line: &'a [u8],
 ) -> Result<LineState<'a>, AllocError>
-    ensures { IfOk result (λ state. (items : List Item) × AreItems request (words_of line.now) items
-        × IsLineUpTo request answer.old.items items answer.new.items state) }
+    ensures { IfOk result (λ state. (items : List Item) × AreItems request.entry (words_of line.now) items
+        × IsLineUpTo request.entry answer.old.items items answer.new.items state) }
 {
     let mut state = LineState {
         has_entry: false,

@@ -92,12 +92,12 @@ fn read_log<'a, R: Read, W: Write, X: Write>(
     faults: &mut X,
 ) -> Result<LineFilter<'a>, LogFailure>
     ensures whole { IfOk result (λ f. (how : LinesRequest) → (set : IpSet)
-        → IsLogUpTo how set [] 0 [] filter → IsStreamed how set (R.remaining input.old) (R.remaining input.new)
+        → IsLogUpTo how set [] 0 [] filter.entry → IsStreamed how set (R.remaining input.old) (R.remaining input.new)
         (W.contents out.old) (W.contents out.new) f) }
     ensures part { IfErr result (λ _. (how : LinesRequest) → (set : IpSet)
-        → IsLogUpTo how set [] 0 [] filter → IsFrontPrinted how (IsMember set) (R.remaining input.old)
+        → IsLogUpTo how set [] 0 [] filter.entry → IsFrontPrinted how (IsMember set) (R.remaining input.old)
         (W.contents out.old) (W.contents out.new)) }
-    ensures quiet { IfOk result (λ f. (how : LinesRequest) → (set : IpSet) → IsLogUpTo how set [] 0 [] filter
+    ensures quiet { IfOk result (λ f. (how : LinesRequest) → (set : IpSet) → IsLogUpTo how set [] 0 [] filter.entry
         → f.undecided.count ≡ 0 → Keeps (X.contents faults.old) (X.contents faults.new)) }
 {
     let mut filter = filter;
@@ -135,14 +135,14 @@ pub fn filter_log<R: Read, W: Write, X: Write>(
     faults: &mut X,
 ) -> Result<FilteredLog, LogFailure>
     ensures whole { IfOk result (λ log. (how : LinesRequest) → (set : IpSet)
-        → IsFilterFor how set filter
+        → IsFilterFor how set filter.entry
         → ((r : LogResult) × HasCounts log r × IsLogFiltered how set (R.remaining input.old)
         (R.remaining input.new) (W.contents out.old) (W.contents out.new) r)) }
     ensures part { IfErr result (λ _. (how : LinesRequest) → (set : IpSet)
-        → IsFilterFor how set filter → IsLogFilteredInPart how set (R.remaining input.old)
+        → IsFilterFor how set filter.entry → IsLogFilteredInPart how set (R.remaining input.old)
         (W.contents out.old) (W.contents out.new)) }
     ensures quiet { IfOk result (λ log. (how : LinesRequest) → (set : IpSet)
-        → IsFilterFor how set filter → log.undecided.count ≡ 0
+        → IsFilterFor how set filter.entry → log.undecided.count ≡ 0
         → Keeps (X.contents faults.old) (X.contents faults.new)) }
 {
     let LineFilter {
@@ -249,7 +249,7 @@ pub fn run_lines<R: Read, W: Write, X: Write>(
 ) -> u8
     ensures status { result ≤ 2 }
     ensures filtered { result ≤ 1 → (how : LinesRequest) → (set : IpSet)
-        → IsFilterFor how set filter
+        → IsFilterFor how set filter.entry
         → ((r : LogResult) × (r.undecided ≡ []) × (r.printed ≡ (result == 0))
         × (r.nones ≡ 0 → Keeps (X.contents faults.old) (X.contents faults.new))
         × (r.nones ≢ 0 → IsFrontWritten (λ t. t ≡ nones_line (log_name names.now) r.nones)
@@ -257,7 +257,7 @@ pub fn run_lines<R: Read, W: Write, X: Write>(
         × IsLogFiltered how set (R.remaining input.old) (R.remaining input.new)
         (W.contents out.old) (W.contents out.new) r) }
     ensures cut_short { result ≡ 2 → (how : LinesRequest) → (set : IpSet)
-        → IsFilterFor how set filter
+        → IsFilterFor how set filter.entry
         → IsLogFilteredButSome how set (R.remaining input.old) (R.remaining input.new)
         (W.contents out.old) (W.contents out.new)
         ⊎ IsLogFilteredInPart how set (R.remaining input.old) (W.contents out.old) (W.contents out.new) }

@@ -104,8 +104,8 @@ pub(crate) fn next_log_entry<'a>(
     bytes: &'a [u8],
     request: LinesRequest<'_>,
 ) -> Option<LineEntry<'a>>
-    ensures entry { MatchOption result (All (IsNoEntryWord request.grammar) (words_of bytes.now))
-        (λ e. IsNextLogEntry request bytes.now (entry_range e.entry) e.after.now) }
+    ensures entry { MatchOption result (All (IsNoEntryWord request.entry.grammar) (words_of bytes.now))
+        (λ e. IsNextLogEntry request.entry bytes.now (entry_range e.entry) e.after.now) }
     ensures shorter { IfSome result (λ e. length e.after.now < length bytes.now) }
 {
     if let Some(found) = leading_address(bytes) {
@@ -146,7 +146,7 @@ fn lies_in(set: &IpSet, entry: Entry) -> bool
 
 /// Returns the verdict on a whole text.
 pub(crate) fn verdict_on(set: &IpSet, request: LinesRequest<'_>, text: &[u8]) -> Verdict
-    ensures { IsVerdict request (IsMember set.now) (words_of text.now) result }
+    ensures { IsVerdict request.entry (IsMember set.now) (words_of text.now) result }
 {
     let mut rest = text;
     let mut verdict = Verdict::NoEntry;
@@ -165,7 +165,7 @@ pub(crate) fn verdict_on(set: &IpSet, request: LinesRequest<'_>, text: &[u8]) ->
 
 /// Returns the verdict on a line, by the part of it that is read.
 pub(crate) fn line_verdict(set: &IpSet, request: LinesRequest<'_>, line: &[u8]) -> Verdict
-    ensures { IsLineVerdict request (IsMember set.now) line.now result }
+    ensures { IsLineVerdict request.entry (IsMember set.now) line.now result }
 {
     verdict_on(set, request, part_after(line, request.after))
 }

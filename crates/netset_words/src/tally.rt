@@ -36,7 +36,7 @@ pub struct TallyRequest<'a> {
 impl<'a> TallyRequest<'a> {
     /// The request for the entries of lines.
     fn lines(self) -> LinesRequest<'a>
-        ensures { result ≡ line_request self }
+        ensures { result ≡ line_request self.entry }
     {
         LinesRequest {
             grammar: self.grammar,
@@ -50,7 +50,7 @@ impl<'a> TallyRequest<'a> {
 
     /// The greatest prefix length of networks of this one's family.
     fn length_for(self, network: &IpNet) -> u8
-        ensures { result ≡ length_for self (ip_network network.now).family }
+        ensures { result ≡ length_for self.entry (ip_network network.now).family }
     {
         match network {
             IpNet::V4(_) => self.ipv4,
@@ -60,7 +60,7 @@ impl<'a> TallyRequest<'a> {
 
     /// Cuts the prefix of the network to the greatest length, if it is longer. The address keeps its host bits.
     fn cut(self, network: IpNet) -> IpNet
-        ensures { truncation (ip_network result) ≡ cut_network self (ip_network network) }
+        ensures { truncation (ip_network result) ≡ cut_network self.entry (ip_network network) }
     {
         let len = network.prefix_len().min(self.length_for(&network));
         IpNet::new_assert(network.addr(), len)
@@ -68,7 +68,7 @@ impl<'a> TallyRequest<'a> {
 
     /// Returns the network of an entry: the smallest network around its ends, cut. The address may have host bits.
     fn network_of(self, entry: Entry) -> IpNet
-        ensures { IsRangeNetwork self (entry_range entry) (truncation (ip_network result)) }
+        ensures { IsRangeNetwork self.entry (entry_range entry) (truncation (ip_network result)) }
     {
         let (first, last) = entry.ends();
         let (first, last) = (IpNet::from(first), IpNet::from(last));
@@ -80,8 +80,8 @@ impl<'a> TallyRequest<'a> {
 
     /// Returns the network of a line, which may have host bits, or `None` if the line has no entry.
     fn line_network(self, line: &[u8]) -> Option<IpNet>
-        ensures { MatchOption result (HasNoEntry self line.now)
-            (λ n. IsLineNetwork self line.now (truncation (ip_network n))) }
+        ensures { MatchOption result (HasNoEntry self.entry line.now)
+            (λ n. IsLineNetwork self.entry line.now (truncation (ip_network n))) }
     {
         let part = part_after(line, self.after);
         match next_log_entry(part, self.lines()) {
@@ -138,7 +138,7 @@ impl Tally {
 
     /// Reads a line. Fails if memory runs out, or if there are more lines than a `usize` counts.
     fn read_line(&mut self, request: TallyRequest<'_>, line: &[u8]) -> Result<(), AllocError>
-        ensures { OnOk result (ReadsLines request self.old self.new (line.now ∷ [])) }
+        ensures { OnOk result (ReadsLines request.entry self.old self.new (line.now ∷ [])) }
     {
         match request.line_network(line) {
             Some(network) => count_network(&mut self.counts, &network),
@@ -155,7 +155,7 @@ impl Tally {
         request: TallyRequest<'_>,
         bytes: &[u8],
     ) -> Result<(), AllocError>
-        ensures { OnOk result (ReadsLines request self.old self.new (lines_of bytes.now)) }
+        ensures { OnOk result (ReadsLines request.entry self.old self.new (lines_of bytes.now)) }
     {
         let mut rest = bytes;
         'lines: while !rest.is_empty() {

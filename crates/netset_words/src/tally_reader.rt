@@ -21,7 +21,7 @@ fn read_front(
     more: bool,
 ) -> Result<(), AllocError>
     requires { more ≡ true → (rest : List ℕ) → lines_of (front.now ++ rest) ≡ lines_of front.now ++ lines_of rest }
-    ensures { OnOk result (ReadsFront more (ReadsLines request tally.old tally.new) (carry.old.items ++ front.now)
+    ensures { OnOk result (ReadsFront more (ReadsLines request.entry tally.old tally.new) (carry.old.items ++ front.now)
         carry.new.items) }
 {
     if carry.is_empty() {
@@ -44,7 +44,7 @@ fn take_bytes(
     held: &[u8],
     more: bool,
 ) -> Result<(), AllocError>
-    ensures { OnOk result (ReadsFront more (ReadsLines request tally.old tally.new) (carry.old.items ++ held.now)
+    ensures { OnOk result (ReadsFront more (ReadsLines request.entry tally.old tally.new) (carry.old.items ++ held.now)
         carry.new.items) }
 {
     let count = lines_len(held, more);
@@ -71,7 +71,7 @@ impl Tally {
     ) -> Result<Tally, ReadFailure>
         ensures { IfOk result (λ tally. (bytes : List ℕ)
             × GaveWhole (R.remaining input.old) (R.remaining input.new) bytes
-            × IsTallyOf request (lines_of (after_mark bytes)) tally) }
+            × IsTallyOf request.entry (lines_of (after_mark bytes)) tally) }
     {
         let mut window = Window::new(alloc)?;
         let mut carry = Vec::new(alloc);

@@ -31,7 +31,7 @@ impl<'a> WordReader<'a> {
 
     /// A reader of the first text.
     pub(crate) fn new(alloc: Global, request: ExtractRequest<'a>) -> WordReader<'a>
-        ensures request { result.request ≡ request }
+        ensures request { result.request ≡ request.entry }
         ensures first { result.list ≡ 0 }
         ensures answer { result.answer.items ≡ [] }
         ensures none { AreRefused result.refused [] }
