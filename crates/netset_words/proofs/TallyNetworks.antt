@@ -34,11 +34,6 @@ module _ (r : AddressRange) (a b : Address) (n k : Network) (is_a : a ≡ addres
     cut = cut;
   }
 
-pub around_ends : (how : TallyRequest) (r : AddressRange) (a b : Address) (n k s t : Network)
-    → a ≡ address_at r.family r.start → b ≡ address_at r.family r.end → n ≡ network_at a (width a.family)
-    → k ≡ network_at b (width b.family) → IsCommonSupernet n k s → t ≡ cut_network how s → IsRangeNetwork how r t
-around_ends how r a b n k s t is_a is_b of_a of_b common cut = around r a b n k is_a is_b of_a of_b how s t common cut
-
 -- the first entry of the part
 pub line_with : (how : TallyRequest) (line part after : List ℕ) (range : AddressRange) (n : Network)
     → IsPartAfter how.after.now line part → IsNextLogEntry (line_request how) part range after

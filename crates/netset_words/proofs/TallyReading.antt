@@ -1,6 +1,6 @@
 -- A log that is read for a tally, piece by piece.
-use Rattle.std.proofs.Common.{◌≡◌, ℕ, ◌-◌, Bool, true, false, List, [], ◌++◌, length, take, drop, Option}
-use Rattle.std.proofs.Common.{refl, sym, ap, ◌∙◌, subst, append_assoc, append-nil}
+use Rattle.std.proofs.Common.{◌≡◌, ℕ, Bool, true, false, List, [], ◌++◌, Option}
+use Rattle.std.proofs.Common.{refl, sym, ap, ◌∙◌, subst, append-nil}
 use Rattle.std.specs.Io.KnownBytes.{Consumes, IsAtEnd}
 use Rattle.ipnet.specs.Lines.{lines_of}
 use Rattle.ipnet_lists.specs.Lists.{after_mark}
@@ -31,31 +31,33 @@ tally_begins how more left left_now tally carry window h none is = record {
   tally_of = is;
 }
 
--- what is pending was taken, and more bytes came
-pub tally_goes_on : (how : TallyRequest) (more : Bool) (a b c : Option (List ℕ)) (old new : Tally)
-    (carry kept shown given : List ℕ) (before after : Window) → IsTallyUpTo how true a b old carry before
-    → shown ≡ held before → ReadsFront true (ReadsLines how old new) (carry ++ shown) kept
-    → held after ≡ given → Consumes b c given → (more ≡ false → IsAtEnd c)
-    → IsTallyUpTo how more a c new kept after
-tally_goes_on how more a b c old new carry kept shown given before after h is t window read end = record {
-  front = h.front ++ t.taken;
-  input = subst (λ z. IsInputUpTo more a c (h.front ++ t.taken) (kept ++ z)) (sym window)
-      (input_grows more a b c (h.front ++ t.taken) kept given
-      (input_moves true a b h.front (carry ++ held before) t.taken kept
-      (ap (λ z. carry ++ z) (sym is) ∙ t.is) h.input) read end);
-  closed = closed_append h.front t.taken h.closed (t.closed refl);
-  tally_of = subst (λ z. IsTallyOf how z new) (sym (h.closed t.taken)) (t.lines (lines_of h.front) h.tally_of);
-}
+-- what is pending was taken
+module _ (how : TallyRequest) (left left_now : Option (List ℕ)) (old new : Tally) (carry kept shown : List ℕ)
+    (window : Window) (is : shown ≡ held window) where
+  -- and more bytes came
+  pub tally_goes_on : (more : Bool) (left_after : Option (List ℕ)) (given : List ℕ) (after : Window)
+      → IsTallyUpTo how true left left_now old carry window
+      → ReadsFront true (ReadsLines how old new) (carry ++ shown) kept → held after ≡ given
+      → Consumes left_now left_after given → (more ≡ false → IsAtEnd left_after)
+      → IsTallyUpTo how more left left_after new kept after
+  tally_goes_on more left_after given after h t holds read end = record {
+    front = h.front ++ t.taken;
+    input = subst (λ z. IsInputUpTo more left left_after (h.front ++ t.taken) (kept ++ z)) (sym holds)
+        (input_grows more left left_now left_after (h.front ++ t.taken) kept given
+        (input_moves true left left_now h.front (carry ++ held window) t.taken kept
+        (ap (λ z. carry ++ z) (sym is) ∙ t.is) h.input) read end);
+    closed = closed_append h.front t.taken h.closed (t.closed refl);
+    tally_of = subst (λ z. IsTallyOf how z new) (sym (h.closed t.taken)) (t.lines (lines_of h.front) h.tally_of);
+  }
 
--- a log was read up to its end
-pub tally_ends : (how : TallyRequest) (left left_now : Option (List ℕ)) (old new : Tally) (carry kept shown : List ℕ)
-    (window : Window) → IsTallyUpTo how false left left_now old carry window → shown ≡ held window
-    → ReadsFront false (ReadsLines how old new) (carry ++ shown) kept
-    → (bytes : List ℕ) × GaveWhole left left_now bytes × IsTallyOf how (lines_of (after_mark bytes)) new
-tally_ends how left left_now old new carry kept shown window h is t =
-    let (bytes, given, body) = input_ends left left_now h.front (carry ++ held window) h.input in
-    let all : carry ++ held window ≡ t.taken =
-    ap (λ z. carry ++ z) (sym is) ∙ t.is ∙ ap (λ z. t.taken ++ z) (t.all refl) ∙ append-nil t.taken in
-    let cut : lines_of (after_mark bytes) ≡ lines_of h.front ++ lines_of t.taken =
-    ap lines_of (body ∙ ap (λ z. h.front ++ z) all) ∙ h.closed t.taken in
-    (bytes, given, subst (λ z. IsTallyOf how z new) (sym cut) (t.lines (lines_of h.front) h.tally_of))
+  -- and no more bytes come
+  pub tally_ends : IsTallyUpTo how false left left_now old carry window
+      → ReadsFront false (ReadsLines how old new) (carry ++ shown) kept
+      → (bytes : List ℕ) × GaveWhole left left_now bytes × IsTallyOf how (lines_of (after_mark bytes)) new
+  tally_ends h t =
+      let (bytes, given, body) = input_ends left left_now h.front (carry ++ held window) h.input in
+      let all : carry ++ held window ≡ t.taken =
+      ap (λ z. carry ++ z) (sym is) ∙ t.is ∙ ap (λ z. t.taken ++ z) (t.all refl) ∙ append-nil t.taken in
+      let cut : lines_of (after_mark bytes) ≡ lines_of h.front ++ lines_of t.taken =
+      ap lines_of (body ∙ ap (λ z. h.front ++ z) all) ∙ h.closed t.taken in
+      (bytes, given, subst (λ z. IsTallyOf how z new) (sym cut) (t.lines (lines_of h.front) h.tally_of))

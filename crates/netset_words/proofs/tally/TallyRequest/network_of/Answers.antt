@@ -2,14 +2,14 @@ use Rattle.std.proofs.Common.{◌≡◌, sym, ap, ◌∙◌, subst}
 use Rattle.ipnet_base.specs.Address.{ip_address}
 use Rattle.ipnet.specs.NetworkOf.{ip_network}
 use Rattle.ipnet_lists.specs.EntryOf.{entry_range}
-use Rattle.netset_words.proofs.TallyNetworks.{around_ends, one_family}
+use Rattle.netset_words.proofs.TallyNetworks.{around, one_family}
 use Rattle.netset_words.proofs.tally.TallyRequest.network_of.Goals as goal
 
 pub returns-in-Some : goal.returns-in-Some
 returns-in-Some c =
-    around_ends c.args.self (entry_range c.args.entry) (ip_address c.ends.result.0) (ip_address c.ends.result.1)
-    (ip_network c.from.result) (ip_network c.from-2.result) (ip_network c.in-Some.network) _ c.ends.ensures.first
-    c.ends.ensures.last c.from.ensures c.from-2.ensures c.in-Some.ensures.some c.cut.ensures
+    around (entry_range c.args.entry) (ip_address c.ends.result.0) (ip_address c.ends.result.1)
+    (ip_network c.from.result) (ip_network c.from-2.result) c.ends.ensures.first c.ends.ensures.last c.from.ensures
+    c.from-2.ensures c.args.self (ip_network c.in-Some.network) _ c.in-Some.ensures.some c.cut.ensures
 
 pub returns-in-None : goal.returns-in-None
 returns-in-None c =

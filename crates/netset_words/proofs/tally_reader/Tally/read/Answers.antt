@@ -1,4 +1,4 @@
-use Rattle.std.proofs.Common.{◌++◌, length, refl, sym, ap, ◌∙◌, subst, arith, [], take-append-drop}
+use Rattle.std.proofs.Common.{◌++◌, length, ap, ◌∙◌, subst, arith}
 use Rattle.std.proofs.Math.ListN.{drop_of_length-le}
 use Rattle.ipnet_text.specs.Window.{held}
 use Rattle.netset_words.specs.TallySteps.{ReadsFront, ReadsLines}
@@ -24,8 +24,9 @@ returns-then-not-more g c =
     let carry = c.loop.carry.items in
     let kept = c.take_bytes.new.carry.items in
     tally_ends how (left c.args.input.now) (left c.loop.input) old new carry kept shown c.loop.window
+    c.held-held.ensures.value
     (subst (λ m. IsTallyUpTo how m (left c.args.input.now) (left c.loop.input) old carry c.loop.window)
-    c.if-not-more.true c.loop.invariant) c.held-held.ensures.value
+    c.if-not-more.true c.loop.invariant)
     (subst (λ m. ReadsFront m (ReadsLines how old new) (carry ++ shown) kept) c.if-not-more.true
     c.in_ok-take_bytes.ensures)
 
@@ -41,10 +42,10 @@ loop-preserved g c =
     let (given, window, read) = c.in_ok-more-2.ensures.read in
     let empty = c.take.ensures
     ∙ drop_of_length-le (held c.loop.window) (omega (arith, ap length c.held-held.ensures.value)) in
-    tally_goes_on how c.in_ok-more-2.more (left c.args.input.now) (left c.loop.input) (left c.fill.new.input) old new
-    carry kept shown given c.loop.window c.fill.new.self
+    tally_goes_on how (left c.args.input.now) (left c.loop.input) old new carry kept shown c.loop.window
+    c.held-held.ensures.value c.in_ok-more-2.more (left c.fill.new.input) given c.fill.new.self
     (subst (λ m. IsTallyUpTo how m (left c.args.input.now) (left c.loop.input) old carry c.loop.window)
-    c.if-not-more.false c.loop.invariant) c.held-held.ensures.value
+    c.if-not-more.false c.loop.invariant)
     (subst (λ m. ReadsFront m (ReadsLines how old new) (carry ++ shown) kept) c.if-not-more.false
     c.in_ok-take_bytes.ensures)
     (window ∙ ap (λ z. z ++ given) empty) read c.in_ok-more-2.ensures.end
