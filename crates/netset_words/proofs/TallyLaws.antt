@@ -177,23 +177,23 @@ pub record AreLinesUpTo (how : TallyRequest) (start now : Tally) (bytes rest : L
   pub cut : lines_of bytes ≡ lines ++ lines_of rest
   pub read : ReadsLines how start now lines
 
-pub up_to_start : (how : TallyRequest) (start : Tally) (bytes : List ℕ) → AreLinesUpTo how start start bytes bytes
-up_to_start how start bytes = record { lines = []; cut = refl; read = lines_none how start }
+module _ (how : TallyRequest) (start : Tally) (bytes : List ℕ) where
+  pub up_to_start : AreLinesUpTo how start start bytes bytes
+  up_to_start = record { lines = []; cut = refl; read = lines_none how start }
 
-pub up_to_more : (how : TallyRequest) (start now next : Tally) (bytes rest line after : List ℕ)
-    → AreLinesUpTo how start now bytes rest → lines_of rest ≡ line ∷ lines_of after
-    → ReadsLines how now next (line ∷ []) → AreLinesUpTo how start next bytes after
-up_to_more how start now next bytes rest line after h is one = record {
-  lines = h.lines ++ line ∷ [];
-  cut = h.cut ∙ ap (λ z. h.lines ++ z) is ∙ sym (append_assoc h.lines (line ∷ []) (lines_of after));
-  read = lines_more how start now next h.lines (line ∷ []) h.read one;
-}
+  pub up_to_more : (now next : Tally) (rest line after : List ℕ) → AreLinesUpTo how start now bytes rest
+      → lines_of rest ≡ line ∷ lines_of after → ReadsLines how now next (line ∷ [])
+      → AreLinesUpTo how start next bytes after
+  up_to_more now next rest line after h is one = record {
+    lines = h.lines ++ line ∷ [];
+    cut = h.cut ∙ ap (λ z. h.lines ++ z) is ∙ sym (append_assoc h.lines (line ∷ []) (lines_of after));
+    read = lines_more how start now next h.lines (line ∷ []) h.read one;
+  }
 
-pub up_to_end : (how : TallyRequest) (start now : Tally) (bytes rest : List ℕ) → length rest ≡ 0
-    → AreLinesUpTo how start now bytes rest → ReadsLines how start now (lines_of bytes)
-up_to_end how start now bytes [] none h =
-    subst (ReadsLines how start now) (sym (h.cut ∙ append-nil h.lines)) h.read
-up_to_end how start now bytes (b ∷ rest) none h = absurd (omega arith)
+  pub up_to_end : (now : Tally) (rest : List ℕ) → length rest ≡ 0 → AreLinesUpTo how start now bytes rest
+      → ReadsLines how start now (lines_of bytes)
+  up_to_end now [] none h = subst (ReadsLines how start now) (sym (h.cut ∙ append-nil h.lines)) h.read
+  up_to_end now (b ∷ rest) none h = absurd (omega arith)
 
 -- ---- whether a line has an entry
 
