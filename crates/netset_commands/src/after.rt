@@ -1,6 +1,6 @@
 //! The option `--after`: the text after which the entries of a line count.
 ghost use Rattle.std.specs.Prelude.{◌≡◌, IfOk, IfErr};
-ghost use Rattle.netset_commands.specs.AfterTexts.{IsAfterText, IsTextFailure};
+ghost use Rattle.netset_commands.specs.AfterTexts.{IsAfterText, IsGoodText, IsTextCause, IsTextFailure};
 
 use crate::table::{ARGUMENT, Argument, Form};
 use clap::ArgMatches;
@@ -31,14 +31,11 @@ pub enum TextFailure {
     LineBreak,
 }
 
-/// Returns the text after which the entries of a line count. It is empty if the option is omitted.
-fn after_text<'a>(matches: &ArgMatches<'a>) -> Result<&'a [u8], TextFailure>
-    ensures text { IfOk result (λ text. IsAfterText matches.now text.now) }
-    ensures failed { IfErr result (IsTextFailure matches.now) }
+/// Returns the bytes of the text, if it is not empty and has no line break.
+fn check_text(text: &str) -> Result<&[u8], TextFailure>
+    ensures good { IfOk result (λ bytes. (bytes.now ≡ text.now) × IsGoodText bytes.now) }
+    ensures failed { IfErr result (IsTextCause text.now) }
 {
-    let Some(text) = matches.get_str(AFTER) else {
-        return Ok(&[]);
-    };
     if text.is_empty() {
         return Err(TextFailure::Empty);
     }
@@ -46,6 +43,17 @@ fn after_text<'a>(matches: &ArgMatches<'a>) -> Result<&'a [u8], TextFailure>
         return Err(TextFailure::LineBreak);
     }
     Ok(text.as_bytes())
+}
+
+/// Returns the text after which the entries of a line count. It is empty if the option is omitted.
+fn after_text<'a>(matches: &ArgMatches<'a>) -> Result<&'a [u8], TextFailure>
+    ensures text { IfOk result (λ text. IsAfterText matches.now text.now) }
+    ensures failed { IfErr result (IsTextFailure matches.now) }
+{
+    match matches.get_str(AFTER) {
+        Some(text) => check_text(text),
+        None => Ok(&[]),
+    }
 }
 
 /// Returns what `after_text` does. If that fails, it is reported, and the error is the exit status.
