@@ -33,7 +33,11 @@ same_gives n k e =
     (eqb-true _ _ len)
 
 same_itself : (n : Network) → is_same n n ≡ true
-same_itself n = and_from _ _ (and_from _ _ (eq-eqb _ _ refl) (eq-eqb _ _ refl)) (eq-eqb _ _ refl)
+same_itself n =
+    let family = family_index n.family in
+    and_from (nat_eq family family && nat_eq n.number n.number) (nat_eq n.prefix_len n.prefix_len)
+    (and_from (nat_eq family family) (nat_eq n.number n.number) (eq-eqb family family refl)
+    (eq-eqb n.number n.number refl)) (eq-eqb n.prefix_len n.prefix_len refl)
 
 same_of : (n k : Network) → n ≡ k → is_same n k ≡ true
 same_of n k e = subst (λ z. is_same n z ≡ true) e (same_itself n)
@@ -46,7 +50,7 @@ one_more n k ns =
     sum_by-append (λ z. cond (is_same n z) 1 0) ns (k ∷ [])
     ∙ ap (λ m. occurrences n ns + m) (one (cond (is_same n k) 1 0))
   where
-    one : (m : ℕ) → m + 0 ≡ m
+    one : (m : ℕ) → 0 + m ≡ m
     one m = omega arith
 
 with_it : (n k : Network) (ns : List Network) → n ≡ k → occurrences n (ns ++ k ∷ []) ≡ occurrences n ns + 1
@@ -203,7 +207,7 @@ some_row (n ∷ ns) [] h none =
     absurd (contains_nil (n, occurrences n (n ∷ ns)) ((h (n, occurrences n (n ∷ ns))).1 (some, refl)))
   where
     some : 0 < occurrences n (n ∷ ns)
-    some = subst (λ b. 0 < cond b 1 0 + occurrences n ns) (sym (same_itself n)) (omega arith)
+    some = subst (λ b. 0 < occurrences n ns + cond b 1 0) (sym (same_itself n)) (omega arith)
 some_row (n ∷ ns) (r ∷ rows) h none = absurd (omega arith)
 
 no_row : (ns : List Network) (rows : List (Route ℕ)) → AreOccurrences ns rows → ns ≡ [] → length rows ≡ 0

@@ -1,5 +1,5 @@
 //! The networks of the lines of a log, counted.
-ghost use Rattle.std.specs.Prelude.{◌≡◌, ◌∷◌, ◌++◌, [], ℕ, List, IfOk, OnOk, MatchOption};
+ghost use Rattle.std.specs.Prelude.{◌≡◌, ◌+◌, ◌∷◌, ◌++◌, [], ℕ, List, IfOk, OnOk, MatchOption};
 ghost use Rattle.ipnet_base.specs.Network.{Network, truncation};
 ghost use Rattle.ipnet.specs.Lines.{lines_of};
 ghost use Rattle.ipnet.specs.NetworkOf.{ip_network};
@@ -136,16 +136,22 @@ impl Tally {
         }
     }
 
+    /// Counts a line without an entry. Fails if there are more of them than a `usize` counts.
+    fn count_none(&mut self) -> Result<(), AllocError>
+        ensures nones { OnOk result (self.new.nones ≡ self.old.nones + 1) }
+        ensures counts { self.new.counts ≡ self.old.counts }
+    {
+        self.nones = next_number(self.nones)?;
+        Ok(())
+    }
+
     /// Reads a line. Fails if memory runs out, or if there are more lines than a `usize` counts.
     fn read_line(&mut self, request: TallyRequest<'_>, line: &[u8]) -> Result<(), AllocError>
         ensures { OnOk result (ReadsLines request.entry self.old self.new (line.now ∷ [])) }
     {
         match request.line_network(line) {
             Some(network) => count_network(&mut self.counts, &network),
-            None => {
-                self.nones = next_number(self.nones)?;
-                Ok(())
-            }
+            None => self.count_none(),
         }
     }
 

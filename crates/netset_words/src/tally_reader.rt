@@ -49,7 +49,8 @@ fn take_bytes(
 {
     let count = lines_len(held, more);
     read_front(tally, request, carry, &held[..count], more)?;
-    carry.extend_from_slice(&held[count..])
+    carry.extend_from_slice(&held[count..])?;
+    Ok(())
 }
 
 impl Tally {

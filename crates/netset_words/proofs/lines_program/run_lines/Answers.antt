@@ -14,7 +14,7 @@ returns-in-Ok-clause-filtered g c = λ few how set h.
     (λ n. nones_line (log_name c.args.names.now) n)
     (subst (λ name. (c.in-Ok.log.nones ≢ 0) → IsFrontWritten (λ t. t ≡ nones_line name c.in-Ok.log.nones)
     (g.X.Write.contents c.filter_log.new.faults) (g.X.Write.contents c.report_nones.new.faults))
-    c.log_name.ensures c.report_nones.ensures.begun)
+    c.log_name-name.ensures c.report_nones.ensures.begun)
     (c.in-Ok.ensures.whole how set h)
 
 pub returns-in-Ok-clause-cut_short : goal.returns-in-Ok-clause-cut_short

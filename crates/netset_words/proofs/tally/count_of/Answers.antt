@@ -1,3 +1,4 @@
+use Rattle.std.proofs.Common.{refl}
 use Rattle.ipnet_base.specs.Network.{truncation}
 use Rattle.ipnet.specs.NetworkOf.{ip_network}
 use Rattle.ipnet_routes.specs.RouteMapsOf.{map_routes}
@@ -12,4 +13,4 @@ returns-in-Some c = λ networks h.
 pub returns-in-None : goal.returns-in-None
 returns-in-None c = λ networks h.
     number_missing networks (truncation (ip_network c.args.network.now)) (map_routes c.args.counts.now)
-    (c.in-None.ensures.none.0 c.in-None.is) h
+    (c.in-None.ensures.none.0 refl) h

@@ -1,4 +1,5 @@
-use Rattle.std.proofs.Common.{◌≡◌, ◌++◌, [], length, true, false, refl, sym, ap, ◌∙◌, subst, append-nil}
+use Rattle.std.proofs.Common.{◌≡◌, ◌++◌, [], length, true, false, refl, sym, ap, ◌∙◌, subst, append-nil, arith}
+use Rattle.std.specs.Vec.{vec_len}
 use Rattle.std.proofs.lemmas.Bool.{eqb-true, eqb-false}
 use Rattle.ipnet.specs.Lines.{lines_of}
 use Rattle.ipnet_text.proofs.LineCuts.{empty_text}
@@ -15,7 +16,8 @@ returns-then-is_empty c =
     let carry = c.args.carry.now.items in
     let front = c.args.front.now in
     let none : carry ≡ [] =
-    empty_text carry (eqb-true (length carry) 0 (sym c.is_empty.ensures ∙ c.if-is_empty.true)) in
+    empty_text carry
+    (omega (arith, eqb-true (vec_len c.args.carry.now) 0 (sym c.is_empty.ensures ∙ c.if-is_empty.true))) in
     OnOk_then c.read_lines.result c.read_lines.ensures
     (λ lines. record {
       taken = front;

@@ -1,5 +1,4 @@
-use Rattle.std.proofs.Common.{refl, ◌∙◌}
-use Rattle.ipnet_text.proofs.ListsLaws.{OnOk_then}
+use Rattle.std.proofs.Common.{refl}
 use Rattle.netset_words.proofs.ExtractLaws.{bytes_taken, all_taken}
 use Rattle.netset_words.proofs.tally_reader.take_bytes.Goals as goal
 
@@ -11,11 +10,11 @@ returns c =
     let count = c.lines_len-count.result in
     let kept = c.read_front.new.carry.items in
     let now = c.extend_from_slice.new.self.items in
-    OnOk_then c.extend_from_slice.result c.extend_from_slice.ensures.items
-    (λ items. record {
+    let items = c.in_ok-extend_from_slice.ensures.items in
+    record {
       taken = front.taken;
       is = bytes_taken carry shown shown front.taken kept now count refl front.is items;
       closed = front.closed;
       all = λ e. all_taken shown kept now count (c.lines_len-count.ensures.all e) (front.all e) items;
       lines = front.lines;
-    })
+    }

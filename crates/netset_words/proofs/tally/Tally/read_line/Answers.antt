@@ -13,4 +13,6 @@ returns-in-Some c =
 
 pub returns-in-None : goal.returns-in-None
 returns-in-None c =
-    line_without c.args.request c.args.self.now _ c.args.line.now c.in-None.ensures refl c.in_ok-self.ensures.next
+    OnOk_then c.count_none.result c.count_none.ensures.nones
+    (line_without c.args.request c.args.self.now c.count_none.new.self c.args.line.now c.in-None.ensures
+    c.count_none.ensures.counts)

@@ -1,8 +1,10 @@
-use Rattle.std.proofs.Common.{◌≡◌, sym, subst, All}
+use Rattle.std.proofs.Common.{All, subst}
 use Rattle.ipnet_base.specs.Network.{truncation}
 use Rattle.ipnet.specs.NetworkOf.{ip_network}
 use Rattle.ipnet_lists.specs.EntryOf.{entry_range}
+use Rattle.netset_words.specs.LogEntries.{IsNoEntryWord}
 use Rattle.netset_words.specs.LogSteps.{IsNextLogEntry}
+use Rattle.netset_words.specs.Words.{words_of}
 use Rattle.netset_words.proofs.TallyNetworks.{line_with}
 use Rattle.netset_words.proofs.tally.TallyRequest.line_network.Goals as goal
 
@@ -17,5 +19,6 @@ pub returns-in-None : goal.returns-in-None
 returns-in-None c = record {
   part = c.part_after-part.result.now;
   read = c.part_after-part.ensures;
-  none = rw (sym c.lines.ensures) c.in-None.ensures.entry;
+  none = subst (λ q. All (IsNoEntryWord q.grammar) (words_of c.part_after-part.result.now)) c.lines.ensures
+      c.in-None.ensures.entry;
 }

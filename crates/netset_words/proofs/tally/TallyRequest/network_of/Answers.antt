@@ -7,12 +7,12 @@ use Rattle.netset_words.proofs.tally.TallyRequest.network_of.Goals as goal
 
 pub returns-in-Some : goal.returns-in-Some
 returns-in-Some c =
-    around (entry_range c.args.entry) (ip_address c.ends.result.0) (ip_address c.ends.result.1)
-    (ip_network c.from.result) (ip_network c.from-2.result) c.ends.ensures.first c.ends.ensures.last c.from.ensures
-    c.from-2.ensures c.args.self (ip_network c.in-Some.network) _ c.in-Some.ensures.some c.cut.ensures
+    around (entry_range c.args.entry) (ip_address c.ends-first.result.0) (ip_address c.ends-first.result.1)
+    (ip_network c.from-first.result) (ip_network c.from-last.result) c.ends-first.ensures.first c.ends-first.ensures.last c.from-first.ensures
+    c.from-last.ensures c.args.self (ip_network c.in-Some.network) _ c.in-Some.ensures.some c.cut.ensures
 
 pub returns-in-None : goal.returns-in-None
 returns-in-None c =
-    absurd (c.in-None.ensures.none (one_family (entry_range c.args.entry) (ip_address c.ends.result.0)
-    (ip_address c.ends.result.1) (ip_network c.from.result) (ip_network c.from-2.result) c.ends.ensures.first
-    c.ends.ensures.last c.from.ensures c.from-2.ensures))
+    absurd (c.in-None.ensures.none (one_family (entry_range c.args.entry) (ip_address c.ends-first.result.0)
+    (ip_address c.ends-first.result.1) (ip_network c.from-first.result) (ip_network c.from-last.result) c.ends-first.ensures.first
+    c.ends-first.ensures.last c.from-first.ensures c.from-last.ensures))

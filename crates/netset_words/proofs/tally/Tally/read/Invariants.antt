@@ -1,5 +1,5 @@
 use Rattle.netset_words.proofs.TallyReading.{IsTallyUpTo}
-use Rattle.netset_words.proofs.tally_reader.Tally.read.Given as goal
+use Rattle.netset_words.proofs.tally.Tally.read.Given as goal
 
 -- the log was read up to what is pending
 abbrev pub invariant-loop : goal.invariant-loop

@@ -4,7 +4,7 @@ use Rattle.ipnet_text.specs.Window.{held}
 use Rattle.netset_words.specs.TallySteps.{ReadsFront, ReadsLines}
 use Rattle.netset_words.proofs.InputReading.{input_begins}
 use Rattle.netset_words.proofs.TallyReading.{IsTallyUpTo, tally_begins, tally_goes_on, tally_ends}
-use Rattle.netset_words.proofs.tally_reader.Tally.read.Goals as goal
+use Rattle.netset_words.proofs.tally.Tally.read.Goals as goal
 
 pub loop-init : goal.loop-init
 loop-init g c =
