@@ -3,7 +3,7 @@ use Rattle.ipnet_lists.specs.Entries.{IsEntryText}
 use Rattle.ipnet_lists.specs.FoundEntry.{found_range}
 use Rattle.netset_words.specs.Words.{words_of}
 use Rattle.netset_words.specs.WordSteps.{word_of}
-use Rattle.netset_words.proofs.RangeLaws.{no_range, range_item, is_wanted}
+use Rattle.netset_words.proofs.RangeLaws.{no_range, range_item}
 use Rattle.netset_words.proofs.Separators.{no_entry_without}
 use Rattle.netset_words.proofs.WordLaws.{span_cut}
 use Rattle.netset_words.proofs.item.range_at.Goals as goal
