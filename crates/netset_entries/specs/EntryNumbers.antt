@@ -14,13 +14,17 @@ use Rattle.netset_entries.specs.TextParts.{AreTextParts}
 abbrev pub LiesInRange : AddressRange → Network → Type 0
 LiesInRange range n = (x : Address) → IsInRange (block_range n) x → IsInRange range x
 
+-- What a network counts in the range: its number if it lies in the range, and otherwise 0.
+abbrev pub IsRowNumber : AddressRange → Route ℕ → ℕ → Type 0
+IsRowNumber range row n =
+    (LiesInRange range row.0 × (n ≡ row.1)) ⊎ ((¬ (LiesInRange range row.0)) × (n ≡ 0))
+
 -- The sum of the numbers of the networks that lie in the range.
 -- Example: 5 for 10.0.0.0/8, and 10.0.0.1/32 with 2, 10.1.0.0/16 with 3 and ::1/128 with 4.
 abbrev pub IsNumberIn : AddressRange → List (Route ℕ) → ℕ → Type 0
-IsNumberIn range [] total = total ≡ 0
-IsNumberIn range (row ∷ rows) total =
-    (LiesInRange range row.0 × (others : ℕ) × IsNumberIn range rows others × (total ≡ row.1 + others))
-    ⊎ ((¬ (LiesInRange range row.0)) × IsNumberIn range rows total)
+IsNumberIn range [] sum = sum ≡ 0
+IsNumberIn range (row ∷ rows) sum = (n : ℕ) × (others : ℕ) × IsRowNumber range row n × IsNumberIn range rows others
+    × (sum ≡ n + others)
 
 -- A tab (9), the number and "\n" (10).
 abbrev pub number_text : ℕ → List ℕ

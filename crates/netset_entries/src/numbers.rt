@@ -1,9 +1,10 @@
 //! The sum of the numbers of the networks that lie in each entry of a list, as text.
 ghost use Rattle.std.specs.Prelude.{◌≡◌, ◌++◌, ◌+◌, ℕ, List, map, IfOk, OnOk, string_bytes};
 ghost use Rattle.ipnet_lists.specs.EntryOf.{entry_range};
-ghost use Rattle.ipnet_routes.specs.Routes.{ip_routes};
+ghost use Rattle.ipnet_routes.specs.Routes.{ip_route, ip_routes};
 ghost use Rattle.netset_entries.specs.EntryLineOf.{numbered};
-ghost use Rattle.netset_entries.specs.EntryNumbers.{AreNumberLines, IsNumberIn, IsNumberLine, number_text};
+ghost use Rattle.netset_entries.specs.EntryNumbers.{AreNumberLines, IsNumberIn, IsNumberLine};
+ghost use Rattle.netset_entries.specs.EntryNumbers.{IsRowNumber, number_text};
 
 use crate::entry_list::EntryLine;
 use crate::find::is_inside;
@@ -21,15 +22,24 @@ fn add(sum: usize, number: usize) -> Result<usize, AllocError>
     }
 }
 
+/// Returns the number of the network if it lies in the entry, and otherwise 0.
+fn number_of(row: &(IpNet, usize), entry: Entry) -> usize
+    ensures { IsRowNumber (entry_range entry) (ip_route row) result }
+{
+    if is_inside(Entry::Network(row.0), entry) {
+        row.1
+    } else {
+        0
+    }
+}
+
 /// Returns the sum of the numbers of the networks that lie in the entry. Fails if it is more than a `usize` holds.
 fn number_in(rows: &[(IpNet, usize)], entry: Entry) -> Result<usize, AllocError>
     ensures { IfOk result (IsNumberIn (entry_range entry) (ip_routes rows.now)) }
 {
     let mut sum = 0;
     for row in rows {
-        if is_inside(Entry::Network(row.0), entry) {
-            sum = add(sum, row.1)?;
-        }
+        sum = add(sum, number_of(row, entry))?;
     }
     Ok(sum)
 }
