@@ -14,7 +14,7 @@ use Rattle.netset_entries.specs.TextParts.{AreTextParts}
 abbrev pub LiesInRange : AddressRange → Network → Type 0
 LiesInRange range n = (x : Address) → IsInRange (block_range n) x → IsInRange range x
 
--- What a network counts in the range: its number if it lies in the range, and otherwise 0.
+-- The number of a network in the range: its own if it lies in the range, and otherwise 0.
 abbrev pub IsRowNumber : AddressRange → Route ℕ → ℕ → Type 0
 IsRowNumber range row n =
     (LiesInRange range row.0 × (n ≡ row.1)) ⊎ ((¬ (LiesInRange range row.0)) × (n ≡ 0))
