@@ -207,7 +207,11 @@ some_row (n ∷ ns) [] h none =
     absurd (contains_nil (n, occurrences n (n ∷ ns)) ((h (n, occurrences n (n ∷ ns))).1 (some, refl)))
   where
     some : 0 < occurrences n (n ∷ ns)
-    some = subst (λ b. 0 < occurrences n ns + cond b 1 0) (sym (same_itself n)) (omega arith)
+    some =
+        let all : occurrences n (n ∷ ns) ≡ (0 + cond (is_same n n) 1 0) + occurrences n ns
+        = sum_by-append (λ z. cond (is_same n z) 1 0) (n ∷ []) ns in
+        let one : cond (is_same n n) 1 0 ≡ 1 = ap (λ b. cond b 1 0) (same_itself n) in
+        omega (arith, all, one)
 some_row (n ∷ ns) (r ∷ rows) h none = absurd (omega arith)
 
 no_row : (ns : List Network) (rows : List (Route ℕ)) → AreOccurrences ns rows → ns ≡ [] → length rows ≡ 0
