@@ -1,7 +1,8 @@
 //! The sum of the numbers of the networks that lie in each entry of a list, as text.
 ghost use Rattle.std.specs.Prelude.{◌≡◌, ◌++◌, ◌+◌, ℕ, List, map, IfOk, OnOk, string_bytes};
+ghost use Rattle.ipnet.specs.NetworkOf.{ip_network};
 ghost use Rattle.ipnet_lists.specs.EntryOf.{entry_range};
-ghost use Rattle.ipnet_routes.specs.Routes.{ip_route, ip_routes};
+ghost use Rattle.ipnet_routes.specs.Routes.{ip_routes};
 ghost use Rattle.netset_entries.specs.EntryLineOf.{numbered};
 ghost use Rattle.netset_entries.specs.EntryNumbers.{AreNumberLines, IsNumberIn, IsNumberLine};
 ghost use Rattle.netset_entries.specs.EntryNumbers.{IsRowNumber, number_text};
@@ -24,7 +25,7 @@ fn add(sum: usize, number: usize) -> Result<usize, AllocError>
 
 /// Returns the number of the network if it lies in the entry, and otherwise 0.
 fn number_of(row: &(IpNet, usize), entry: Entry) -> usize
-    ensures { IsRowNumber (entry_range entry) (ip_route row) result }
+    ensures { IsRowNumber (entry_range entry) (ip_network row.now.0, row.now.1) result }
 {
     if is_inside(Entry::Network(row.0), entry) {
         row.1
