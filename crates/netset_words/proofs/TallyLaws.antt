@@ -210,7 +210,7 @@ some_row (n ∷ ns) [] h none =
     some =
         let all : occurrences n (n ∷ ns) ≡ (0 + cond (is_same n n) 1 0) + occurrences n ns
         = sum_by-append (λ z. cond (is_same n z) 1 0) (n ∷ []) ns in
-        let one : cond (is_same n n) 1 0 ≡ 1 = ap (λ b. cond b 1 0) (same_itself n) in
+        let one : cond {A = ℕ} (is_same n n) 1 0 ≡ 1 = ap (λ b. cond b 1 0) (same_itself n) in
         omega (arith, all, one)
 some_row (n ∷ ns) (r ∷ rows) h none = absurd (omega arith)
 
