@@ -1,7 +1,7 @@
 -- The networks of lines that are read one after another, and how often each occurs.
 use Rattle.std.proofs.Common.{◌≡◌, ◌≢◌, ◌↔◌, ◌⊎◌, ℕ, ◌+◌, ◌<◌, ◌&&◌, Bool, true, false, List, [], ◌∷◌, ◌++◌, All}
 use Rattle.std.proofs.Common.{length, nat_eq, cond, refl, sym, ap, ◌∙◌, arith, inl, inr, subst, append_assoc}
-use Rattle.std.proofs.Common.{append-nil, Contains, IsTrue, zero, suc}
+use Rattle.std.proofs.Common.{append-nil, Contains, IsTrue, not, zero, suc}
 use Rattle.std.proofs.lemmas.Bool.{and_parts, and_from, eqb-true, eq-eqb}
 use Rattle.std.proofs.lemmas.List.Sums.{sum_by-append}
 use Rattle.ipnet.specs.Lines.{lines_of}
@@ -17,6 +17,7 @@ use Rattle.netset_words.specs.declared.tally.TallyRequest.{TallyRequest}
 use Rattle.netset_words.specs.Tallies.{AreLineNetworks, AreOccurrences, HasNoEntry, IsLineNetwork}
 use Rattle.netset_words.specs.Tallies.{IsTallyOutcome, is_same, occurrences}
 use Rattle.netset_words.specs.TallySteps.{IsTallyOf, ReadsLines}
+use Rattle.netset_words.proofs.LogEntryLaws.{not_true}
 
 -- ---- one network or two
 
@@ -220,15 +221,22 @@ no_row ns (r ∷ rows) h none =
     let (some, all) = (h r).0 (contains_here r rows) in
     absurd (omega (arith, some, all ∙ ap (occurrences r.0) none))
 
-pub found_some : (how : TallyRequest) (lines : List (List ℕ)) (t : Tally) (empty found : Bool) → IsTallyOf how lines t
-    → (IsTrue empty ↔ (length (map_routes t.counts) ≡ 0)) → ((found ≡ true) ↔ ¬ (IsTrue empty))
-    → IsTallyOutcome how lines found
-found_some how lines t empty found h is_empty is_found = record {
+-- the test of a list that is not empty
+is_not : (b : Bool) → ¬ (b ≡ true) → not b ≡ true
+is_not true f = absurd (f refl)
+is_not false f = refl
+
+pub found_some : (how : TallyRequest) (lines : List (List ℕ)) (t : Tally) (empty : Bool) → IsTallyOf how lines t
+    → (IsTrue empty ↔ (length (map_routes t.counts) ≡ 0)) → IsTallyOutcome how lines (not empty)
+found_some how lines t empty h is_empty = record {
   networks = h.networks;
   nones = t.nones;
   are = h.are;
   is_found = (
-    λ yes none. is_found.0 yes (is_empty.1 (no_row h.networks (map_routes t.counts) h.counted none)),
-    λ some. is_found.1 (λ e. some (some_row h.networks (map_routes t.counts) h.counted (is_empty.0 e))),
+    λ yes none.
+        let clash : true ≡ false
+        = sym (is_empty.1 (no_row h.networks (map_routes t.counts) h.counted none)) ∙ not_true empty yes in
+        absurd cc,
+    λ some. is_not empty (λ e. some (some_row h.networks (map_routes t.counts) h.counted (is_empty.0 e))),
   );
 }
