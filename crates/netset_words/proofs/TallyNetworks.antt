@@ -1,5 +1,5 @@
 -- The network of an entry, and of a line.
-use Rattle.std.proofs.Common.{◌≡◌, List, ℕ, All, sym, ap, ◌∙◌, subst}
+use Rattle.std.proofs.Common.{◌≡◌, List, ℕ, sym, ap, ◌∙◌, subst}
 use Rattle.ipnet_base.specs.Address.{Address, address_at, width}
 use Rattle.ipnet_base.specs.Network.{Network}
 use Rattle.ipnet_base.specs.Ranges.{AddressRange}

@@ -1,5 +1,4 @@
-use Rattle.std.proofs.Common.{◌≡◌, [], refl, sym, subst}
-use Rattle.ipnet_base.proofs.ListLaws.{contains_nil}
+use Rattle.std.proofs.Common.{[], refl, sym, subst}
 use Rattle.netset_words.specs.Tallies.{AreOccurrences}
 use Rattle.netset_words.proofs.TallyLaws.{none_counted}
 use Rattle.netset_words.proofs.tally.Tally.new.Goals as goal
