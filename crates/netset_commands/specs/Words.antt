@@ -89,6 +89,9 @@ pub record AreFormOptions (matches : ArgMatches) (options : FormOptions) : Type 
   pub least : option_map (λ word. word.now) options.min_length ≡ first_value (found_of matches) (codes "min-length")
   pub ipv4_set : option_map (λ word. word.now) options.sets.ipv4 ≡ first_value (found_of matches) (codes "ipv4-set")
   pub ipv6_set : option_map (λ word. word.now) options.sets.ipv6 ≡ first_value (found_of matches) (codes "ipv6-set")
+  pub declares : IsFlag matches (codes "declare") options.declares
+  pub ipv4_le : option_map (λ word. word.now) options.lengths.ipv4 ≡ first_value (found_of matches) (codes "ipv4-le")
+  pub ipv6_le : option_map (λ word. word.now) options.lengths.ipv6 ≡ first_value (found_of matches) (codes "ipv6-le")
   pub maxelem : option_map (λ word. word.now) options.maxelem ≡ first_value (found_of matches) (codes "maxelem")
   pub chain : option_map (λ word. word.now) options.chain ≡ first_value (found_of matches) (codes "chain")
   pub target : option_map (λ word. word.now) options.target ≡ first_value (found_of matches) (codes "target")

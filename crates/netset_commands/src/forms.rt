@@ -8,7 +8,7 @@ ghost use Rattle.netset_forms.specs.declared.options.FormOptions.{FormOptions};
 use crate::arguments::{RANGES_FLAG, is_set};
 use crate::table::{ARGUMENT, Argument, Form};
 use clap::ArgMatches;
-use netset_forms::{FormOptions, FormRequest, SetNames};
+use netset_forms::{FormOptions, FormRequest, LengthTexts, SetNames};
 use std::io::Write;
 
 /// The ids and the names of the options.
@@ -33,6 +33,12 @@ const MIN_LENGTH: &str = "min-length";
 const IPV4_SET: &str = "ipv4-set";
 
 const IPV6_SET: &str = "ipv6-set";
+
+const DECLARE: &str = "declare";
+
+const IPV4_LE: &str = "ipv4-le";
+
+const IPV6_LE: &str = "ipv6-le";
 
 const MAXELEM: &str = "maxelem";
 
@@ -107,6 +113,24 @@ pub const ANSWER_FORM: &[Argument] = &[
         ..ARGUMENT
     },
     Argument {
+        id: DECLARE,
+        form: Form::Flag(DECLARE),
+        help: "Add the sets and their tables first, unless they exist, for nft",
+        ..ARGUMENT
+    },
+    Argument {
+        id: IPV4_LE,
+        form: Form::Value(IPV4_LE, "LEN"),
+        help: "Permit also the more specific IPv4 networks up to this prefix length, for frr",
+        ..ARGUMENT
+    },
+    Argument {
+        id: IPV6_LE,
+        form: Form::Value(IPV6_LE, "LEN"),
+        help: "The same for the IPv6 networks",
+        ..ARGUMENT
+    },
+    Argument {
         id: CHAIN,
         form: Form::Value(CHAIN, "CHAIN"),
         help: "The chain that gets the rules, for iptables, with -4 or -6",
@@ -140,6 +164,7 @@ fn options_of<'a>(matches: &ArgMatches<'a>) -> FormOptions<'a>
     let ranges = is_set(matches, RANGES);
     let ipv4_only = is_set(matches, IPV4_ONLY);
     let ipv6_only = is_set(matches, IPV6_ONLY);
+    let declares = is_set(matches, DECLARE);
     FormOptions {
         format: matches.get_str(FORMAT),
         ranges,
@@ -149,6 +174,11 @@ fn options_of<'a>(matches: &ArgMatches<'a>) -> FormOptions<'a>
         sets: SetNames {
             ipv4: matches.get_str(IPV4_SET),
             ipv6: matches.get_str(IPV6_SET),
+        },
+        declares,
+        lengths: LengthTexts {
+            ipv4: matches.get_str(IPV4_LE),
+            ipv6: matches.get_str(IPV6_LE),
         },
         maxelem: matches.get_str(MAXELEM),
         chain: matches.get_str(CHAIN),

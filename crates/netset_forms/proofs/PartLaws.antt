@@ -97,10 +97,12 @@ both_parts layout4 layout6 items_of InSet Four Six names least parts fits four s
 pub text_of_item : (k : Commands) (layout : Layout) (least : ℕ) (InSet : Address → Type 0) (text : List ℕ)
     → IsItemsText (named_item k) layout least InSet text → AreBlocksIn layout (named_items k) least InSet text
 text_of_item Sets.Nft layout least InSet text h = h
+text_of_item Sets.DeclaredNftIpv4 layout least InSet text h = h
+text_of_item Sets.DeclaredNftIpv6 layout least InSet text h = h
 text_of_item (Sets.IpsetIpv4 most) layout least InSet text h = h
 text_of_item (Sets.IpsetIpv6 most) layout least InSet text h = h
-text_of_item Sets.FrrIpv4 layout least InSet text h = h
-text_of_item Sets.FrrIpv6 layout least InSet text h = h
+text_of_item (Sets.FrrIpv4 lengths) layout least InSet text h = h
+text_of_item (Sets.FrrIpv6 lengths) layout least InSet text h = h
 text_of_item Sets.Bird layout least InSet text h = h
 
 -- the networks of every family can have the prefix length 1

@@ -1,0 +1,49 @@
+//! The entries of prefix lists.
+ghost use Rattle.std.specs.Prelude.{◌≡◌};
+ghost use Rattle.ipnet.specs.NetworkOf.{ip_network};
+ghost use Rattle.netset_forms.specs.Forms.{entry_length, entry_network, le_words};
+
+use crate::form::EntryLengths;
+use arrayvec::ArrayString;
+use ipnet::IpNet;
+use itoa::Buffer;
+
+/// The room for the words of an entry after its network: the longest are " le 128".
+const LE_WORDS: usize = 40;
+
+/// The room for a network and these words.
+const ENTRY_NETWORK: usize = 100;
+
+/// The greatest prefix length of the routes that an entry for the network permits.
+fn length_for(network: IpNet, lengths: EntryLengths) -> u8
+    ensures { result ≡ entry_length lengths (ip_network network).family }
+{
+    match network {
+        IpNet::V4(_) => lengths.ipv4,
+        IpNet::V6(_) => lengths.ipv6,
+    }
+}
+
+/// The words that permit more specific networks than one of this length, up to the greatest.
+fn le_words(most: u8, length: u8) -> ArrayString<LE_WORDS>
+    ensures { result.bytes ≡ le_words most length }
+{
+    let mut words = ArrayString::new();
+    if length >= most {
+        return words;
+    }
+    words.push_str(" le ");
+    words.push_str(Buffer::new().format(most));
+    words
+}
+
+/// The network of an entry, and the words that permit more specific networks.
+pub(crate) fn entry_network(network: IpNet, lengths: EntryLengths) -> ArrayString<ENTRY_NETWORK>
+    ensures { result.bytes ≡ entry_network lengths (ip_network network) }
+{
+    let most = length_for(network, lengths);
+    let mut words = ArrayString::new();
+    words.push_str(network.to_text().as_str());
+    words.push_str(le_words(most, network.prefix_len()).as_str());
+    words
+}
