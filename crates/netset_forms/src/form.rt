@@ -38,8 +38,8 @@ pub struct ChainRules<'a> {
     pub target: &'a str,
 }
 
-/// The greatest prefix lengths of the routes that the entries of prefix lists permit, one for each family. An entry for a
-/// network of this length, or a longer one, permits only the network: with 0, each entry does.
+/// The greatest prefix lengths of the routes that the entries of prefix lists permit, one for each family. An entry for
+/// a network of this length, or a longer one, permits only the network: with 0, each entry does.
 #[derive(Clone, Copy, Debug, PartialEq, Eq)]
 pub struct EntryLengths {
     /// For IPv4 networks.
