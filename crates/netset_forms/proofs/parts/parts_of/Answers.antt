@@ -43,10 +43,12 @@ returns-in-Nft-clause-failure c = named_failures _ _ _ _ _ (ap names_in c.in-Nft
 
 pub returns-in-DeclaredNft-clause-parts : goal.returns-in-DeclaredNft-clause-parts
 returns-in-DeclaredNft-clause-parts c =
-    named_of_form _ _ _ _ _ _ c.in-DeclaredNft.is c.least_of-least.ensures refl c.named_parts-in-DeclaredNft.ensures.parts
+    named_of_form _ _ _ _ _ _ c.in-DeclaredNft.is c.least_of-least.ensures refl
+    c.named_parts-in-DeclaredNft.ensures.parts
 
 pub returns-in-DeclaredNft-clause-failure : goal.returns-in-DeclaredNft-clause-failure
-returns-in-DeclaredNft-clause-failure c = named_failures _ _ _ _ _ (ap names_in c.in-DeclaredNft.is) c.named_parts-in-DeclaredNft.ensures.failure
+returns-in-DeclaredNft-clause-failure c =
+    named_failures _ _ _ _ _ (ap names_in c.in-DeclaredNft.is) c.named_parts-in-DeclaredNft.ensures.failure
 
 pub returns-in-Ipset-clause-parts : goal.returns-in-Ipset-clause-parts
 returns-in-Ipset-clause-parts c =
@@ -67,4 +69,5 @@ returns-in-Bird-clause-parts c =
     named_of_form _ _ _ _ _ _ c.in-Bird.is c.least_of-least.ensures refl c.named_parts-in-Bird.ensures.parts
 
 pub returns-in-Bird-clause-failure : goal.returns-in-Bird-clause-failure
-returns-in-Bird-clause-failure c = named_failures _ _ _ _ _ (ap names_in c.in-Bird.is) c.named_parts-in-Bird.ensures.failure
+returns-in-Bird-clause-failure c =
+    named_failures _ _ _ _ _ (ap names_in c.in-Bird.is) c.named_parts-in-Bird.ensures.failure
