@@ -8,11 +8,11 @@ use arrayvec::ArrayString;
 use ipnet::IpNet;
 use itoa::Buffer;
 
-/// The room for the words of an entry after its network: the longest are " le 128".
-const LE_WORDS: usize = 40;
+/// The length of the longest words after the network of an entry; a `u8` has at most three digits.
+const LE_WORDS: usize = " le 128".len();
 
-/// The room for a network and these words.
-const ENTRY_NETWORK: usize = 100;
+/// The room for a network and these words: the longest text of a network has 43 bytes.
+const ENTRY_NETWORK: usize = 64;
 
 /// The greatest prefix length of the routes that an entry for the network permits.
 fn length_for(network: IpNet, lengths: EntryLengths) -> u8
