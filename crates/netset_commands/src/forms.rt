@@ -1,14 +1,15 @@
 //! The options for the form of an answer that is a set.
 ghost use Rattle.std.specs.Prelude.{◌≡◌, codes, IfOk, IfErr};
 ghost use Rattle.netset_commands.specs.Arguments.{IsFlag};
-ghost use Rattle.netset_commands.specs.Words.{AreFormOptions};
+ghost use Rattle.netset_commands.specs.Words.{AreFormOptions, AreLengthsGiven};
 ghost use Rattle.netset_forms.specs.FormOptions.{IsRequestOf};
 ghost use Rattle.netset_forms.specs.declared.options.FormOptions.{FormOptions};
 
 use crate::arguments::{RANGES_FLAG, is_set};
+use crate::select::length_of;
 use crate::table::{ARGUMENT, Argument, Form};
 use clap::ArgMatches;
-use netset_forms::{FormOptions, FormRequest, LengthTexts, SetNames};
+use netset_forms::{FormOptions, FormRequest, GivenLengths, SetNames};
 use std::io::Write;
 
 /// The ids and the names of the options.
@@ -157,8 +158,20 @@ pub fn needs_address(matches: &ArgMatches) -> bool
     is_set(matches, STATUS)
 }
 
-/// The options for the form of an answer.
-fn options_of<'a>(matches: &ArgMatches<'a>) -> FormOptions<'a>
+/// The greatest lengths of the entries of prefix lists. If a word is not a prefix length, it is reported, and the error
+/// is the exit status.
+fn lengths_of(rt: &HostRuntime, matches: &ArgMatches) -> Result<GivenLengths, u8>
+    ensures lengths { IfOk result (AreLengthsGiven matches.now) }
+    ensures failed { IfErr result (λ status. status ≡ 2) }
+{
+    let ipv4 = length_of(rt, matches, IPV4_LE)?;
+    let ipv6 = length_of(rt, matches, IPV6_LE)?;
+    Ok(GivenLengths { ipv4, ipv6 })
+}
+
+/// The options for the form of an answer, with these greatest lengths.
+fn options_of<'a>(matches: &ArgMatches<'a>, lengths: GivenLengths) -> FormOptions<'a>
+    requires { AreLengthsGiven matches.now lengths }
     ensures { AreFormOptions matches.now result }
 {
     let ranges = is_set(matches, RANGES);
@@ -176,10 +189,7 @@ fn options_of<'a>(matches: &ArgMatches<'a>) -> FormOptions<'a>
             ipv6: matches.get_str(IPV6_SET),
         },
         declares,
-        lengths: LengthTexts {
-            ipv4: matches.get_str(IPV4_LE),
-            ipv6: matches.get_str(IPV6_LE),
-        },
+        lengths,
         maxelem: matches.get_str(MAXELEM),
         chain: matches.get_str(CHAIN),
         target: matches.get_str(TARGET),
@@ -196,7 +206,8 @@ pub fn form_of<'a>(rt: &HostRuntime, matches: &ArgMatches<'a>) -> Result<FormReq
         × IsRequestOf options request) }
     ensures failed { IfErr result (λ status. status ≡ 2) }
 {
-    match options_of(matches).request() {
+    let lengths = lengths_of(rt, matches)?;
+    match options_of(matches, lengths).request() {
         Ok(request) => Ok(request),
         Err(fault) => {
             let _ = match fault.value() {

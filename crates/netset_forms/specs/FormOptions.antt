@@ -1,5 +1,5 @@
 -- The options of a command line for the form of an answer, and why they do not go together.
-use Rattle.std.specs.Prelude.{◌≡◌, ◌≢◌, ◌⊎◌, ◌↔◌, ◌==◌, ◌||◌, ◌≤◌, ℕ, Bool, true, false, cond, List, [], codes}
+use Rattle.std.specs.Prelude.{◌≡◌, ◌≢◌, ◌⊎◌, ◌↔◌, ◌==◌, ◌||◌, ◌≤◌, ◌<◌, ℕ, Bool, true, false, cond, List, [], codes}
 use Rattle.std.specs.Prelude.{Option, Some, None, IsSome, IfSome, IsSomeAnd, unwrap_or, option_map}
 use Rattle.std.specs.List.{list_any}
 use Rattle.std.specs.Borrow.{Bor}
@@ -12,7 +12,6 @@ use Rattle.netset_forms.specs.declared.form.AnswerForm.TheVariants as Forms
 use Rattle.netset_forms.specs.declared.fault.FormFault.{FormFault}
 use Rattle.netset_forms.specs.declared.fault.FormFault.TheVariants as Faults
 use Rattle.netset_forms.specs.declared.form.ChainRules.{ChainRules}
-use Rattle.netset_forms.specs.declared.form.EntryLengths.{EntryLengths}
 use Rattle.netset_forms.specs.declared.form.FormRequest.{FormRequest}
 use Rattle.netset_forms.specs.declared.options.FormName.{FormName}
 use Rattle.netset_forms.specs.declared.options.FormName.TheVariants.{Plain, Ranges, Json, Csv, Nft, Ipset}
@@ -81,23 +80,9 @@ abbrev pub IsMinLength : FormName → FormOptions → ℕ → Type 0
 IsMinLength form options length = ((options.min_length ≡ None) × (length ≡ 0))
     ⊎ (IsSomeAnd options.min_length (λ word. IsLengthText word.now length) × (form ≢ Ranges))
 
--- The text is a prefix length of at most this length. Example: `24` and `/24` for 32; `33` is none.
-abbrev pub IsLengthUpTo : (greatest : ℕ) → List ℕ → ℕ → Type 0
-IsLengthUpTo greatest text n = IsLengthText text n × (n ≤ greatest)
-
--- The greatest length of the entries of a prefix list, at most the greatest of its family; 0, if there is none.
-abbrev pub IsEntryLength : (greatest : ℕ) → Option (Bor (List ℕ)) → ℕ → Type 0
-IsEntryLength greatest None length = length ≡ 0
-IsEntryLength greatest (Some word) length = IsLengthUpTo greatest word.now length
-
--- The greatest lengths of the entries of the prefix lists of both families.
-pub record AreEntryLengths (options : FormOptions) (lengths : EntryLengths) : Type 0 where
-  pub ipv4 : IsEntryLength 32 options.lengths.ipv4 lengths.ipv4
-  pub ipv6 : IsEntryLength 128 options.lengths.ipv6 lengths.ipv6
-
--- A greatest length of entries is for FRR, and for a prefix list with a name.
-abbrev pub IsForList : FormName → (length name : Option (Bor (List ℕ))) → Type 0
-IsForList form length name = IfSome length (λ word. (form ≡ Frr) × IsSome name)
+-- A greatest length of entries is for FRR, for a prefix list with a name, and at most the greatest of its family.
+abbrev pub IsForList : (greatest : ℕ) → FormName → (length : Option ℕ) → (name : Option (Bor (List ℕ))) → Type 0
+IsForList greatest form length name = IfSome length (λ n. (form ≡ Frr) × IsSome name × (n ≤ greatest))
 
 -- A line feed (10) or a carriage return (13).
 abbrev pub is_line_break : ℕ → Bool
@@ -157,23 +142,24 @@ abbrev pub text_or_none : Option (Bor (List ℕ)) → List ℕ
 text_or_none given = unwrap_or (option_map (λ text. text.now) given) []
 
 -- The form of this name, with the values of the options.
-abbrev pub IsFormOf : FormName → FormOptions → ℕ → ChainRules → EntryLengths → AnswerForm → Type 0
-IsFormOf form options most rules lengths (Forms.Networks lines) = (form ≡ Plain)
+abbrev pub IsFormOf : FormName → FormOptions → ℕ → ChainRules → AnswerForm → Type 0
+IsFormOf form options most rules (Forms.Networks lines) = (form ≡ Plain)
     × (lines.prefix.now ≡ text_or_none options.prefix) × (lines.suffix.now ≡ text_or_none options.suffix)
-IsFormOf form options most rules lengths (Forms.Ranges lines) = (form ≡ Ranges)
+IsFormOf form options most rules (Forms.Ranges lines) = (form ≡ Ranges)
     × (lines.prefix.now ≡ text_or_none options.prefix) × (lines.suffix.now ≡ text_or_none options.suffix)
-IsFormOf form options most rules lengths Forms.Json = form ≡ Json
-IsFormOf form options most rules lengths Forms.Csv = form ≡ Csv
-IsFormOf form options most rules lengths (Forms.Nft sets) =
+IsFormOf form options most rules Forms.Json = form ≡ Json
+IsFormOf form options most rules Forms.Csv = form ≡ Csv
+IsFormOf form options most rules (Forms.Nft sets) =
     (form ≡ Nft) × (options.declares ≡ false) × (sets ≡ options.sets)
-IsFormOf form options most rules lengths (Forms.DeclaredNft sets) =
+IsFormOf form options most rules (Forms.DeclaredNft sets) =
     (form ≡ Nft) × (options.declares ≡ true) × (sets ≡ options.sets)
-IsFormOf form options most rules lengths (Forms.Ipset sets number) =
+IsFormOf form options most rules (Forms.Ipset sets number) =
     (form ≡ Ipset) × (sets ≡ options.sets) × (number ≡ most)
-IsFormOf form options most rules lengths (Forms.Frr sets up_to) =
-    (form ≡ Frr) × (sets ≡ options.sets) × (up_to ≡ lengths)
-IsFormOf form options most rules lengths (Forms.Bird sets) = (form ≡ Bird) × (sets ≡ options.sets)
-IsFormOf form options most rules lengths (Forms.Iptables written) = (form ≡ Iptables) × (written ≡ rules)
+IsFormOf form options most rules (Forms.Frr sets lengths) =
+    (form ≡ Frr) × (sets ≡ options.sets)
+    × (lengths.ipv4 ≡ unwrap_or options.lengths.ipv4 0) × (lengths.ipv6 ≡ unwrap_or options.lengths.ipv6 0)
+IsFormOf form options most rules (Forms.Bird sets) = (form ≡ Bird) × (sets ≡ options.sets)
+IsFormOf form options most rules (Forms.Iptables written) = (form ≡ Iptables) × (written ≡ rules)
 
 -- The options go together, and ask for this.
 -- Example: `--format json`, `--min-length 24` and `-4` ask for JSON, of IPv4 networks from the prefix length 24 on.
@@ -184,9 +170,7 @@ pub record IsRequestOf (options : FormOptions) (request : FormRequest) : Type 0 
   pub elements : IsMostElements name options most
   pub rules : ChainRules
   pub chain : AreRulesOf name options rules
-  pub lengths : EntryLengths
-  pub entries : AreEntryLengths options lengths
-  pub form : IsFormOf name options most rules lengths request.form
+  pub form : IsFormOf name options most rules request.form
   pub least : IsMinLength name options request.min_length
   pub families : request.families ≡ families_of options.ipv4_only options.ipv6_only
   pub prefix : IsGoodText name options.prefix
@@ -196,8 +180,8 @@ pub record IsRequestOf (options : FormOptions) (request : FormRequest) : Type 0 
   pub ipv6 : IsGoodName name options.sets.ipv6
   pub both : AreGoodBoth name options
   pub shown : ¬ (HasOtherFamily options)
-  pub ipv4_list : IsForList name options.lengths.ipv4 options.sets.ipv4
-  pub ipv6_list : IsForList name options.lengths.ipv6 options.sets.ipv6
+  pub ipv4_length : IsForList 32 name options.lengths.ipv4 options.sets.ipv4
+  pub ipv6_length : IsForList 128 name options.lengths.ipv6 options.sets.ipv6
   pub declared : options.declares ≡ true → name ≡ Nft
 
 -- This is a reason why the options of this form do not go together.
@@ -241,10 +225,8 @@ IsFormFault form options Faults.OtherLengths =
     (form ≢ Frr) × (IsSome options.lengths.ipv4 ⊎ IsSome options.lengths.ipv6)
 IsFormFault form options Faults.NoIpv4List = IsSome options.lengths.ipv4 × (options.sets.ipv4 ≡ None)
 IsFormFault form options Faults.NoIpv6List = IsSome options.lengths.ipv6 × (options.sets.ipv6 ≡ None)
-IsFormFault form options (Faults.Ipv4Length word) =
-    (options.lengths.ipv4 ≡ Some word) × ((n : ℕ) → ¬ (IsLengthUpTo 32 word.now n))
-IsFormFault form options (Faults.Ipv6Length word) =
-    (options.lengths.ipv6 ≡ Some word) × ((n : ℕ) → ¬ (IsLengthUpTo 128 word.now n))
+IsFormFault form options Faults.LongIpv4 = IsSomeAnd options.lengths.ipv4 (λ n. 32 < n)
+IsFormFault form options Faults.LongIpv6 = IsSomeAnd options.lengths.ipv6 (λ n. 128 < n)
 IsFormFault form options Faults.OtherDeclaration = (options.declares ≡ true) × (form ≢ Nft)
 
 -- The value of the option, if the fault is about one.
@@ -257,8 +239,6 @@ fault_value (Faults.BirdName word) = Some word.now
 fault_value (Faults.ChainName word) = Some word.now
 fault_value (Faults.TargetName word) = Some word.now
 fault_value (Faults.Maxelem word) = Some word.now
-fault_value (Faults.Ipv4Length word) = Some word.now
-fault_value (Faults.Ipv6Length word) = Some word.now
 fault_value Faults.Prefix = None
 fault_value Faults.LineBreak = None
 fault_value Faults.Suffix = None
@@ -277,4 +257,6 @@ fault_value Faults.OtherMaxelem = None
 fault_value Faults.OtherLengths = None
 fault_value Faults.NoIpv4List = None
 fault_value Faults.NoIpv6List = None
+fault_value Faults.LongIpv4 = None
+fault_value Faults.LongIpv6 = None
 fault_value Faults.OtherDeclaration = None

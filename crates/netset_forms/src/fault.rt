@@ -83,12 +83,12 @@ pub enum FormFault<'a> {
     /// The same for an IPv6 list.
     #[error("--ipv6-le is for the list that --ipv6-set names")]
     NoIpv6List,
-    /// The text is not a prefix length of IPv4.
-    #[error("not a prefix length from 0 to 32")]
-    Ipv4Length(&'a str),
-    /// The text is not a prefix length of IPv6.
-    #[error("not a prefix length from 0 to 128")]
-    Ipv6Length(&'a str),
+    /// The greatest length of IPv4 entries is not one of IPv4.
+    #[error("--ipv4-le is above 32")]
+    LongIpv4,
+    /// The greatest length of IPv6 entries is not one of IPv6.
+    #[error("--ipv6-le is above 128")]
+    LongIpv6,
     /// A declaration of sets, and the form is another.
     #[error("--declare is for the format nft; ipset creates its sets without it")]
     OtherDeclaration,
@@ -112,8 +112,6 @@ impl<'a> FormFault<'a> {
             FormFault::ChainName(value) => Some(value),
             FormFault::TargetName(value) => Some(value),
             FormFault::Maxelem(value) => Some(value),
-            FormFault::Ipv4Length(value) => Some(value),
-            FormFault::Ipv6Length(value) => Some(value),
             _ => None,
         }
     }

@@ -7,7 +7,6 @@ mod entries;
 pub mod fault;
 pub mod form;
 mod frame;
-mod lengths;
 pub mod names;
 pub mod newly_permitted;
 pub mod options;
@@ -25,6 +24,6 @@ pub use names::{
     is_nft_name, is_target_name,
 };
 pub use newly_permitted::{NewlyPermittedCommand, RulePairFailure};
-pub use options::{FormName, FormOptions, LengthTexts};
+pub use options::{FormName, FormOptions, GivenLengths};
 pub use program::{FormCommand, PermittedCommand};
 pub use write::write_form;

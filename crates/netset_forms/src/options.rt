@@ -4,13 +4,12 @@ ghost use Rattle.std.specs.List.{list_any};
 ghost use Rattle.netset_forms.specs.FormOptions.{form_text, HasLines, HasSets, HasNames, IsMaxelem, IsRequestOf};
 ghost use Rattle.netset_forms.specs.FormOptions.{IsFormNamed, IsFormOf, IsMostElements, IsMinLength, IsGoodText};
 ghost use Rattle.netset_forms.specs.FormOptions.{AreGoodSets, IsGoodName, AreGoodBoth, AreRulesOf, IsFormFault};
-ghost use Rattle.netset_forms.specs.FormOptions.{HasOtherFamily, AreEntryLengths, IsForList, is_line_break};
+ghost use Rattle.netset_forms.specs.FormOptions.{HasOtherFamily, IsForList, is_line_break};
 ghost use Rattle.netset_forms.specs.declared.options.FormName.{FormName};
 ghost use Rattle.netset_forms.specs.declared.options.FormName.TheVariants.{Iptables, Nft};
 
 use crate::fault::FormFault;
 use crate::form::{AnswerForm, ChainRules, EntryLengths, FormRequest, LineTexts, SetNames};
-use crate::lengths::entry_length;
 use crate::names::{
     are_ipset_sets, are_nft_sets, is_bird_name, is_chain_name, is_frr_name, is_ipset_name,
     is_nft_name, is_target_name,
@@ -45,11 +44,11 @@ pub enum FormName {
 
 /// The greatest lengths of the entries of prefix lists, as they were given.
 #[derive(Clone, Copy, Debug, PartialEq, Eq)]
-pub struct LengthTexts<'a> {
+pub struct GivenLengths {
     /// `--ipv4-le`
-    pub ipv4: Option<&'a str>,
+    pub ipv4: Option<u8>,
     /// `--ipv6-le`
-    pub ipv6: Option<&'a str>,
+    pub ipv6: Option<u8>,
 }
 
 /// The options for the form of an answer, as they were given.
@@ -70,7 +69,7 @@ pub struct FormOptions<'a> {
     /// `--declare`
     pub declares: bool,
     /// `--ipv4-le` and `--ipv6-le`
-    pub lengths: LengthTexts<'a>,
+    pub lengths: GivenLengths,
     /// `--maxelem`
     pub maxelem: Option<&'a str>,
     /// `--chain`
@@ -328,37 +327,37 @@ impl<'a> FormOptions<'a> {
         }
     }
 
-    /// Refuses a greatest length of entries if the form has none, or if their list has no name.
-    fn check_lists(self, form: FormName) -> Result<(), FormFault<'a>>
-        ensures ipv4 { OnOk result (IsForList form self.entry.lengths.ipv4 self.entry.sets.ipv4) }
-        ensures ipv6 { OnOk result (IsForList form self.entry.lengths.ipv6 self.entry.sets.ipv6) }
+    /// Refuses a greatest length of IPv4 entries if the form has no entries, if their list has no name, or if IPv4 has no
+    /// such length.
+    fn check_ipv4_length(self, form: FormName) -> Result<(), FormFault<'a>>
+        ensures good { OnOk result (IsForList 32 form self.entry.lengths.ipv4 self.entry.sets.ipv4) }
         ensures fault { IfErr result (IsFormFault form self.entry) }
     {
-        let has_ipv4 = self.lengths.ipv4.is_some();
-        let has_ipv6 = self.lengths.ipv6.is_some();
+        let Some(length) = self.lengths.ipv4 else {
+            return Ok(());
+        };
         match form {
-            FormName::Frr if has_ipv4 && self.sets.ipv4.is_none() => Err(FormFault::NoIpv4List),
-            FormName::Frr if has_ipv6 && self.sets.ipv6.is_none() => Err(FormFault::NoIpv6List),
+            FormName::Frr if self.sets.ipv4.is_none() => Err(FormFault::NoIpv4List),
+            FormName::Frr if length > 32 => Err(FormFault::LongIpv4),
             FormName::Frr => Ok(()),
-            _ if has_ipv4 || has_ipv6 => Err(FormFault::OtherLengths),
-            _ => Ok(()),
+            _ => Err(FormFault::OtherLengths),
         }
     }
 
-    /// The greatest lengths of the entries of prefix lists.
-    fn entry_lengths(self, form: FormName) -> Result<EntryLengths, FormFault<'a>>
-        ensures good { IfOk result (AreEntryLengths self.entry) }
+    /// Refuses a greatest length of IPv6 entries as `check_ipv4_length` does one of IPv4 entries.
+    fn check_ipv6_length(self, form: FormName) -> Result<(), FormFault<'a>>
+        ensures good { OnOk result (IsForList 128 form self.entry.lengths.ipv6 self.entry.sets.ipv6) }
         ensures fault { IfErr result (IsFormFault form self.entry) }
     {
-        let ipv4 = match entry_length(self.lengths.ipv4, 32) {
-            Ok(length) => length,
-            Err(word) => return Err(FormFault::Ipv4Length(word)),
+        let Some(length) = self.lengths.ipv6 else {
+            return Ok(());
         };
-        let ipv6 = match entry_length(self.lengths.ipv6, 128) {
-            Ok(length) => length,
-            Err(word) => return Err(FormFault::Ipv6Length(word)),
-        };
-        Ok(EntryLengths { ipv4, ipv6 })
+        match form {
+            FormName::Frr if self.sets.ipv6.is_none() => Err(FormFault::NoIpv6List),
+            FormName::Frr if length > 128 => Err(FormFault::LongIpv6),
+            FormName::Frr => Ok(()),
+            _ => Err(FormFault::OtherLengths),
+        }
     }
 
     /// Refuses a declaration of sets if the form is not nft.
@@ -374,17 +373,13 @@ impl<'a> FormOptions<'a> {
     }
 
     /// The form of this name.
-    fn form(
-        self,
-        name: FormName,
-        most: u32,
-        rules: ChainRules<'a>,
-        lengths: EntryLengths,
-    ) -> AnswerForm<'a>
-        ensures { IsFormOf name self.entry most rules.entry lengths result }
+    fn form(self, name: FormName, most: u32, rules: ChainRules<'a>) -> AnswerForm<'a>
+        ensures { IsFormOf name self.entry most rules.entry result }
     {
         let prefix = self.prefix.unwrap_or("");
         let suffix = self.suffix.unwrap_or("");
+        let ipv4 = self.lengths.ipv4.unwrap_or(0);
+        let ipv6 = self.lengths.ipv6.unwrap_or(0);
         match name {
             FormName::Plain => AnswerForm::Networks(LineTexts { prefix, suffix }),
             FormName::Ranges => AnswerForm::Ranges(LineTexts { prefix, suffix }),
@@ -393,7 +388,7 @@ impl<'a> FormOptions<'a> {
             FormName::Nft if self.declares => AnswerForm::DeclaredNft(self.sets),
             FormName::Nft => AnswerForm::Nft(self.sets),
             FormName::Ipset => AnswerForm::Ipset(self.sets, most),
-            FormName::Frr => AnswerForm::Frr(self.sets, lengths),
+            FormName::Frr => AnswerForm::Frr(self.sets, EntryLengths { ipv4, ipv6 }),
             FormName::Bird => AnswerForm::Bird(self.sets),
             FormName::Iptables => AnswerForm::Iptables(rules),
         }
@@ -424,11 +419,11 @@ impl<'a> FormOptions<'a> {
         self.check_both(name)?;
         self.check_families(name)?;
         let rules = self.rules(name)?;
-        self.check_lists(name)?;
-        let lengths = self.entry_lengths(name)?;
+        self.check_ipv4_length(name)?;
+        self.check_ipv6_length(name)?;
         self.check_declaration(name)?;
         Ok(FormRequest {
-            form: self.form(name, most, rules, lengths),
+            form: self.form(name, most, rules),
             min_length,
             families: families(self.ipv4_only, self.ipv6_only),
         })
