@@ -169,16 +169,18 @@ fn lengths_of(rt: &HostRuntime, matches: &ArgMatches) -> Result<GivenLengths, u8
     Ok(GivenLengths { ipv4, ipv6 })
 }
 
-/// The options for the form of an answer, with these greatest lengths.
-fn options_of<'a>(matches: &ArgMatches<'a>, lengths: GivenLengths) -> FormOptions<'a>
-    requires { AreLengthsGiven matches.now lengths }
-    ensures { AreFormOptions matches.now result }
+/// The options for the form of an answer. If a word is not a prefix length, it is reported, and the error is the exit
+/// status.
+fn options_of<'a>(rt: &HostRuntime, matches: &ArgMatches<'a>) -> Result<FormOptions<'a>, u8>
+    ensures options { IfOk result (AreFormOptions matches.now) }
+    ensures failed { IfErr result (λ status. status ≡ 2) }
 {
+    let lengths = lengths_of(rt, matches)?;
     let ranges = is_set(matches, RANGES);
     let ipv4_only = is_set(matches, IPV4_ONLY);
     let ipv6_only = is_set(matches, IPV6_ONLY);
     let declares = is_set(matches, DECLARE);
-    FormOptions {
+    Ok(FormOptions {
         format: matches.get_str(FORMAT),
         ranges,
         prefix: matches.get_str(PREFIX),
@@ -195,7 +197,7 @@ fn options_of<'a>(matches: &ArgMatches<'a>, lengths: GivenLengths) -> FormOption
         target: matches.get_str(TARGET),
         ipv4_only,
         ipv6_only,
-    }
+    })
 }
 
 /// Returns the form that the options of the command ask for. If they cannot be used, that is reported, and the error is
@@ -206,8 +208,8 @@ pub fn form_of<'a>(rt: &HostRuntime, matches: &ArgMatches<'a>) -> Result<FormReq
         × IsRequestOf options request) }
     ensures failed { IfErr result (λ status. status ≡ 2) }
 {
-    let lengths = lengths_of(rt, matches)?;
-    match options_of(matches, lengths).request() {
+    let options = options_of(rt, matches)?;
+    match options.request() {
         Ok(request) => Ok(request),
         Err(fault) => {
             let _ = match fault.value() {
