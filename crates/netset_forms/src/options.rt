@@ -327,8 +327,8 @@ impl<'a> FormOptions<'a> {
         }
     }
 
-    /// Refuses a greatest length of IPv4 entries if the form has no entries, if their list has no name, or if the length
-    /// is above 32.
+    /// Refuses a greatest length of IPv4 entries if the form has no entries, if their list has no name, or if the
+    /// length is above 32.
     fn check_ipv4_length(self, form: FormName) -> Result<(), FormFault<'a>>
         ensures good { OnOk result (IsForList 32 form self.entry.lengths.ipv4 self.entry.sets.ipv4) }
         ensures fault { IfErr result (IsFormFault form self.entry) }
