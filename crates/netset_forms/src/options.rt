@@ -337,9 +337,11 @@ impl<'a> FormOptions<'a> {
             return Ok(());
         };
         match form {
-            FormName::Frr if self.sets.ipv4.is_none() => Err(FormFault::NoIpv4List),
-            FormName::Frr if length > 32 => Err(FormFault::LongIpv4),
-            FormName::Frr => Ok(()),
+            FormName::Frr => match self.sets.ipv4 {
+                None => Err(FormFault::NoIpv4List),
+                Some(_) if length > 32 => Err(FormFault::LongIpv4),
+                Some(_) => Ok(()),
+            },
             _ => Err(FormFault::OtherLengths),
         }
     }
@@ -353,9 +355,11 @@ impl<'a> FormOptions<'a> {
             return Ok(());
         };
         match form {
-            FormName::Frr if self.sets.ipv6.is_none() => Err(FormFault::NoIpv6List),
-            FormName::Frr if length > 128 => Err(FormFault::LongIpv6),
-            FormName::Frr => Ok(()),
+            FormName::Frr => match self.sets.ipv6 {
+                None => Err(FormFault::NoIpv6List),
+                Some(_) if length > 128 => Err(FormFault::LongIpv6),
+                Some(_) => Ok(()),
+            },
             _ => Err(FormFault::OtherLengths),
         }
     }
