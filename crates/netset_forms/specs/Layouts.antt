@@ -80,17 +80,20 @@ is_space byte = byte == 32
 abbrev pub nft_table : List ℕ → List ℕ
 nft_table name = before_first is_space name ++ codes " " ++ before_first is_space (after_first is_space name)
 
--- The commands of `nft` that add a set for networks of this type, and its table, unless they exist.
--- Example: for `ipv4_addr` and `inet filter allowed` the lines `add table inet filter` and
--- `add set inet filter allowed { type ipv4_addr; flags interval; }`.
-abbrev pub nft_declaration : List ℕ → List ℕ → List ℕ
-nft_declaration kind name = codes "add table " ++ nft_table name ++ 10 ∷ codes "add set " ++ name ++ codes " { type "
-    ++ kind ++ codes "; flags interval; }" ++ 10 ∷ []
+-- The command of `nft` that adds the table of a set with this name, unless it exists. Example: `add table inet filter`.
+abbrev pub nft_add_table : List ℕ → List ℕ
+nft_add_table name = codes "add table " ++ nft_table name ++ 10 ∷ []
 
--- Commands of `nft`: the set with this name, which holds networks of this type, exists. It has the items as its
--- elements, and no others.
+-- The command of `nft` that adds a set for networks of this type, unless it exists.
+-- Example: `add set inet filter allowed { type ipv4_addr; flags interval; }`.
+abbrev pub nft_add_set : List ℕ → List ℕ → List ℕ
+nft_add_set kind name =
+    codes "add set " ++ name ++ codes " { type " ++ kind ++ codes "; flags interval; }" ++ 10 ∷ []
+
+-- Commands of `nft`: the set with this name exists, for networks of this type. It has the items as its elements, and no
+-- others.
 abbrev pub declared_nft_layout : List ℕ → List ℕ → Layout
-declared_nft_layout kind name = preceded (nft_declaration kind name) (nft_layout name)
+declared_nft_layout kind name = preceded (nft_add_table name ++ nft_add_set kind name) (nft_layout name)
 
 -- The command of `ipset` that creates a set of this kind, unless it exists.
 abbrev pub ipset_create : List ℕ → List ℕ → List ℕ

@@ -140,24 +140,22 @@ fn cut_at_space(text: &str) -> (&str, &str)
     }
 }
 
-/// The family and the table of a set of nft: the first two words of its name.
-fn nft_table(alloc: Global, name: &str) -> Result<String, AllocError>
-    ensures { IfOk result (λ text. string_bytes text ≡ layouts.nft_table name.now) }
+/// The command of nft that adds the table of a set with this name, unless it exists.
+fn nft_add_table(alloc: Global, name: &str) -> Result<String, AllocError>
+    ensures { IfOk result (λ text. string_bytes text ≡ layouts.nft_add_table name.now) }
 {
     let (family, rest) = cut_at_space(name);
     let (table, _) = cut_at_space(rest);
-    joined(alloc, &[family, " ", table])
+    joined(alloc, &["add table ", family, " ", table, "\n"])
 }
 
-/// Commands of nft that add a set with this name for networks of this type, and its table, unless they exist.
-fn nft_declaration(alloc: Global, kind: &str, name: &str) -> Result<String, AllocError>
-    ensures { IfOk result (λ text. string_bytes text ≡ layouts.nft_declaration kind.now name.now) }
+/// The command of nft that adds a set with this name for networks of this type, unless it exists.
+fn nft_add_set(alloc: Global, kind: &str, name: &str) -> Result<String, AllocError>
+    ensures { IfOk result (λ text. string_bytes text ≡ layouts.nft_add_set kind.now name.now) }
 {
-    let table = nft_table(alloc, name)?;
-    let front = joined(alloc, &["add table ", table.as_str(), "\nadd set ", name])?;
     joined(
         alloc,
-        &[front.as_str(), " { type ", kind, "; flags interval; }\n"],
+        &["add set ", name, " { type ", kind, "; flags interval; }\n"],
     )
 }
 
@@ -183,9 +181,11 @@ fn preceded(alloc: Global, text: &str, frame: Frame) -> Result<Frame, AllocError
 fn declared_nft(alloc: Global, kind: &str, name: &str) -> Result<Frame, AllocError>
     ensures { IfOk result (λ frame. layout_of frame ≡ declared_nft_layout kind.now name.now) }
 {
-    let declaration = nft_declaration(alloc, kind, name)?;
+    let add_table = nft_add_table(alloc, name)?;
+    let add_set = nft_add_set(alloc, kind, name)?;
+    let front = joined(alloc, &[add_table.as_str(), add_set.as_str()])?;
     let frame = nft(alloc, name)?;
-    preceded(alloc, declaration.as_str(), frame)
+    preceded(alloc, front.as_str(), frame)
 }
 
 /// Commands of ipset before the first item: both sets are created unless they exist, and the new set is emptied.
