@@ -1,6 +1,6 @@
 -- The text of a set of addresses in each form.
 use Rattle.std.specs.Prelude.{◌≡◌, ◌<◌, ◌≤◌, ◌+◌, ℕ, List, [], ◌∷◌, ◌++◌, codes, decimal, map, Option, Some, None}
-use Rattle.std.specs.Prelude.{max, min, cond, nat_lt}
+use Rattle.std.specs.Prelude.{max, min, nat_lt, if◌then◌else◌}
 use Rattle.std.specs.Borrow.{Bor}
 use Rattle.ipnet_base.specs.Address.{Family, IPv4, IPv6, width, Address}
 use Rattle.ipnet_base.specs.Network.{Network, first_of, last_of}
@@ -58,11 +58,15 @@ abbrev pub entry_length : EntryLengths → Family → ℕ
 entry_length lengths IPv4 = lengths.ipv4
 entry_length lengths IPv6 = lengths.ipv6
 
--- The words of an entry that permit more specific networks too, up to this prefix length. If the network itself is not
--- shorter, there are none: a router refuses `192.0.2.0/24 le 23`.
--- Example: ` le 24` for 192.0.0.0/16 and 24, and nothing for 192.0.2.0/24 and 24.
+-- The words of an entry that permit more specific networks too, up to this prefix length. Example: ` le 24`.
+abbrev pub up_to_words : ℕ → List ℕ
+up_to_words most = codes " le " ++ decimal most
+
+-- These words after a network of this length. If it is not shorter, there are none: a router refuses
+-- `192.0.2.0/24 le 23`.
+-- Example: ` le 24` for 24 and 192.0.0.0/16, and nothing for 24 and 192.0.2.0/24.
 abbrev pub le_words : (most length : ℕ) → List ℕ
-le_words most length = cond (nat_lt length most) (codes " le " ++ decimal most) []
+le_words most length = if nat_lt length most then up_to_words most else []
 
 -- The network of an entry, and the words that permit more specific networks.
 -- Example: `192.0.0.0/16 le 24` and `192.0.2.0/24` for the length 24.

@@ -1,7 +1,7 @@
 //! The entries of prefix lists.
 ghost use Rattle.std.specs.Prelude.{◌≡◌};
 ghost use Rattle.ipnet.specs.NetworkOf.{ip_network};
-ghost use Rattle.netset_forms.specs.Forms.{entry_length, entry_network, le_words};
+ghost use Rattle.netset_forms.specs.Forms.{entry_length, entry_network, le_words, up_to_words};
 
 use crate::form::EntryLengths;
 use arrayvec::ArrayString;
@@ -24,17 +24,25 @@ fn length_for(network: IpNet, lengths: EntryLengths) -> u8
     }
 }
 
-/// The words that permit more specific networks than one of this length, up to the greatest.
-fn le_words(most: u8, length: u8) -> ArrayString<LE_WORDS>
-    ensures { result.bytes ≡ le_words most length }
+/// The words that permit more specific networks, up to this prefix length.
+fn up_to_words(most: u8) -> ArrayString<LE_WORDS>
+    ensures { result.bytes ≡ up_to_words most }
 {
     let mut words = ArrayString::new();
-    if length >= most {
-        return words;
-    }
     words.push_str(" le ");
     words.push_str(Buffer::new().format(most));
     words
+}
+
+/// These words after a network of this length, or nothing if it is not shorter.
+fn le_words(most: u8, length: u8) -> ArrayString<LE_WORDS>
+    ensures { result.bytes ≡ le_words most length }
+{
+    if length < most {
+        up_to_words(most)
+    } else {
+        ArrayString::new()
+    }
 }
 
 /// The network of an entry, and the words that permit more specific networks.
