@@ -3,5 +3,6 @@ mod AllFactsLaws
 mod HostFacts
 mod DigitFacts
 mod FactTexts
+mod NetworkFacts
 mod RegistryLaws
 mod ZoneFacts
