@@ -200,7 +200,11 @@ fn count_text(alloc: Global, count: Option<u128>) -> Result<String, AllocError>
 }
 
 /// Appends the network, its address and its masks. Fails only if memory runs out.
-pub(crate) fn push_network_facts(text: &mut String, form: FactsForm, network: &IpNet) -> Result<(), AllocError>
+pub(crate) fn push_network_facts(
+    text: &mut String,
+    form: FactsForm,
+    network: &IpNet,
+) -> Result<(), AllocError>
     ensures { OnOk result (IsAppended (string_bytes text.old) (string_bytes text.new)
         (network_facts form (ip_network network.now))) }
 {

@@ -227,7 +227,7 @@ fn ipv4_delegated_name(alloc: Global, network: &Ipv4Net) -> Result<String, Alloc
     Ok(text)
 }
 
-/// Returns the name of the zone that is delegated to an IPv4 network, if RFC 2317 has one. Fails only if memory runs out.
+/// Returns the name of the zone that is delegated to an IPv4 network, if it has one. Fails only if memory runs out.
 fn ipv4_delegated_zone(alloc: Global, network: &Ipv4Net) -> Result<Option<String>, AllocError>
     ensures { let n = ipv4_network network.now in
         IfOk result (λ found. SomeIff (option_map string_bytes found) (HasDelegatedZone n) (delegated_name n)) }
