@@ -57,7 +57,7 @@ module _ (n : Network) (number : Option ℕ)
   pub have_fewer : (count : ℕ) → counted number < count → HaveFewerHosts n.family n.prefix_len count
   have_fewer count many m f p hosts h = subst (λ c. c < count) (sym (all_hosts m f p hosts h)) many
 
--- networks that are longer than a length have fewer hosts, if those of the next length and all longer ones have
+-- the networks from a length on have fewer hosts, if its networks have, and the networks of all longer lengths
 pub from_next : (family : Family) (at next count : ℕ) → at + 1 ≡ next → HaveFewerHosts family at count
     → ((q : ℕ) → next ≤ q → q ≤ width family → HaveFewerHosts family q count) → (q : ℕ) → at ≤ q → q ≤ width family
     → HaveFewerHosts family q count
