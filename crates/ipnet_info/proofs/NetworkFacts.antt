@@ -6,7 +6,6 @@ use Rattle.ipnet.specs.NetworkParts.{HasReservedEnds}
 use Rattle.ipnet_info.specs.declared.facts.FactsForm.{FactsForm}
 use Rattle.ipnet_info.specs.Facts.{fact, address_fact, IsBroadcastFact, IsDelegationFact, AreZoneFacts, AreAroundFacts}
 use Rattle.ipnet_info.specs.Zones.{HasDelegatedZone, delegated_name, longest_zone}
-use Rattle.ipnet_info.proofs.ZoneFacts.{none_inside, some_inside}
 
 -- ---- the broadcast address
 
@@ -44,7 +43,3 @@ pub around_none : (form : FactsForm) (n : Network) → n.prefix_len ≤ longest_
 around_none form n large = record { some = λ small. absurd (omega (arith, small, large)); none = λ _. refl }
 
 pub ruleset around_facts = (around_some, around_none)
-
--- ---- the zones inside the network
-
-pub ruleset inside_zones = (none_inside, some_inside)

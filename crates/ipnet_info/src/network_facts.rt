@@ -64,7 +64,6 @@ fn push_broadcast_fact(
 }
 
 /// Appends the first and the last address, and the broadcast address. Fails only if memory runs out.
-#[tactic(auto, using(crate::proofs::FactTexts::then_))]
 fn push_end_facts(text: &mut String, form: FactsForm, network: &IpNet) -> Result<(), AllocError>
     ensures { OnOk result ((more : List ℕ) × AreEndFacts form (ip_network network.now) more
         × IsAppended (string_bytes text.old) (string_bytes text.new) more) }
@@ -153,7 +152,7 @@ fn push_single_facts(
 }
 
 /// Appends the zones inside the network. Fails only if memory runs out.
-#[tactic(auto, using(crate::proofs::FactTexts::nothing, crate::proofs::NetworkFacts::inside_zones))]
+#[tactic(auto, using(crate::proofs::FactTexts::nothing, crate::proofs::ZoneFacts::none_inside))]
 fn push_zones_inside(
     alloc: Global,
     text: &mut String,

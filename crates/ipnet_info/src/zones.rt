@@ -148,7 +148,6 @@ fn subnets_of(network: &IpNet, prefix_len: u8) -> IpSubnets
 }
 
 /// Returns the smallest zone that contains a network smaller than every zone.
-#[tactic(auto, using(crate::proofs::ZoneFacts::cut_around))]
 pub(crate) fn zone_around(network: &IpNet) -> IpNet
     requires { longest_zone (ip_network network.now).family < (ip_network network.now).prefix_len }
     ensures { IsSmallestAround (ip_network network.now) (ip_network result) }
