@@ -44,11 +44,15 @@ IsTooLarge family (Hosts count) = IsAboveAllHosts family count
 abbrev pub is_name_byte : ℕ → Bool
 is_name_byte b = is_ascii_graphic b && (not (b == 35) && (not (b == 59) && not (b == 61)))
 
--- The text may be the name of a network: such bytes, of which the first is not "-" (45). So a line with the network and
+-- The byte may be the first of a name: it is not "-" (45) either.
+abbrev pub is_name_start : ℕ → Bool
+is_name_start b = is_name_byte b && not (b == 45)
+
+-- The text may be the name of a network: such a byte, and then bytes that may be in a name. So a line with the network and
 -- its name is a line of a table with texts. Example: `users`, `10.core`, `a-b`; not `-a`, `a b` or the empty text.
 abbrev pub IsPlanName : List ℕ → Type 0
 IsPlanName [] = ⊥
-IsPlanName (b ∷ text) = (is_name_byte b && not (b == 45) ≡ true) × (list_all is_name_byte text ≡ true)
+IsPlanName (b ∷ text) = (is_name_start b ≡ true) × (list_all is_name_byte text ≡ true)
 
 -- The text has no "=" (61).
 abbrev pub HasNoEquals : List ℕ → Type 0

@@ -2,7 +2,7 @@
 ghost use Rattle.std.specs.Prelude.{◌≡◌, ◌↔◌, ◌⊎◌, [], IsTrue, IfOk, IfErr};
 ghost use Rattle.std.specs.List.{list_all};
 ghost use Rattle.netset_lib.specs.PlanWords as words;
-ghost use Rattle.netset_lib.specs.PlanWords.{is_name_byte, IsPlanName, IsPlanWord, IsSizeText, IsNoSize};
+ghost use Rattle.netset_lib.specs.PlanWords.{is_name_byte, is_name_start, IsPlanName, IsPlanWord, IsSizeText, IsNoSize};
 ghost use Rattle.netset_lib.specs.PlanWords.{AreNoParts, IsPlanWordCause};
 
 use crate::plan_size::{PlanSize, read_size};
@@ -34,6 +34,13 @@ fn is_in_name(byte: u8) -> bool
     byte.is_ascii_graphic() && (byte != b'#' && (byte != b';' && byte != b'='))
 }
 
+/// Whether the byte may be the first of a name.
+fn is_start(byte: u8) -> bool
+    ensures { result ≡ is_name_start byte }
+{
+    is_in_name(byte) && byte != b'-'
+}
+
 /// Whether all bytes may be in a name.
 fn are_in_name(bytes: &[u8]) -> bool
     ensures { result ≡ list_all is_name_byte bytes.now }
@@ -47,7 +54,7 @@ fn is_name(bytes: &[u8]) -> bool
 {
     match bytes {
         [] => false,
-        [first, rest @ ..] => is_in_name(*first) && *first != b'-' && are_in_name(rest),
+        [first, rest @ ..] => is_start(*first) && are_in_name(rest),
     }
 }
 
