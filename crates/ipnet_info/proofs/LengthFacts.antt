@@ -32,13 +32,13 @@ host_range : (n : Network) → (hosts : AddressRange) × IsHostRange n hosts
 host_range n =
     let inner : AddressRange = record { family = n.family; start = first_of n + 1; end = last_of n - 1 } in
     let whole : AddressRange = record { family = n.family; start = first_of n; end = last_of n } in
+    let low = at n (first_of n) in
+    let high = at n (last_of n) in
+    let least = IsLeastOf-first n low refl refl in
+    let greatest = IsGreatestOf-last n high refl refl in
     elim (reserved_or_not n) [
       | inl r ↦ (inner, IsHostRange-inner n inner refl r refl (omega (arith, reserved_room n r)))
-      | inr none ↦ (
-        whole,
-        IsHostRange-whole n whole (at n (first_of n)) (at n (last_of n)) refl none
-            (IsLeastOf-first n (at n (first_of n)) refl refl) (IsGreatestOf-last n (at n (last_of n)) refl refl) refl refl,
-      )
+      | inr none ↦ (whole, IsHostRange-whole n whole low high refl none least greatest refl refl)
     ]
 
 -- all networks of one length have as many hosts as one of them

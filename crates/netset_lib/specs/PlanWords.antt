@@ -48,8 +48,8 @@ is_name_byte b = is_ascii_graphic b && (not (b == 35) && (not (b == 59) && not (
 abbrev pub is_name_start : ℕ → Bool
 is_name_start b = is_name_byte b && not (b == 45)
 
--- The text may be the name of a network: such a byte, and then bytes that may be in a name. So a line with the network and
--- its name is a line of a table with texts. Example: `users`, `10.core`, `a-b`; not `-a`, `a b` or the empty text.
+-- The text may be the name of a network: such a byte, and then bytes that may be in a name. So a line with the network
+-- and its name is a line of a table with texts. Example: `users`, `10.core`, `a-b`; not `-a`, `a b` or the empty text.
 abbrev pub IsPlanName : List ℕ → Type 0
 IsPlanName [] = ⊥
 IsPlanName (b ∷ text) = (is_name_start b ≡ true) × (list_all is_name_byte text ≡ true)
@@ -73,8 +73,8 @@ pub record IsNoSize (text : List ℕ) (cause : PlanWordCause) : Type 0 where
   pub none : (size : PlanSize) → ¬ (IsSizeText text size)
   pub cause_is : cause ≡ size_cause text
 
--- Why the parts of a word before and after its first "=" do not ask for a network: the first is not a name, or it is one
--- and the second is not a size.
+-- Why the parts of a word before and after its first "=" do not ask for a network: the first is not a name, or the
+-- second is not a size.
 abbrev pub AreNoParts : PlanWordCause → (front back : List ℕ) → Type 0
 AreNoParts cause front back =
     ((cause ≡ Causes.Name) × ¬ (IsPlanName front)) ⊎ (IsPlanName front × IsNoSize back cause)

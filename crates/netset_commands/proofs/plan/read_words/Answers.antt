@@ -19,5 +19,5 @@ loop-word-preserved c =
 
 pub returns-clause-asked : goal.returns-clause-asked
 returns-clause-asked c =
-    all_values (λ word. AsksFor word.now) c.args.words.now c.loop-word.word-index c.loop-word.asked.items c.loop-word-test.false
-    c.loop-word.invariant
+    all_values (λ word. AsksFor word.now) c.args.words.now c.loop-word.word-index c.loop-word.asked.items
+    c.loop-word-test.false c.loop-word.invariant
