@@ -20,7 +20,8 @@ loop-word-preserved c =
     → AreNetworkWords grammar (drop (c.loop-word.word-index + 1) words) rest
     → AreNetworkWords grammar words (all ++ rest) in
     subst P (sym (ap (map ip_network) pushed ∙ map-append ip_network list (c.in-Some.network ∷ [])))
-    (next_value Is words c.loop-word.word-index (ip_network c.in-Some.network) (map ip_network list) _ c.loop-word-test.true c.in-Some.ensures.network c.loop-word.invariant)
+    (next_value Is words c.loop-word.word-index (ip_network c.in-Some.network) (map ip_network list) _
+    c.loop-word-test.true c.in-Some.ensures.network c.loop-word.invariant)
 
 pub returns-clause-networks : goal.returns-clause-networks
 returns-clause-networks c =
