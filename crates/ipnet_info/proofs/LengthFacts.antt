@@ -52,10 +52,10 @@ module _ (n : Network) (number : Option ℕ)
       ∙ host_count_is n number some none (host_range n).0 (host_range n).1
 
   pub have_hosts : (count : ℕ) → count ≤ counted number → HaveHosts n.family n.prefix_len count
-  have_hosts count few m f p hosts h = subst (λ c. count ≤ c) (sym (all_hosts m f p hosts h)) few
+  have_hosts count few = record { have = λ m f p hosts h. subst (λ c. count ≤ c) (sym (all_hosts m f p hosts h)) few }
 
   pub have_fewer : (count : ℕ) → counted number < count → HaveFewerHosts n.family n.prefix_len count
-  have_fewer count many m f p hosts h = subst (λ c. c < count) (sym (all_hosts m f p hosts h)) many
+  have_fewer count many = record { have = λ m f p hosts h. subst (λ c. c < count) (sym (all_hosts m f p hosts h)) many }
 
 -- the networks from a length on have fewer hosts, if its networks have, and the networks of all longer lengths
 pub from_next : (family : Family) (at next count : ℕ) → at + 1 ≡ next → HaveFewerHosts family at count

@@ -22,15 +22,15 @@ pub record IsLastHost (n : Network) (x : Address) : Type 0 where
 
 -- The networks of this family and prefix length have at least `count` hosts.
 -- Example: IPv4 networks of length 24 for 254 and for 200.
-abbrev pub HaveHosts : Family → (prefix_len count : ℕ) → Type 0
-HaveHosts family prefix_len count = (n : Network) → n.family ≡ family → n.prefix_len ≡ prefix_len
-    → (hosts : AddressRange) → IsHostRange n hosts → count ≤ address_count hosts
+pub record HaveHosts (family : Family) (prefix_len count : ℕ) : Type 0 where
+  pub have : (n : Network) → n.family ≡ family → n.prefix_len ≡ prefix_len → (hosts : AddressRange)
+      → IsHostRange n hosts → count ≤ address_count hosts
 
 -- The networks of this family and prefix length have fewer than `count` hosts.
 -- Example: IPv4 networks of length 24 for 255.
-abbrev pub HaveFewerHosts : Family → (prefix_len count : ℕ) → Type 0
-HaveFewerHosts family prefix_len count = (n : Network) → n.family ≡ family → n.prefix_len ≡ prefix_len
-    → (hosts : AddressRange) → IsHostRange n hosts → address_count hosts < count
+pub record HaveFewerHosts (family : Family) (prefix_len count : ℕ) : Type 0 where
+  pub have : (n : Network) → n.family ≡ family → n.prefix_len ≡ prefix_len → (hosts : AddressRange)
+      → IsHostRange n hosts → address_count hosts < count
 
 -- The longest prefix length whose networks have at least `count` hosts.
 -- Example: for IPv4, 24 for 200 hosts, 29 for three to six, 31 for two and 32 for one; for IPv6, 120 for 200.
@@ -40,5 +40,5 @@ pub record IsLengthForHosts (family : Family) (count prefix_len : ℕ) : Type 0 
   pub longest : (q : ℕ) → prefix_len < q → q ≤ width family → HaveFewerHosts family q count
 
 -- No network of the family has `count` hosts. Example: for IPv4, 4294967295 hosts.
-abbrev pub IsAboveAllHosts : Family → (count : ℕ) → Type 0
-IsAboveAllHosts family count = (q : ℕ) → q ≤ width family → HaveFewerHosts family q count
+pub record IsAboveAllHosts (family : Family) (count : ℕ) : Type 0 where
+  pub fewer : (q : ℕ) → q ≤ width family → HaveFewerHosts family q count

@@ -1,11 +1,15 @@
 -- The texts of sizes, and texts that end in "hosts".
-use Rattle.std.proofs.Common.{◌≡◌, ◌≢◌, ◌↔◌, ◌++◌, ◌∙◌, ℕ, List, Option, Some, None, codes, ap, sym, subst}
+use Rattle.std.proofs.Common.{◌≡◌, ◌≢◌, ◌↔◌, ◌++◌, ◌∙◌, ℕ, List, Option, Some, None, Bool, true, false, codes}
+use Rattle.std.proofs.Common.{ap, sym, subst, if◌then◌else◌}
 use Rattle.std.proofs.lemmas.List.{append_cancel_right}
-use Rattle.std.specs.Str.Pattern.{FindsTextSuffix, StripsSuffix}
+use Rattle.std.proofs.lemmas.Str.Pattern.{ends_text}
+use Rattle.std.specs.Prelude.{MatchBool}
+use Rattle.std.specs.Str.Pattern.{FindsTextSuffix, HasSuffixMatch, StripsSuffix}
 use Rattle.netset_lib.specs.declared.plan_size.PlanSize.{PlanSize}
 use Rattle.netset_lib.specs.declared.plan_size.PlanSize.TheVariants.{Length, Hosts}
 use Rattle.netset_lib.specs.PlanAnswers.{IsLengthText}
-use Rattle.netset_lib.specs.PlanWords.{IsHostCount, IsSizeText}
+use Rattle.netset_lib.specs.declared.plan_word.PlanWordCause.TheVariants as Causes
+use Rattle.netset_lib.specs.PlanWords.{IsHostCount, IsSizeText, size_cause}
 
 -- the text before an end
 pub stripped_end : (end text x : List ℕ) → StripsSuffix (FindsTextSuffix end) text x → text ≡ x ++ end
@@ -27,3 +31,20 @@ no_hosts text front count e counts none digits n other is =
     let same : digits ≡ front = append_cancel_right digits front (codes "hosts") (sym other ∙ e) in
     let one : count ≡ Some n = (counts n).1 (subst (λ d. IsHostCount d n) same is) in
     absurd cc
+
+pub ruleset sizes = (stripped_end, no_size, no_hosts)
+
+-- the causes
+pub hosts_cause : (text : List ℕ) (ends : Bool)
+    → MatchBool ends (HasSuffixMatch (FindsTextSuffix (codes "hosts")) text) (FindsTextSuffix (codes "hosts") text None)
+    → ends ≡ true → Causes.Hosts ≡ size_cause text
+hosts_cause text ends cases is =
+    ap (λ b. if b then Causes.Hosts else Causes.Length) (sym is ∙ ends_text ends (codes "hosts") text cases)
+
+pub length_cause : (text : List ℕ) (ends : Bool)
+    → MatchBool ends (HasSuffixMatch (FindsTextSuffix (codes "hosts")) text) (FindsTextSuffix (codes "hosts") text None)
+    → ends ≡ false → Causes.Length ≡ size_cause text
+length_cause text ends cases is =
+    ap (λ b. if b then Causes.Hosts else Causes.Length) (sym is ∙ ends_text ends (codes "hosts") text cases)
+
+pub ruleset causes = (hosts_cause, length_cause)

@@ -33,6 +33,7 @@ fn read_host_count(digits: &str) -> Option<u128>
 /// ```text
 /// "24" and "/24" are Length(24), "200hosts" is Hosts(200); "024", "0hosts", "hosts", "200 hosts" and "" are None
 /// ```
+#[tactic(auto, using(crate::proofs::SizeTexts::sizes))]
 pub fn read_size(text: &str) -> Option<PlanSize>
     ensures some { IfSome result (IsSizeText text.now) }
     ensures none { IfNone result ((size : PlanSize) → ¬ (IsSizeText text.now size)) }

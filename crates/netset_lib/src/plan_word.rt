@@ -59,6 +59,7 @@ fn is_name(bytes: &[u8]) -> bool
 }
 
 /// The cause of a text that is not a size.
+#[tactic(auto, using(crate::proofs::SizeTexts::causes))]
 fn size_cause(text: &str) -> PlanWordCause
     ensures { result ≡ words.size_cause text.now }
 {

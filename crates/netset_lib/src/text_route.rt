@@ -66,7 +66,8 @@ fn push_text(
 {
     text.push_str(written)?;
     text.push_str(" ")?;
-    push_with_text(text, network, after)
+    push_with_text(text, network, after)?;
+    Ok(())
 }
 
 /// Adds a line with the entry, the longest network of the table that contains it, and the text of the network.

@@ -29,4 +29,4 @@ loop-prefix_len-preserved c =
     (c.has_hosts.ensures.fewer c.if-has_hosts.false)) c.loop-prefix_len.invariant
 
 pub returns-clause-none : goal.returns-clause-none
-returns-clause-none c = λ q. c.loop-prefix_len.invariant q (omega arith)
+returns-clause-none c = record { fewer = λ q. c.loop-prefix_len.invariant q (omega arith) }
