@@ -260,7 +260,7 @@ pub fn plan_networks(
 }
 
 /// The name of the first of the words, and the other words.
-fn first_name<'a>(words: &'a [PlanWord<'a>]) -> (&'a str, &'a [PlanWord<'a>])
+fn first_name<'a, 'b>(words: &'b [PlanWord<'a>]) -> (&'a str, &'b [PlanWord<'a>])
     ensures name { result.0.now ≡ first_name words.now }
     ensures others { result.1.now ≡ drop 1 words.now }
 {
