@@ -18,6 +18,7 @@ mod listing;
 mod map;
 mod named_lists;
 mod noted;
+mod operations;
 mod origins;
 mod pairs;
 mod plan;

@@ -2,7 +2,7 @@
 #![tactic(auto)]
 
 mod blocks;
-mod enough;
+mod expected;
 pub mod form;
 mod frame;
 pub mod names;
@@ -13,6 +13,7 @@ mod pieces;
 pub mod program;
 pub mod write;
 
+pub use expected::Expectation;
 pub use form::{AnswerForm, ChainRules, FormFailure, FormRequest, LineTexts, SetNames};
 pub use names::{
     are_ipset_sets, are_nft_sets, is_bird_name, is_chain_name, is_frr_name, is_ipset_name,
