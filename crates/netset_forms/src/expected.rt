@@ -9,7 +9,7 @@ use crate::form::FormRequest;
 use ipnet_sets::IpSet;
 use netset_lib::Families;
 
-/// What a command expects of its answer. It succeeds if and only if the answer is so.
+/// An expectation of an answer. A command succeeds if and only if its answer meets it.
 ///
 /// ```text
 /// 10.0.0.0/8: as expected for Anything and SomeAddress; no address: for Anything and NoAddress

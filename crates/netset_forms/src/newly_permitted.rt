@@ -104,7 +104,7 @@ pub struct NewlyPermittedCommand<'a> {
     pub default: Action,
     /// The form of the answer.
     pub form: FormRequest<'a>,
-    /// The expectation of the answer. The command succeeds if and only if the answer is so.
+    /// The expectation. The command succeeds if and only if the answer meets it.
     pub expected: Expectation,
 }
 

@@ -68,7 +68,7 @@ pub struct FormCommand<'a> {
     pub excepts: Vec<IpSet>,
     /// The form of the answer.
     pub form: FormRequest<'a>,
-    /// The expectation of the answer. The command succeeds if and only if the answer is so.
+    /// The expectation. The command succeeds if and only if the answer meets it.
     pub expected: Expectation,
 }
 
@@ -117,7 +117,7 @@ pub struct PermittedCommand<'a> {
     pub default: Action,
     /// The form of the answer.
     pub form: FormRequest<'a>,
-    /// The expectation of the answer. The command succeeds if and only if the answer is so.
+    /// The expectation. The command succeeds if and only if the answer meets it.
     pub expected: Expectation,
 }
 
