@@ -54,8 +54,7 @@ fn write_pair<W: Write>(
         (W.contents out.old) (W.contents out.new) }
 {
     let asked = asked_of(named, index, other)?;
-    let found = write_overlaps(out, named.alloc, &asked)?;
-    Ok(found)
+    write_overlaps(out, named.alloc, &asked)
 }
 
 /// Writes the lines of the list at this index with each list after it, and returns whether there are some.
