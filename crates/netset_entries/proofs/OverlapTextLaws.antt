@@ -76,13 +76,13 @@ module _ (labels : Labels) (entries : List NumberedEntry) (count : Option ℕ) (
   ipv6_lines = pair_lines labels ipv6_pairs
 
   -- the lines of all pairs
-  abbrev whole : List ℕ
+  abbrev pub whole : List ℕ
   whole = pair_lines labels (ipv4_pairs ++ ipv6_pairs)
 
   whole_cut : whole ≡ ipv4_lines ++ ipv6_lines
   whole_cut = lines_append labels ipv4_pairs ipv6_pairs
 
-  whole_right : IsOverlapText labels entries count whole
+  pub whole_right : IsOverlapText labels entries count whole
   whole_right = record {
     pairs = ipv4_pairs ++ ipv6_pairs;
     are = overlaps_found entries count ipv4 ipv6 ipv4_all ipv6_all;
