@@ -1,11 +1,11 @@
 //! The pairs of entries of two lists of many that share addresses, written piece by piece.
-ghost use Rattle.std.specs.Prelude.{◌↔◌, ◌<◌, IsTrue, IfOk, IsOk, IsErr, OnOk, length};
+ghost use Rattle.std.specs.Prelude.{◌≡◌, ◌↔◌, ◌<◌, IsTrue, IfOk, IsOk, IsErr, length};
 ghost use Rattle.ipnet_text.specs.Outputs.{IsWritten, IsFrontWritten};
 ghost use Rattle.netset_entries.specs.ManyLists.{AreManyOverlaps, AreOverlapsFrom, HasManyOverlap, HasOverlapAt};
 ghost use Rattle.netset_entries.specs.ManyLists.{HasOverlapFrom, IsOverlapAt};
 ghost use Rattle.netset_entries.specs.ManySteps.{entries_in, IsAskedOf};
 
-use crate::entry_list::EntryList;
+use crate::entry_list::{EntryLine, EntryList};
 use crate::label::name_labels;
 use crate::overlaps::{Asked, write_overlaps};
 use crate::overlaps_program::joined;
@@ -22,17 +22,28 @@ pub(crate) struct NamedLists<'a> {
     pub(crate) lists: &'a [EntryList<'a>],
 }
 
+/// Returns a copy of the entries. Fails only if memory runs out.
+fn copied<'a>(alloc: Global, entries: &[EntryLine<'a>]) -> Result<Vec<EntryLine<'a>>, AllocError>
+    ensures { IfOk result (λ copy. copy.items ≡ entries.now) }
+{
+    let mut copy = Vec::new(alloc);
+    copy.extend_from_slice(entries)?;
+    Ok(copy)
+}
+
 /// Returns the entries of the lists at these indexes, one list after the other. Fails only if memory runs out.
 fn asked_of<'a>(named: &NamedLists<'a>, index: usize, other: usize) -> Result<Asked<'a>, AllocError>
     requires index { index < length named.now.lists.now }
     requires other { other < length named.now.lists.now }
     ensures { IfOk result (IsAskedOf named.now.names.now (entries_in named.now.lists.now) index other) }
 {
-    let first = named.lists[index].entries.to_vec(named.alloc)?;
+    let lists = named.lists;
+    let first = copied(named.alloc, lists[index].entries.as_slice())?;
     let first_name = name_of(named.names, index);
     let second_name = name_of(named.names, other);
     let labels = name_labels(first_name, second_name);
-    joined(first, named.lists[other].entries.as_slice(), labels)
+    let asked = joined(first, lists[other].entries.as_slice(), labels)?;
+    Ok(asked)
 }
 
 /// Writes the lines of the lists at these indexes, and returns whether there are some.
