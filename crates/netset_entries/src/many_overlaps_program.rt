@@ -21,7 +21,7 @@ use std::io::Write;
 ///
 /// | Status | On `faults` | When |
 /// |---|---|---|
-/// | 2 | `NAME:LINE: not a network, an address or a range: TEXT (CAUSE)`, ten at most of each list | some lines are not entries |
+/// | 2 | `NAME:LINE: not a network, an address or a range: TEXT (CAUSE)`, ten of a list | some lines are not entries |
 /// | 2 | `netset: out of memory` | memory runs out; the lines may be out in part |
 /// | 2 | `netset: output cannot be written` | a write fails, or the flush after it; the lines may be out in part |
 /// | 1 | nothing | entries of different lists share an address; `out` has them |
