@@ -1,5 +1,5 @@
 -- Many lists: their entries, the pairs of entries of two lists that share addresses, and their refused lines.
-use Rattle.std.specs.Prelude.{◌≡◌, ◌+◌, ◌-◌, ◌<◌, ◌≤◌, ◌++◌, ℕ, Bool, true, false, List, [], ◌∷◌, length, drop, Some}
+use Rattle.std.specs.Prelude.{◌≢◌, ◌+◌, ◌-◌, ◌<◌, ◌≤◌, ◌++◌, ℕ, Bool, true, false, List, [], ◌∷◌, length, drop, Some}
 use Rattle.std.specs.Borrow.{Bor}
 use Rattle.ipnet.specs.declared.parser.Grammar.{Grammar}
 use Rattle.ipnet_lists.specs.Lists.{Refusal}
@@ -82,7 +82,7 @@ AreReadLists grammar (bytes ∷ lists) (list ∷ read) =
 
 -- A line of one of the lists is refused.
 abbrev pub HasRefusedList : List EntryList → Type 0
-HasRefusedList read = (i : ℕ) × (list : EntryList) × IsListAt read i list × (list.refused.count ≡ 0 → ⊥)
+HasRefusedList read = (i : ℕ) × (list : EntryList) × IsListAt read i list × (list.refused.count ≢ 0)
 
 -- The report of the refused lines of the list at this index, whose name has this index too. `Is` says so of the names
 -- from the list's on, of its kept lines, and of the number of its others.

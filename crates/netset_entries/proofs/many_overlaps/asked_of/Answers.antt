@@ -1,4 +1,5 @@
 use Rattle.std.proofs.Common.{◌∙◌, ap}
+use Rattle.ipnet_lists.specs.Names.{name_at}
 use Rattle.netset_entries.specs.EntryLineOf.{labels_of}
 use Rattle.netset_entries.specs.Overlaps.{name_labels}
 use Rattle.netset_entries.proofs.ManyListLaws.{asked_is}
@@ -14,4 +15,4 @@ returns c =
     c.in_ok-asked.ensures.count
     (ap labels_of c.in_ok-asked.ensures.labels ∙ c.name_labels-labels.ensures
     ∙ ap (λ z. name_labels z c.name_of-second_name.result.now) c.name_of-first_name.ensures
-    ∙ ap (λ z. name_labels _ z) c.name_of-second_name.ensures)
+    ∙ ap (λ z. name_labels (name_at named.names.now c.args.index) z) c.name_of-second_name.ensures)

@@ -27,7 +27,7 @@ loop-index-preserved g c =
     let h = c.loop-index.invariant in record {
       written = part_written (AreOverlapsFrom named.names.now lists) 0 index index (index + 1) (held c.args.out.now)
           (held c.loop-index.out) (held c.write_pairs_of.new.out) h.written (omega arith) refl
-          (c.in_ok-more.ensures.whole tt);
+          (c.in_ok-more.ensures.whole refl);
       found = found_more (HasOverlapFrom lists) 0 index (index + 1) c.loop-index.found c.in_ok-more.more (omega arith)
           refl h.found c.in_ok-more.ensures.found;
     }
@@ -42,7 +42,7 @@ returns-in_err-more-clause-front g c = λ _.
     let less = c.loop-index-test.true in
     part_front (AreOverlapsFrom named.names.now lists) 0 index index (length lists - (index + 1)) (length lists)
     (held c.args.out.now) (held c.loop-index.out) (held c.write_pairs_of.new.out) c.loop-index.invariant.written
-    (omega arith) (omega (arith, size, less)) (c.in_err-more.ensures.front tt)
+    (omega arith) (omega (arith, size, less)) (c.in_err-more.ensures.front refl)
     (λ k from below. overlaps_from_exist named.names.now lists k (omega (arith, size, less, below)))
 
 pub returns-clause-whole : goal.returns-clause-whole

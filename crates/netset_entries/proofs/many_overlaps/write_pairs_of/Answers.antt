@@ -32,7 +32,7 @@ loop-other-preserved g c =
       from = omega (arith, h.from);
       written = part_written (IsOverlapAt named.names.now lists index) (index + 1) (other - (index + 1)) other
           (other + 1 - (index + 1)) (held c.args.out.now) (held c.loop-other.out) (held c.write_pair.new.out) h.written
-          (omega (arith, h.from)) (omega (arith, h.from)) (c.in_ok-more.ensures.whole tt);
+          (omega (arith, h.from)) (omega (arith, h.from)) (c.in_ok-more.ensures.whole refl);
       found = found_more (HasOverlapAt lists index) (index + 1) other (other + 1) c.loop-other.found c.in_ok-more.more
           h.from refl h.found c.in_ok-more.ensures.found;
     }
@@ -50,7 +50,7 @@ returns-in_err-more-clause-front g c = λ _.
     part_front (IsOverlapAt named.names.now lists index) (index + 1) (other - (index + 1)) other
     (length lists - (other + 1)) (length lists - (index + 1)) (held c.args.out.now) (held c.loop-other.out)
     (held c.write_pair.new.out) h.written (omega (arith, h.from)) (omega (arith, h.from, size, less))
-    (c.in_err-more.ensures.front tt)
+    (c.in_err-more.ensures.front refl)
     (λ k from below. overlap_at_exists named.names.now lists index k (omega (arith, size, c.requires))
     (omega (arith, size, less, below)))
 
