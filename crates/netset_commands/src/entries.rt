@@ -90,6 +90,7 @@ pub fn print_redundant(rt: &HostRuntime, matches: &ArgMatches, writers: &mut Wri
 }
 
 /// Reads the list of this name, and prints the pairs of its entries that share addresses.
+#[inline(never)]
 fn print_overlaps_of_one(
     rt: &HostRuntime,
     matches: &ArgMatches,
@@ -113,6 +114,7 @@ fn print_overlaps_of_one(
 }
 
 /// Reads the lists of these names, and prints the pairs of an entry of each that share addresses.
+#[inline(never)]
 fn print_overlaps_of_two(
     rt: &HostRuntime,
     matches: &ArgMatches,
@@ -137,6 +139,7 @@ fn print_overlaps_of_two(
 
 /// Reads the lists of these names, and prints the pairs of entries of two different lists that share addresses. If
 /// that fails, it is reported, and the error is the exit status.
+#[inline(never)]
 fn print_overlaps_of_many(
     rt: &HostRuntime,
     matches: &ArgMatches,
