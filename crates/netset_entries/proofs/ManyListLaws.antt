@@ -41,13 +41,14 @@ one_read grammar [] (r ∷ read) bytes list h is = absurd h
 one_read grammar (b ∷ lists) [] bytes list h is = absurd h
 one_read grammar (b ∷ lists) (r ∷ read) bytes list h is = (h.0, one_read grammar lists read bytes list h.1 is)
 
-pub read_more : (grammar : Grammar) (lists : List (Bor (List ℕ))) (i : ℕ) (d : Bor (List ℕ))
-    (read new : List EntryList) (list : EntryList) → i < length lists → AreReadLists grammar (take i lists) read
-    → IsReadOf grammar (get_or lists i d).now list → new ≡ read ++ list ∷ []
-    → AreReadLists grammar (take (i + 1) lists) new
-read_more grammar lists i d read new list less h of is =
-    subst₂ (AreReadLists grammar) (sym (take_more lists i d less)) (sym is)
-    (one_read grammar (take i lists) read (get_or lists i d) list h of)
+module _ (grammar : Grammar) (lists : List (Bor (List ℕ))) (i : ℕ) (d : Bor (List ℕ)) (read new : List EntryList)
+    (list : EntryList) where
+  pub read_more : i < length lists → AreReadLists grammar (take i lists) read
+      → IsReadOf grammar (get_or lists i d).now list → new ≡ read ++ list ∷ []
+      → AreReadLists grammar (take (i + 1) lists) new
+  read_more less h of is =
+      subst₂ (AreReadLists grammar) (sym (take_more lists i d less)) (sym is)
+      (one_read grammar (take i lists) read (get_or lists i d) list h of)
 
 -- ---- refused lines
 
@@ -94,24 +95,24 @@ entries_at read i list less is =
       get_or-map of read i list (of list) less ∙ ap of (sym is),
     )
 
-pub asked_is : (names : Names) (read : List EntryList) (i j : ℕ) (one two : EntryList) (asked : Asked)
-    (first second : List EntryLine) → i < length read → j < length read → one ≡ get_or read i one
-    → two ≡ get_or read j two → first ≡ one.entries.items → second ≡ two.entries.items
-    → asked.entries.items ≡ first ++ second → asked.count ≡ Some (length first)
-    → labels_of asked.labels ≡ name_labels (name_at names i) (name_at names j)
-    → IsAskedOf names (entries_in read) i j asked
-asked_is names read i j one two asked first second less_i less_j at_i at_j is_first is_second entries count labels =
-    record {
-      first = map numbered one.entries.items;
-      second = map numbered two.entries.items;
-      first_at = entries_at read i one less_i at_i;
-      second_at = entries_at read j two less_j at_j;
-      entries = ap (map numbered) entries ∙ map-append numbered first second
-          ∙ ap (λ z. map numbered z ++ map numbered second) is_first
-          ∙ ap (λ z. map numbered one.entries.items ++ map numbered z) is_second;
-      count = count ∙ ap (λ z. Some (length z)) is_first ∙ ap Some (sym (length-map one.entries.items numbered));
-      labels = labels;
-    }
+module _ (names : Names) (read : List EntryList) (i j : ℕ) (one two : EntryList) (asked : Asked)
+    (first second : List EntryLine) where
+  pub asked_is : i < length read → j < length read → one ≡ get_or read i one → two ≡ get_or read j two
+      → first ≡ one.entries.items → second ≡ two.entries.items → asked.entries.items ≡ first ++ second
+      → asked.count ≡ Some (length first)
+      → labels_of asked.labels ≡ name_labels (name_at names i) (name_at names j)
+      → IsAskedOf names (entries_in read) i j asked
+  asked_is less_i less_j at_i at_j is_first is_second entries count labels = record {
+    first = map numbered one.entries.items;
+    second = map numbered two.entries.items;
+    first_at = entries_at read i one less_i at_i;
+    second_at = entries_at read j two less_j at_j;
+    entries = ap (map numbered) entries ∙ map-append numbered first second
+        ∙ ap (λ z. map numbered z ++ map numbered second) is_first
+        ∙ ap (λ z. map numbered one.entries.items ++ map numbered z) is_second;
+    count = count ∙ ap (λ z. Some (length z)) is_first ∙ ap Some (sym (length-map one.entries.items numbered));
+    labels = labels;
+  }
 
 -- a list has one entry at an index
 pub one_at : {L : Type 0} (lists : List L) (i : ℕ) (a b : L) → IsListAt lists i a → IsListAt lists i b → a ≡ b

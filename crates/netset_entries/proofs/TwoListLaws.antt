@@ -44,7 +44,7 @@ module _ (grammar : Grammar) (bytes other : List ℕ) (first second joined : Lis
   }
 
 -- what holds of what is asked holds of the lists
-pub of_asked : (grammar : Grammar) (bytes : List ℕ) (other : Option (Bor (List ℕ))) (asked : Asked)
+of_asked : (grammar : Grammar) (bytes : List ℕ) (other : Option (Bor (List ℕ))) (asked : Asked)
     → AreAsked grammar bytes other asked → (Holds : List NumberedEntry → Option ℕ → Type 0)
     → Holds (map numbered asked.entries.items) asked.count → HoldsOfLists grammar bytes other Holds
 of_asked grammar bytes None asked are Holds h = record {

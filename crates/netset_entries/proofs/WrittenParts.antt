@@ -1,6 +1,6 @@
 -- Texts of parts, one for each number, that are written one part after the other.
 use Rattle.std.proofs.Common.{◌≡◌, ℕ, zero, suc, ◌+◌, ◌-◌, ◌<◌, ◌≤◌, Bool, true, false, ◌||◌, ◌↔◌, IsTrue, List, []}
-use Rattle.std.proofs.Common.{◌++◌, Option, refl, sym, ap, subst, arith, append_assoc, inl, inr}
+use Rattle.std.proofs.Common.{◌++◌, Option, refl, sym, ap, ◌∙◌, subst, arith, append_assoc, inl, inr}
 use Rattle.std.proofs.lemmas.Bool.{cases_lt}
 use Rattle.std.specs.Io.KnownBytes.{Keeps}
 use Rattle.std.proofs.KnownBytes.{Appends-nil, Appends-kept, Appends-trans}
@@ -23,19 +23,20 @@ parts_exist Is i (suc n) each =
     (part ++ rest, part, rest, refl, is, are)
 
 -- parts go on with others
-parts_join : (Is : ℕ → List ℕ → Type 0) (i n j m total : ℕ) (text more : List ℕ) → AreTextParts Is i n text
-    → i + n ≡ j → n + m ≡ total → AreTextParts Is j m more → AreTextParts Is i total (text ++ more)
+parts_join : (Is : ℕ → List ℕ → Type 0) (i n m : ℕ) (text more : List ℕ) → AreTextParts Is i n text
+    → AreTextParts Is (i + n) m more → AreTextParts Is i (n + m) (text ++ more)
 unfolding AreTextParts
-parts_join Is i zero j m total text more h at sum k =
-    let same : m ≡ total = omega (arith, sum) in
-    let from : j ≡ i = omega (arith, at) in
+parts_join Is i zero m text more h k =
+    let same : m ≡ 0 + m = omega arith in
+    let from : i + 0 ≡ i = omega arith in
     subst (λ z. AreTextParts Is i z (text ++ more)) same
     (subst (λ z. AreTextParts Is z m (text ++ more)) from
-    (subst (λ z. AreTextParts Is j m (z ++ more)) (sym h) k))
-parts_join Is i (suc n) j m total text more (first, rest, cut, here, h) at sum k =
-    let less : suc (total - 1) ≡ total = omega (arith, sum) in
-    let others = parts_join Is (i + 1) n j m (total - 1) rest more h (omega (arith, at)) (omega (arith, sum)) k in
-    subst (λ z. AreTextParts Is i z (text ++ more)) less
+    (subst (λ z. AreTextParts Is (i + 0) m (z ++ more)) (sym h) k))
+parts_join Is i (suc n) m text more (first, rest, cut, here, h) k =
+    let next : i + suc n ≡ (i + 1) + n = omega arith in
+    let total : suc (n + m) ≡ suc n + m = omega arith in
+    let others = parts_join Is (i + 1) n m rest more h (subst (λ z. AreTextParts Is z m more) next k) in
+    subst (λ z. AreTextParts Is i z (text ++ more)) total
     (first, rest ++ more, ap (λ z. z ++ more) cut ∙ append_assoc first rest more, here, others)
 
 -- nothing is written of no parts
@@ -48,29 +49,33 @@ none_written Is i n a none = record {
 }
 
 -- one part more is written
-pub part_written : (Is : ℕ → List ℕ → Type 0) (i n j m : ℕ) (a b c : Option (List ℕ))
-    → IsWritten (AreTextParts Is i n) a b → i + n ≡ j → n + 1 ≡ m → IsWritten (Is j) b c
-    → IsWritten (AreTextParts Is i m) a c
-part_written Is i n j m a b c h at next k = record {
-  text = h.text ++ k.text;
-  right = parts_more Is i n j m h.text k.text h.right at next k.right;
-  written = Appends-trans a b c h.text k.text h.written k.written;
-}
+module _ (Is : ℕ → List ℕ → Type 0) (i n j m : ℕ) (a b c : Option (List ℕ)) where
+  pub part_written : IsWritten (AreTextParts Is i n) a b → i + n ≡ j → n + 1 ≡ m → IsWritten (Is j) b c
+      → IsWritten (AreTextParts Is i m) a c
+  part_written h at next k = record {
+    text = h.text ++ k.text;
+    right = parts_more Is i n j m h.text k.text h.right at next k.right;
+    written = Appends-trans a b c h.text k.text h.written k.written;
+  }
 
 -- a front of a part is written, and the others have a text
-pub part_front : (Is : ℕ → List ℕ → Type 0) (i n j m total : ℕ) (a b c : Option (List ℕ))
-    → IsWritten (AreTextParts Is i n) a b → i + n ≡ j → (n + 1) + m ≡ total → IsFrontWritten (Is j) b c
-    → ((k : ℕ) → j + 1 ≤ k → k < (j + 1) + m → (part : List ℕ) × Is k part)
-    → IsFrontWritten (AreTextParts Is i total) a c
-part_front Is i n j m total a b c h at sum k each =
-    let (rest, are) = parts_exist Is (j + 1) m each in
-    let so_far = parts_more Is i n j (n + 1) h.text k.text h.right at refl k.right in record {
-      text = (h.text ++ k.text) ++ rest;
-      right = parts_join Is i (n + 1) (j + 1) m total (h.text ++ k.text) rest so_far (omega (arith, at)) sum are;
-      front = h.text ++ k.front;
-      begins = front_longer (h.text ++ k.text) rest (h.text ++ k.front) (front_after h.text k.text k.front k.begins);
-      written = Appends-trans a b c h.text k.front h.written k.written;
-    }
+module _ (Is : ℕ → List ℕ → Type 0) (i n j m total : ℕ) (a b c : Option (List ℕ)) where
+  pub part_front : IsWritten (AreTextParts Is i n) a b → i + n ≡ j → (n + 1) + m ≡ total
+      → IsFrontWritten (Is j) b c → ((k : ℕ) → j + 1 ≤ k → k < (j + 1) + m → (part : List ℕ) × Is k part)
+      → IsFrontWritten (AreTextParts Is i total) a c
+  part_front h at sum k each =
+      let (rest, are) = parts_exist Is (j + 1) m each in
+      let so_far = parts_more Is i n j (n + 1) h.text k.text h.right at refl k.right in
+      let after : j + 1 ≡ i + (n + 1) = omega (arith, at) in
+      let all = parts_join Is i (n + 1) m (h.text ++ k.text) rest so_far
+      (subst (λ z. AreTextParts Is z m rest) after are) in record {
+        text = (h.text ++ k.text) ++ rest;
+        right = subst (λ z. AreTextParts Is i z ((h.text ++ k.text) ++ rest)) sum all;
+        front = h.text ++ k.front;
+        begins = front_longer (h.text ++ k.text) rest (h.text ++ k.front)
+            (front_after h.text k.text k.front k.begins);
+        written = Appends-trans a b c h.text k.front h.written k.written;
+      }
 
 -- nothing is a front of each text
 pub kept_front : (Is : List ℕ → Type 0) (a b : Option (List ℕ)) → (text : List ℕ) × Is text → Keeps a b

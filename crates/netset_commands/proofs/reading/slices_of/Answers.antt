@@ -3,12 +3,13 @@ use Rattle.std.proofs.Common.{◌≡◌, ◌<◌, ◌+◌, ◌++◌, ◌∷◌, 
 use Rattle.std.proofs.lemmas.List.{map-append, take_more}
 use Rattle.netset_commands.proofs.reading.slices_of.Goals as goal
 
-one_more : {X Y Z : Type 0} (f : X → Z) (g : Y → Z) (xs new : List X) (ys : List Y) (i : ℕ) (x : X) (y : Y)
-    → i < length ys → map f xs ≡ map g (take i ys) → new ≡ xs ++ x ∷ [] → f x ≡ g (get_or ys i y)
-    → map f new ≡ map g (take (i + 1) ys)
-one_more f g xs new ys i x y less h is same =
-    ap (map f) is ∙ map-append f xs (x ∷ []) ∙ ap (λ z. z ++ f x ∷ []) h ∙ ap (λ z. map g (take i ys) ++ z ∷ []) same
-    ∙ sym (map-append g (take i ys) (get_or ys i y ∷ [])) ∙ sym (ap (map g) (take_more ys i y less))
+module _ {X Y Z : Type 0} (f : X → Z) (g : Y → Z) (xs new : List X) (ys : List Y) (i : ℕ) (x : X) (y : Y) where
+  one_more : i < length ys → map f xs ≡ map g (take i ys) → new ≡ xs ++ x ∷ [] → f x ≡ g (get_or ys i y)
+      → map f new ≡ map g (take (i + 1) ys)
+  one_more less h is same =
+      ap (map f) is ∙ map-append f xs (x ∷ []) ∙ ap (λ z. z ++ f x ∷ []) h
+      ∙ ap (λ z. map g (take i ys) ++ z ∷ []) same
+      ∙ sym (map-append g (take i ys) (get_or ys i y ∷ [])) ∙ sym (ap (map g) (take_more ys i y less))
 
 pub loop-list-preserved : goal.loop-list-preserved
 loop-list-preserved c =
