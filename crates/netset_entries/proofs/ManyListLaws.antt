@@ -1,19 +1,16 @@
 -- Many lists that were read, and the pairs of two of them.
 use Rattle.std.specs.Borrow.{Bor}
-use Rattle.std.proofs.Common.{◌≡◌, ◌↔◌, ℕ, zero, suc, ◌+◌, ◌-◌, ◌<◌, ◌≤◌, ◌||◌, Bool, true, false, not, IsTrue, List}
+use Rattle.std.proofs.Common.{◌≡◌, ◌↔◌, ℕ, zero, suc, ◌+◌, ◌-◌, ◌<◌, ◌||◌, Bool, true, false, not, IsTrue, List}
 use Rattle.std.proofs.Common.{[], ◌∷◌, ◌++◌, length, map, take, get_or, refl, sym, ap, ◌∙◌, subst, subst₂, arith}
-use Rattle.std.proofs.Common.{inl, inr}
 use Rattle.std.proofs.Common.{Option, Some, Result, Ok, Err, IfOk}
 use Rattle.std.specs.Prelude.{nat_eq}
 use Rattle.std.proofs.lemmas.Bool.{true≢false, false≢true}
 use Rattle.std.proofs.lemmas.List.{length-map, get_or-map, map-append, take_more}
-use Rattle.std.specs.Io.KnownBytes.{Keeps}
-use Rattle.std.proofs.KnownBytes.{Appends-nil}
 use Rattle.ipnet.specs.declared.parser.Grammar.{Grammar}
 use Rattle.ipnet_base.proofs.ListLaws.{at_place}
 use Rattle.ipnet_lists.specs.Names.{Names, name_at}
 use Rattle.ipnet_lists.specs.Reports.{ExplainsEntry, IsReport, IsReportBegun}
-use Rattle.ipnet_text.specs.Outputs.{IsWritten, IsFrontWritten}
+use Rattle.ipnet_text.specs.Outputs.{IsWritten}
 use Rattle.netset_entries.specs.declared.entry_list.EntryLine.{EntryLine}
 use Rattle.netset_entries.specs.declared.entry_list.EntryList.{EntryList}
 use Rattle.netset_entries.specs.declared.overlaps.Asked.{Asked}
@@ -181,16 +178,6 @@ pub overlaps_from_exist : (names : Names) (lists : List (List NumberedEntry)) (i
 overlaps_from_exist names lists i less =
     parts_exist (IsOverlapAt names lists i) (i + 1) (length lists - (i + 1)) (λ j from below.
     overlap_at_exists names lists i j less (omega (arith, less, below)))
-
--- nothing is a front of each text
-pub nothing_front : (Is : List ℕ → Type 0) (a : Option (List ℕ)) → (text : List ℕ) × Is text → IsFrontWritten Is a a
-nothing_front Is a (text, right) = record {
-  text = text;
-  right = right;
-  front = [];
-  begins = refl;
-  written = Appends-nil a;
-}
 
 -- ---- the reports of the refused lines
 

@@ -7,7 +7,6 @@ use Rattle.ipnet_base.specs.Address.{Family, IPv4, IPv6}
 use Rattle.ipnet_base.proofs.ListLaws.{at_place, pairs_cons, pairs_head, pairs_tail}
 use Rattle.ipnet_base.proofs.ListLaws.{contains_nil, contains_here, contains_there, contains_cases}
 use Rattle.ipnet_sets.specs.SetRanges.{range_of}
-use Rattle.netset_entries.specs.EntryPlaces.{IsEntryAt}
 use Rattle.netset_entries.specs.NumberedEntries.{NumberedEntry}
 use Rattle.netset_entries.specs.Overlaps.{Labels, IsOverlapText}
 use Rattle.netset_entries.specs.Spans.{IsSpanIn, IsFlagged, IsBeforeSpan, AreSpans}

@@ -1,5 +1,5 @@
 -- Texts of parts, one for each number, that are written one part after the other.
-use Rattle.std.proofs.Common.{◌≡◌, ℕ, zero, suc, ◌+◌, ◌-◌, ◌<◌, ◌≤◌, Bool, true, false, ◌||◌, ◌↔◌, IsTrue, List, []}
+use Rattle.std.proofs.Common.{◌≡◌, ℕ, zero, suc, ◌+◌, ◌<◌, ◌≤◌, Bool, true, false, ◌||◌, ◌↔◌, IsTrue, List, []}
 use Rattle.std.proofs.Common.{◌++◌, Option, refl, sym, ap, ◌∙◌, subst, arith, append_assoc, inl, inr}
 use Rattle.std.proofs.lemmas.Bool.{cases_lt}
 use Rattle.std.specs.Io.KnownBytes.{Keeps}
@@ -78,15 +78,26 @@ module _ (Is : ℕ → List ℕ → Type 0) (i n j m total : ℕ) (a b c : Optio
       }
 
 -- nothing is a front of each text
-pub kept_front : (Is : List ℕ → Type 0) (a b : Option (List ℕ)) → (text : List ℕ) × Is text → Keeps a b
-    → IsFrontWritten Is a b
-kept_front Is a b (text, right) kept = record {
+pub nothing_front : (Is : List ℕ → Type 0) (a : Option (List ℕ)) → (text : List ℕ) × Is text → IsFrontWritten Is a a
+nothing_front Is a (text, right) = record {
   text = text;
   right = right;
   front = [];
   begins = refl;
-  written = Appends-kept a a b [] (Appends-nil a) kept;
+  written = Appends-nil a;
 }
+
+-- the same if the writer keeps what it has
+pub kept_front : (Is : List ℕ → Type 0) (a b : Option (List ℕ)) → (text : List ℕ) × Is text → Keeps a b
+    → IsFrontWritten Is a b
+kept_front Is a b exists kept =
+    let none = nothing_front Is a exists in record {
+      text = none.text;
+      right = none.right;
+      front = none.front;
+      begins = none.begins;
+      written = Appends-kept a a b none.front none.written kept;
+    }
 
 -- ---- whether something is found at some number
 

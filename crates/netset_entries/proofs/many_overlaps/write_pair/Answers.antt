@@ -1,12 +1,12 @@
 -- The lines of two lists are those that are asked for.
-use Rattle.std.proofs.Common.{◌≡◌, length, map, sym, subst, arith, inl, inr}
+use Rattle.std.proofs.Common.{length, map, arith, inl, inr}
 use Rattle.std.proofs.lemmas.List.{length-map}
 use Rattle.netset_entries.specs.EntryLineOf.{numbered}
 use Rattle.netset_entries.specs.ManyLists.{HasOverlapAt, IsOverlapAt}
 use Rattle.netset_entries.specs.ManySteps.{entries_in}
 use Rattle.netset_entries.specs.Overlaps.{HasOverlap}
-use Rattle.netset_entries.proofs.ManyListLaws.{found_at, if_found, nothing_front, overlap_at_exists, text_at}
-use Rattle.netset_entries.proofs.WrittenParts.{kept_front}
+use Rattle.netset_entries.proofs.ManyListLaws.{found_at, if_found, overlap_at_exists, text_at}
+use Rattle.netset_entries.proofs.WrittenParts.{kept_front, nothing_front}
 use Rattle.netset_lib.proofs.RunLaws.{whole_weaker, front_weaker}
 use Rattle.netset_entries.proofs.many_overlaps.write_pair.Goals as goal
 

@@ -1,5 +1,5 @@
 use Rattle.std.proofs.Common.{◌≡◌, ◌∙◌, false, subst, sym, refl, inr, ap}
-use Rattle.netset_entries.specs.ManyLists.{AreEntryLists, AreReadLists}
+use Rattle.netset_entries.specs.ManyLists.{AreReadLists}
 use Rattle.netset_entries.specs.ManySteps.{are_refused, entries_in}
 use Rattle.netset_entries.proofs.ManyListLaws.{all_entries, many_outcome, some_refused}
 use Rattle.netset_lib.proofs.RunLaws.{whole_weaker, front_weaker}
