@@ -187,8 +187,8 @@ fn find_states(
 /// the number. The states are `valid`, `invalid` and `not-found`; with `why`, `invalid` is followed by a TAB and the
 /// reason, `length` or `as`. A state that no route has is counted too.
 ///
-/// The lines of the routes are those of `origin_answers`. The error is `Refused` if lines of the routes are refused,
-/// and `Memory` if memory runs out.
+/// The lines of the routes are as `origin_answers` says. The error is `Refused` if lines of the routes are refused, and
+/// `Memory` if memory runs out.
 ///
 /// ```text
 /// the VRP 192.0.2.0/24 with 25 and AS 64496, and "192.0.2.0/26 64496\n198.51.100.0/24 64496\n":

@@ -58,7 +58,7 @@ impl<'a> TextCommand for OriginsCommand<'a> {
 }
 
 /// How many routes of a list have each state, by these VRPs, as `origin_counts` finds it. The names and the statuses
-/// are those of `OriginsCommand`.
+/// are as for `OriginsCommand`.
 ///
 /// ```text
 /// 192.0.2.0/24 with 24 and AS 64496, and "192.0.2.0/24 64497\n", with `why`: status 1, and out gets
