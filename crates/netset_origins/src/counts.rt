@@ -125,7 +125,8 @@ impl StateFinder {
     {
         let why = self.request.why;
         let state = state_of(self.alloc, &self.table, &route.network, route.origin, why)?;
-        states.push(state)
+        states.push(state)?;
+        Ok(())
     }
 }
 
