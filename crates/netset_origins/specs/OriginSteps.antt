@@ -9,7 +9,7 @@ use Rattle.ipnet_origins.specs.Origins.{IsValidity}
 use Rattle.ipnet_origins.specs.declared.origins.Validity.TheVariants.{Invalid}
 use Rattle.ipnet_origins.specs.declared.payload.Payload.{Payload}
 use Rattle.netset_origins.specs.OriginAnswers.{IsWhyPart, IsRouteLine, AreRouteLines, IsOneInvalid}
-use Rattle.netset_origins.specs.OriginStates.{state_words, IsState}
+use Rattle.netset_origins.specs.OriginStates.{state_words}
 use Rattle.netset_origins.specs.RouteLines.{ListRoute, IsRouteList}
 use Rattle.netset_origins.specs.VrpLines.{IsVrpList}
 use Rattle.netset_origins.specs.declared.answer.JudgedRoutes.{JudgedRoutes}

@@ -1,5 +1,5 @@
 //! How many routes of a list have each state, by validated ROA payloads (VRPs).
-ghost use Rattle.std.specs.Prelude.{◌≡◌, ◌++◌, ◌↔◌, ◌==◌, Any, IfErr, IfOk, IsTrue, OnOk, count_by};
+ghost use Rattle.std.specs.Prelude.{◌≡◌, ◌++◌, ◌↔◌, ◌==◌, Any, IfErr, IfOk, IsTrue, OnOk, Some, count_by};
 ghost use Rattle.ipnet_origins.specs.OriginsOf.{payloads_of};
 ghost use Rattle.ipnet_origins.specs.declared.origins.Validity.TheVariants.{Invalid};
 ghost use Rattle.ipnet.specs.NetworkOf.{ip_network};

@@ -1,9 +1,8 @@
 -- The routes of a table that one can remove.
-use Rattle.std.proofs.Common.{◌≡◌, ◌≢◌, ℕ, zero, suc, ◌+◌, ◌<◌, ◌≤◌, ◌==◌, ◌⊎◌, ◌↔◌, Bool, not, IsTrue, List, [], ◌∷◌}
-use Rattle.std.proofs.Common.{All, Contains, map, length, get_or, take, refl, sym, ap, ◌∙◌, subst, arith, inl, inr}
+use Rattle.std.proofs.Common.{◌≡◌, ◌≢◌, ℕ, zero, suc, ◌+◌, ◌<◌, ◌≤◌, ◌==◌, ◌⊎◌, ◌↔◌, Bool, not, true, false, IsTrue}
+use Rattle.std.proofs.Common.{List, [], ◌∷◌, All, Contains, map, length, get_or, take, refl, sym, ap, ◌∙◌, subst, arith, inl, inr}
 use Rattle.std.proofs.lemmas.Bool.{cases_lt}
 use Rattle.std.proofs.lemmas.List.{length-map, get_or-map, take_all}
-use Rattle.std.specs.Borrow.{Bor}
 use Rattle.ipnet_base.specs.Address.{Address, width}
 use Rattle.ipnet_base.specs.Network.{Network, InBlock, IsNetwork, IsSubnetOf, IsSupernetOf, IsTruncated, host_bits}
 use Rattle.ipnet_base.proofs.BlockLaws.{own, own_in}
@@ -18,11 +17,9 @@ use Rattle.ipnet_routes.proofs.RouteLaws.{same_networks}
 use Rattle.ipnet_routes.proofs.RouteLackingLaws.{AreThose, Ascends}
 use Rattle.ipnet_fewest.specs.Shortest.{HasValue, RouteAlike}
 use Rattle.ipnet_fewest.proofs.MatchLaws.{longest_or_none}
+use Rattle.netset_routes.proofs.AllRouteLaws.{Text}
 use Rattle.netset_routes.specs.Redundant.{TextRoutes, IsParent, IsRedundant, AreParted, AreRedundant}
 use Rattle.netset_routes.specs.Shortening.{IsSameText}
-
-abbrev Text : Type 0
-Text = Bor (List ℕ)
 
 -- the networks of the routes are valid and have no host bits, and each has one route
 pub record AreInTable (routes : TextRoutes) : Type 0 where
@@ -89,10 +86,18 @@ module _ (routes : TextRoutes) (table : AreInTable routes) where
       (all_at IsTruncated (networks_of routes) table.truncated s.0 in_s)
       (around_longer r.0 s.0 x a b (omega (arith, same)), around_longer s.0 r.0 x b a (omega (arith, same))))
 
-  pub one_parent : (n : Network) (p q : Route Text) → IsParent routes n p → IsParent routes n q → p ≡ q
+  one_parent : (n : Network) (p q : Route Text) → IsParent routes n p → IsParent routes n q → p ≡ q
   one_parent n p q h k =
       one_route p q (own n) h.member k.member (h.around (own n) (own_in n)) (k.around (own n) (own_in n))
       (omega (arith, h.longest q k.member k.around k.shorter, k.longest p h.member h.around h.shorter))
+
+  -- the most specific route around a route decides
+  pub redundant_by : (r q : Route Text) (same : Bool) → IsParent routes r.0 q → (IsTrue same ↔ IsSameText q.1 r.1)
+      → IsTrue same ↔ IsRedundant routes r
+  redundant_by r q same h text = (
+    λ yes. (q, h, text.0 yes),
+    λ (p, k, e). text.1 (ap (λ z. z.1.now) (one_parent r.0 q p h k) ∙ e),
+  )
 
   -- ---- without some redundant routes
 
@@ -128,13 +133,13 @@ module _ (routes : TextRoutes) (table : AreInTable routes) where
           (k, is, text ∙ same)
     ]
 
-    pub value_kept : (v : Text) → HasValue IsSameText routes x v → HasValue IsSameText kept x v
+    value_kept : (v : Text) → HasValue IsSameText routes x v → HasValue IsSameText kept x v
     value_kept v h =
         let (k, is, text) = climb h.route.0.prefix_len h.route (omega arith) h.matches.member h.matches.holds
         (λ k d there. h.matches.longest k (parted.kept_only k d).0 there) in
         record { route = k; matches = is; is = text ∙ h.is }
 
-    pub value_before : (v : Text) → HasValue IsSameText kept x v → HasValue IsSameText routes x v
+    value_before : (v : Text) → HasValue IsSameText kept x v → HasValue IsSameText routes x v
     value_before v h = elim (longest_or_none routes x) [
       | inr none ↦ absurd (none h.route (parted.kept_only h.route h.matches.member).0 h.matches.holds)
       | inl (r, first) ↦
@@ -175,5 +180,11 @@ all_found list routes found i same le h = record {
 -- whether there are any
 pub some_found : (items : List (IpNet × Text)) (none : Bool) → none ≡ (length items == 0)
     → IsTrue (not none) ↔ (ip_routes items ≢ [])
-some_found [] none is = (λ yes. absurd (cc), λ some. absurd (some refl))
-some_found (x ∷ items) none is = (λ yes e. absurd (cc), λ some. ap not is)
+some_found [] none is = (
+  λ yes. let clash : true ≡ false = sym yes ∙ ap not is in absurd cc,
+  λ some. absurd (some refl),
+)
+some_found (x ∷ items) none is = (
+  λ yes e. let clash : (ip_network x.0, x.1) ∷ ip_routes items ≡ [] = e in absurd cc,
+  λ some. ap not is,
+)
