@@ -40,7 +40,7 @@ pub const ORIGINS_COMMAND: Subcommand = Subcommand {
             Argument {
                 id: WHY,
                 form: Form::Flag(WHY),
-                help: "Print after each route the VRPs that cover it; after an invalid one first the reason, length or as",
+                help: "Print why a route is invalid (length or as), and the VRPs that cover each route",
                 ..ARGUMENT
             },
             Argument {

@@ -10,8 +10,8 @@ ghost use Rattle.netset_routes.specs.Shortening.{IsSameText};
 use ipnet_routes::RouteTable;
 use ipnet_routes::routes::laws::table_is_in_order;
 
-/// If redundant routes of a table are removed, all of them or some, each address has the same text as before, or no text
-/// as before.
+/// If redundant routes of a table are removed, all of them or some, each address has the same text as before, or no
+/// text as before.
 pub fn redundant_routes_change_nothing(table: &RouteTable<&str>)
     ensures { (removed kept : TextRoutes) → AreParted (routes_of table.now) removed kept
         → ((r : Route (Bor (List ℕ))) → Contains removed r → IsRedundant (routes_of table.now) r)

@@ -13,9 +13,9 @@ use ipnet_routes::routes::laws::table_is_in_order;
 use netset_lib::{Failure, TextCommand};
 use std::alloc::{AllocError, Global};
 
-/// The routes of a table that one can remove, all of them or some, and each address keeps its text: the most specific of
-/// the other routes around such a route has the same text. A line has the network of the route, a space, and its text,
-/// or only the network if the text is empty. IPv4 comes first, and the networks ascend, without host bits.
+/// The routes of a table that one can remove, all of them or some, and each address keeps its text: the most specific
+/// of the other routes around such a route has the same text. A line has the network of the route, a space, and its
+/// text, or only the network if the text is empty. IPv4 comes first, and the networks ascend, without host bits.
 ///
 /// | Status | On `faults` | When |
 /// |---|---|---|
