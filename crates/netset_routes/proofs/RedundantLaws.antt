@@ -19,8 +19,8 @@ use Rattle.ipnet_routes.proofs.RouteLackingLaws.{AreThose, Ascends}
 use Rattle.ipnet_fewest.specs.Shortest.{HasValue, RouteAlike}
 use Rattle.ipnet_fewest.proofs.MatchLaws.{longest_or_none}
 use Rattle.netset_routes.proofs.AllRouteLaws.{Text}
-use Rattle.netset_routes.specs.Redundant.{TextRoutes, IsParent, IsRedundant, AreParted, AreRedundant}
-use Rattle.netset_routes.specs.Shortening.{IsSameText}
+use Rattle.netset_routes.specs.Redundant.{TextRoutes, IsParent, IsRedundant, AreParted, AreRedundant, IsRedundantText}
+use Rattle.netset_routes.specs.Shortening.{route_lines, IsSameText}
 
 -- the networks of the routes are valid and have no host bits, and each has one route
 pub record AreInTable (routes : TextRoutes) : Type 0 where
@@ -179,7 +179,7 @@ all_found list routes found i same le h = record {
 }
 
 -- whether there are any
-pub some_found : (items : List (IpNet × Text)) (none : Bool) → none ≡ (length items == 0)
+some_found : (items : List (IpNet × Text)) (none : Bool) → none ≡ (length items == 0)
     → IsTrue (not none) ↔ (ip_routes items ≢ [])
 some_found [] none is = (
   λ yes. let clash : true ≡ false = sym yes ∙ ap not is in absurd cc,
@@ -189,3 +189,14 @@ some_found (x ∷ items) none is = (
   λ yes e. let clash : (ip_network x.0, x.1) ∷ ip_routes items ≡ [] = e in absurd cc,
   λ some. ap not is,
 )
+
+-- the text of the redundant routes
+pub redundant_text : (routes : TextRoutes) (items : List (IpNet × Text)) (none : Bool) (text : List ℕ)
+    → AreRedundant routes (ip_routes items) → none ≡ (length items == 0) → text ≡ route_lines (ip_routes items)
+    → IsRedundantText routes (not none) text
+redundant_text routes items none text are is lines =
+    record { found = ip_routes items; are = are; is_some = some_found items none is; is = lines }
+
+pub twice : (b : Bool) → b ≡ not (not b)
+twice true = refl
+twice false = refl
