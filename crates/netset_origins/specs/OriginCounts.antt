@@ -16,9 +16,13 @@ state_index States.InvalidLength = 2
 state_index States.InvalidAs = 3
 state_index States.NotFound = 4
 
+-- Whether the state has this index.
+abbrev pub has_index : ℕ → RouteState → Bool
+has_index index s = state_index s == index
+
 -- How many of the states are this one. Example: of `Valid`, `NotFound` and `Valid`, two are `Valid`.
 abbrev pub count_of : List RouteState → RouteState → ℕ
-count_of states wanted = count_by (λ s. state_index s == state_index wanted) states
+count_of states wanted = count_by (has_index (state_index wanted)) states
 
 -- The line of a state: its words, a TAB (9), how many of the states are this one, and a line feed (10).
 -- Example: `not-found`, TAB, `1`.

@@ -1,13 +1,13 @@
 //! How many routes of a list have each state, by validated ROA payloads (VRPs).
-ghost use Rattle.std.specs.Prelude.{◌≡◌, ◌++◌, ◌↔◌, ◌==◌, Any, IfErr, IfOk, IsTrue, OnOk, Some, count_by};
+ghost use Rattle.std.specs.Prelude.{◌≡◌, ◌++◌, ◌↔◌, Any, IfErr, IfOk, IsTrue, OnOk, Some, count_by};
 ghost use Rattle.ipnet_origins.specs.OriginsOf.{payloads_of};
 ghost use Rattle.ipnet_origins.specs.declared.origins.Validity.TheVariants.{Invalid};
 ghost use Rattle.ipnet.specs.NetworkOf.{ip_network};
 ghost use Rattle.ipnet_lists.specs.declared.cause.Cause.TheVariants.{CarriageReturn};
 ghost use Rattle.netset_lib.specs.declared.network_entry.ArgumentCause.TheVariants.{NoEntry};
 ghost use Rattle.netset_origins.specs.OriginAnswers.{IsRoutesFailure};
-ghost use Rattle.netset_origins.specs.OriginCounts.{count_line, count_lines, invalid_lines, state_index};
-ghost use Rattle.netset_origins.specs.OriginCounts.{IsCountAnswer};
+ghost use Rattle.netset_origins.specs.OriginCounts.{count_line, count_lines, has_index, invalid_lines};
+ghost use Rattle.netset_origins.specs.OriginCounts.{state_index, IsCountAnswer};
 ghost use Rattle.netset_origins.specs.OriginStates.{validity_of};
 ghost use Rattle.netset_origins.specs.RouteLines.{IsRouteCause, IsRouteText};
 ghost use Rattle.netset_origins.specs.StateSteps.{AddsState, AreStatesRead};
@@ -55,7 +55,7 @@ fn index_of(state: RouteState) -> u8
 
 /// Returns how many of the states have this index.
 fn count_at(states: &[RouteState], index: u8) -> usize
-    ensures { result ≡ count_by (λ s. state_index s == index) states.now }
+    ensures { result ≡ count_by (has_index index) states.now }
 {
     states
         .iter()
