@@ -2,14 +2,16 @@
 ghost use Rattle.std.specs.Prelude.{◌≤◌, codes};
 ghost use Rattle.netset_commands.specs.Arguments.{IsFlag};
 
-use crate::arguments::{FIRST_LIST, OTHER_LIST, SHARED, SKIPPING, is_set};
+use crate::arguments::{FIRST_LIST, OTHER_LIST, SHARED, SKIP_BAD, SKIPPING, flags_of, is_set};
 use crate::entry_options::ENTRY_OR_OTHER;
 use crate::named_lists::two_or_report;
-use crate::reading::read_pair;
+use crate::reading::{read_pair, two_bytes};
 use crate::table::{ARGUMENT, Argument, Form, Subcommand};
+use crate::texts::{TEXT_FLAG, has_text_flag};
 use clap::ArgMatches;
 use netset_files::Writers;
-use netset_lib::{ChangesCommand, run_text};
+use netset_lib::{ChangesCommand, run_text, table_or_report};
+use netset_routes::TextChangesCommand;
 
 /// The name of the command.
 pub const CHANGES: &str = "changes";
@@ -30,6 +32,11 @@ pub const CHANGES_COMMAND: Subcommand = Subcommand {
                 form: Form::Flag(ADDRESSES),
                 help: "The networks of the addresses that only NEW has (+), and that only OLD has (-)",
                 ..ARGUMENT
+            },
+            Argument {
+                help: "Text may follow the entry of a line; print the networks whose text differs, and both texts",
+                conflicts: &[ADDRESSES, SKIP_BAD],
+                ..TEXT_FLAG
             },
             Argument {
                 form: Form::Word("OLD"),
@@ -53,6 +60,36 @@ fn are_of_addresses(matches: &ArgMatches) -> bool
     is_set(matches, ADDRESSES)
 }
 
+/// Reads two tables of these names, prints the networks whose text differs, and returns the exit status.
+fn print_text_changes(
+    rt: &HostRuntime,
+    matches: &ArgMatches,
+    names: &[&str; 2],
+    writers: &mut Writers<'_>,
+) -> u8
+    ensures { result ≤ 2 }
+{
+    let (old, new) = match two_bytes(rt, matches, names, "entries", writers.reports) {
+        Ok(lists) => lists,
+        Err(status) => return status,
+    };
+    let (alloc, grammar) = (rt.alloc(), flags_of(matches).grammar());
+    let (out, faults) = (&mut writers.answer, &mut writers.faults);
+    let before = table_or_report(alloc, old.as_slice(), grammar, names[0], faults);
+    let after = table_or_report(alloc, new.as_slice(), grammar, names[1], faults);
+    match (before, after) {
+        (Some(before), Some(after)) => {
+            let command = TextChangesCommand {
+                alloc,
+                before,
+                after,
+            };
+            run_text(command, names, out, faults)
+        }
+        _ => 2,
+    }
+}
+
 /// Reads the arguments and the lists, prints the changes, and returns the exit status.
 #[inline(never)]
 pub fn print_changes(rt: &HostRuntime, matches: &ArgMatches, writers: &mut Writers<'_>) -> u8
@@ -62,6 +99,9 @@ pub fn print_changes(rt: &HostRuntime, matches: &ArgMatches, writers: &mut Write
         Ok(names) => names.in_order(),
         Err(status) => return status,
     };
+    if has_text_flag(matches) {
+        return print_text_changes(rt, matches, &names, writers);
+    }
     match read_pair(rt, matches, &names, writers) {
         Ok((before, after)) => {
             let command = ChangesCommand {

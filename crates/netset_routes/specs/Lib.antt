@@ -3,3 +3,5 @@ pub mod Shortening
 pub mod AllRoutes
 pub mod AllRouteSteps
 pub mod Redundant
+pub mod TextChanges
+pub mod TextChangeSteps

@@ -5,7 +5,9 @@ mod all_routes;
 pub mod laws;
 mod redundant;
 mod shorten;
+mod text_changes;
 
 pub use all_routes::{AllRoutesCommand, plain_table_or_report};
 pub use redundant::RedundantRoutesCommand;
 pub use shorten::{ShortenCommand, ShortenRequest};
+pub use text_changes::TextChangesCommand;
