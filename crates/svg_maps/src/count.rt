@@ -1,13 +1,8 @@
-//! Counts of addresses as readers like them: with commas, large ones in networks of length 64, and shares in per cent.
-ghost use Rattle.std.specs.Prelude.{◌≡◌, ◌++◌, ◌≤◌, OnOk, codes, string_bytes};
-ghost use Rattle.ipnet.specs.NetworkOf.{ip_network};
-ghost use Rattle.ipnet_bars.specs.MarkTexts.{percent_text};
-ghost use Rattle.ipnet_bars.specs.Parts.{counted, block_size};
-ghost use Rattle.ipnet_bars.specs.Shares.{tenths};
+//! Counts of addresses as readers like them: with commas, and large ones in networks of length 64.
+ghost use Rattle.std.specs.Prelude.{◌≡◌, ◌++◌, OnOk, codes, string_bytes};
+ghost use Rattle.ipnet_bars.specs.Parts.{counted};
 ghost use Rattle.svg_maps.specs.Counts.{three_digits, grouped, number_text, quantity_text};
 
-use ipnet::IpNet;
-use ipnet_bars::share_of;
 use std::alloc::AllocError;
 
 /// How many addresses a network of length 64 has.
@@ -90,20 +85,4 @@ pub(crate) fn push_quantity(text: &mut String, count: Option<u128>) -> Result<()
             Ok(())
         }
     }
-}
-
-/// Appends the share of the network that the count is, in per cent.
-pub(crate) fn push_share(
-    text: &mut String,
-    count: Option<u128>,
-    network: &IpNet,
-) -> Result<(), AllocError>
-    requires { counted count ≤ block_size (ip_network network.now) }
-    ensures { OnOk result (string_bytes text.new
-        ≡ string_bytes text.old ++ percent_text (tenths (counted count) (block_size (ip_network network.now)))) }
-{
-    let share = share_of(count, network);
-    let whole = share / 10;
-    let rest = share % 10;
-    write!(text, "{whole}.{rest} %")
 }
