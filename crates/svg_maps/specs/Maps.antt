@@ -21,7 +21,7 @@ use Rattle.svg_maps.specs.Squares.{AreSquaresOf, IsTitle}
 -- The text is the document of a page that shows the drawing in this frame. The page has a path for each layer, whose
 -- rectangles are the layer's, and all squares, whose titles say how many addresses each set has in them. A cell has as
 -- many pixels as its share of the width of the map allows, and the whole map is on the page. The legend has a row for
--- each class with cells, in its words, and the foot has the note.
+-- each class with cells, in its words, and one for rings if there are any; and the foot has the note.
 -- Example: for 10.20.0.0/16 with 16 bits, the map is 256 cells wide and high, and a cell has 4 pixels.
 pub record IsMapText (frame : Network) (counted : List Counted) (d : Drawing) (names : List (List ℕ)) (note : List ℕ)
     (text : List ℕ) : Type 0 where
@@ -31,7 +31,7 @@ pub record IsMapText (frame : Network) (counted : List Counted) (d : Drawing) (n
   pub height : view.sides.height ≡ 2 ^ rows_in (square_cuts frame.prefix_len d.depth)
   pub scale : view.scale ≡ cell_pixels view.sides.width
   pub fits : FitsPage view.chart_place view.scale view.sides.width view.sides.height view.area
-  pub legend : map row_of view.swatches ≡ legend_rows names d.layers.items
+  pub legend : map row_of view.swatches ≡ legend_rows names d.layers.items view.rings
   pub foot : HasLine note view.captions
   pub squares : AreSquaresOf frame d.depth counted view.squares
   pub summary : IsTitle frame counted view.summary

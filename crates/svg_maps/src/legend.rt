@@ -1,8 +1,10 @@
-//! The legend: what the colour of each class says of a dot.
-ghost use Rattle.std.specs.Prelude.{◌≡◌, ◌++◌, IfOk, map, slice_get, string_bytes};
-ghost use Rattle.svg_maps.specs.Legends.{list_name, class_words, row_of, legend_rows};
+//! The legend: what the colour of each class says of a dot, and what a ring means.
+ghost use Rattle.std.specs.Prelude.{◌≡◌, ◌++◌, IfOk, OnOk, map, slice_get, string_bytes};
+ghost use Rattle.svg_maps.specs.Legends.{list_name, class_words, row_of, class_rows, ring_rows, legend_rows};
 
-use crate::label::{Anchor, Ink, Label, Swatch};
+use crate::label::{Anchor, Ink, Label, Sign, Swatch};
+use crate::ring::Ring;
+use crate::sheet::row_after;
 use ipnet_maps::{Class, Layer, Place};
 use std::alloc::{AllocError, Global};
 
@@ -61,9 +63,20 @@ fn class_words(alloc: Global, class: Class, names: &[&str]) -> Result<String, Al
     String::from_str(alloc, words)
 }
 
-/// The row of the legend for the class, at this height.
-fn swatch_of(class: Class, words: String, row: u32) -> Swatch
-    ensures { row_of result ≡ (class, string_bytes words) }
+/// The place of the sign of a row at this height: of a rectangle, or of the middle of a ring.
+fn sign_place(sign: Sign, row: u32) -> Place {
+    match sign {
+        Sign::Area(_) => Place { column: EDGE, row },
+        Sign::Ring(_) => Place {
+            column: EDGE + 7,
+            row: row.saturating_add(5),
+        },
+    }
+}
+
+/// The row of the legend with this sign, at this height.
+fn swatch_of(sign: Sign, words: String, row: u32) -> Swatch
+    ensures { row_of result ≡ (sign, string_bytes words) }
 {
     let label = Label {
         ink: Ink::Plain,
@@ -74,33 +87,63 @@ fn swatch_of(class: Class, words: String, row: u32) -> Swatch
         },
         words,
     };
-    let place = Place { column: EDGE, row };
-    Swatch {
-        class,
-        place,
-        label,
-    }
+    let place = sign_place(sign, row);
+    Swatch { sign, place, label }
 }
 
-/// Returns the rows of the legend, one below the other from this height: one for each layer that has cells. Fails only
-/// if memory runs out.
-pub(crate) fn legend_of(
+/// The rows of the legend for classes, one below the other from this height: one for each layer that has cells.
+fn class_rows(
     alloc: Global,
     layers: &[Layer],
     names: &[&str],
     first_row: u32,
 ) -> Result<Vec<Swatch>, AllocError>
     ensures { IfOk result (λ swatches.
-        map row_of swatches.items ≡ legend_rows (map (λ n. n.now) names.now) layers.now) }
+        map row_of swatches.items ≡ class_rows (map (λ n. n.now) names.now) layers.now) }
 {
     let mut swatches = Vec::new(alloc);
     let mut row = first_row;
     for layer in layers {
         if !layer.rectangles.is_empty() {
             let words = class_words(alloc, layer.class, names)?;
-            swatches.push(swatch_of(layer.class, words, row))?;
+            swatches.push(swatch_of(Sign::Area(layer.class), words, row))?;
             row = row.saturating_add(LINE);
         }
     }
+    Ok(swatches)
+}
+
+/// Appends the row that says what a ring means, at this height, if there is a ring.
+fn push_ring_row(
+    alloc: Global,
+    swatches: &mut Vec<Swatch>,
+    rings: &[Ring],
+    row: u32,
+) -> Result<(), AllocError>
+    ensures { OnOk result (map row_of swatches.new.items ≡ map row_of swatches.old.items ++ ring_rows rings.now) }
+{
+    let Some(ring) = rings.first() else {
+        return Ok(());
+    };
+    let words = String::from_str(alloc, "ring: a dot inside is too small to see")?;
+    swatches.push(swatch_of(Sign::Ring(ring.class), words, row))?;
+    Ok(())
+}
+
+/// Returns the rows of the legend, one below the other from this height: one for each layer that has cells, and then
+/// one for the rings, if there are any. Fails only if memory runs out.
+pub(crate) fn legend_of(
+    alloc: Global,
+    layers: &[Layer],
+    rings: &[Ring],
+    names: &[&str],
+    first_row: u32,
+) -> Result<Vec<Swatch>, AllocError>
+    ensures { IfOk result (λ swatches.
+        map row_of swatches.items ≡ legend_rows (map (λ n. n.now) names.now) layers.now rings.now) }
+{
+    let mut swatches = class_rows(alloc, layers, names, first_row)?;
+    let row = row_after(first_row, swatches.len());
+    push_ring_row(alloc, &mut swatches, rings, row)?;
     Ok(swatches)
 }

@@ -35,7 +35,7 @@ pub(crate) mod whole;
 pub use chart::{Chart, Square};
 pub use entry::{MapEntries, MapEntry};
 pub use form::MapForm;
-pub use label::{Anchor, Ink, Label, Swatch};
+pub use label::{Anchor, Ink, Label, Sign, Swatch};
 pub use map::map_text;
 pub use outline::{Outline, OutlineClass};
 pub use overlay::{Look, Overlay};
