@@ -38,7 +38,6 @@ SHARES = ("sparse", "below a quarter", "from a quarter", "all")
 WORDS_OF = {
     "s1": "less than one of 256 addresses of a dot is in the list", "s2": "less than a quarter of a dot is in the list",
     "s3": "a quarter of a dot or more is in the list, but not all", "s4": "all of a dot is in the list",
-    "old": "removed: addresses that only the first list has", "new": "added: addresses that only the second list has",
     "mix": "both: some addresses of a dot are removed, and others are added",
     "bothp": "no change: a part of a dot is in both lists", "both": "no change: all of a dot is in both lists",
     "ov": "two lists or more have the same address",
@@ -94,6 +93,8 @@ def words_of(name, lists):
     """The words of the legend for this class, of lists with these names."""
     if name in WORDS_OF:
         return WORDS_OF[name]
+    if name in ("old", "new"):
+        return "removed: only in " + lists[0] if name == "old" else "added: only in " + lists[1]
     start = "a part of a dot is in " if name.endswith(" pale") else "all of a dot is in "
     return start + lists[int(name.split()[0][1:])]
 

@@ -1,6 +1,6 @@
 -- Legends and feet: what the rows of a legend say, and which line a foot has.
 use Rattle.std.specs.Prelude.{◌≡◌, ◌⊎◌, ℕ, zero, suc, ◌==◌, Bool, not, List, [], ◌∷◌, ◌++◌, map, filter, length}
-use Rattle.std.specs.Prelude.{Option, Some, None, Contains, codes, decimal, slice_get, string_bytes}
+use Rattle.std.specs.Prelude.{Option, Some, None, Contains, codes, decimal, slice_get, string_bytes, unwrap_or}
 use Rattle.ipnet_base.specs.Address.{IPv4, IPv6, Address}
 use Rattle.ipnet_base.specs.Network.{Network}
 use Rattle.ipnet_bars.specs.Outsides.{IsOutsideOf}
@@ -21,14 +21,15 @@ list_name place None = codes "list " ++ decimal place
 list_name place (Some name) = name
 
 -- The words of the legend for the colour of a class, for lists with these names.
--- Example: `all of a dot is in the list`, and for a colour of several lists `all of a dot is in office.txt`.
+-- Example: `all of a dot is in the list`, and for a colour of several lists `all of a dot is in office.txt`. In a map
+-- of a change it is `removed: only in old.txt`, or `removed: only in the first list` if this has no name.
 abbrev pub class_words : (names : List (List ℕ)) → Class → List ℕ
 class_words names Classes.Sparse = codes "less than one of 256 addresses of a dot is in the list"
 class_words names Classes.BelowQuarter = codes "less than a quarter of a dot is in the list"
 class_words names Classes.FromQuarter = codes "a quarter of a dot or more is in the list, but not all"
 class_words names Classes.Whole = codes "all of a dot is in the list"
-class_words names Classes.Removed = codes "removed: addresses that only the first list has"
-class_words names Classes.Added = codes "added: addresses that only the second list has"
+class_words names Classes.Removed = codes "removed: only in " ++ unwrap_or (slice_get names 0) (codes "the first list")
+class_words names Classes.Added = codes "added: only in " ++ unwrap_or (slice_get names 1) (codes "the second list")
 class_words names Classes.Mixed = codes "both: some addresses of a dot are removed, and others are added"
 class_words names Classes.KeptPart = codes "no change: a part of a dot is in both lists"
 class_words names Classes.KeptWhole = codes "no change: all of a dot is in both lists"

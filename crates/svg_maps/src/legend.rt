@@ -1,5 +1,5 @@
 //! The legend: what the colour of each class says of a dot, and what a ring means.
-ghost use Rattle.std.specs.Prelude.{◌≡◌, ◌++◌, IfOk, OnOk, map, slice_get, string_bytes};
+ghost use Rattle.std.specs.Prelude.{◌≡◌, ◌++◌, IfOk, OnOk, map, slice_get, string_bytes, unwrap_or};
 ghost use Rattle.svg_maps.specs.Legends.{list_name, class_words, row_of, class_rows, ring_rows, legend_rows};
 
 use crate::label::{Anchor, Ink, Label, Sign, Swatch};
@@ -10,6 +10,12 @@ use std::alloc::{AllocError, Global};
 
 /// The left edge of the captions and of the legend, in pixels.
 pub(crate) const EDGE: u32 = 16;
+
+/// What the first of two compared lists is called if it has no name.
+const FIRST: &str = "the first list";
+
+/// What the second of two compared lists is called if it has no name.
+const SECOND: &str = "the second list";
 
 /// The height of a line, in pixels.
 pub(crate) const LINE: u32 = 18;
@@ -25,6 +31,26 @@ fn name_at(alloc: Global, names: &[&str], place: usize) -> Result<String, AllocE
     }
 }
 
+/// The name of the list at this place, or the other one if it has no name.
+#[tactic(auto, using(crate::proofs::LegendLaws::named_at))]
+fn name_or<'a>(names: &[&'a str], place: usize, other: &'a str) -> &'a str
+    ensures { result.now ≡ unwrap_or (slice_get (map (λ n. n.now) names.now) place) other.now }
+{
+    match names.get(place) {
+        Some(name) => *name,
+        None => other,
+    }
+}
+
+/// The words, and after them the name.
+fn words_before(alloc: Global, words: &str, name: &str) -> Result<String, AllocError>
+    ensures { IfOk result (λ text. string_bytes text ≡ words.now ++ name.now) }
+{
+    let mut text = String::from_str(alloc, words)?;
+    text.push_str(name)?;
+    Ok(text)
+}
+
 /// The words, and after them what the list at this place is called.
 fn words_of_list(
     alloc: Global,
@@ -36,9 +62,21 @@ fn words_of_list(
         ≡ words.now ++ list_name place (slice_get (map (λ n. n.now) names.now) place)) }
 {
     let name = name_at(alloc, names, place)?;
-    let mut text = String::from_str(alloc, words)?;
-    text.push_str(name.as_str())?;
-    Ok(text)
+    words_before(alloc, words, name.as_str())
+}
+
+/// The words, and after them the name of the list at this place, or the other one if it has no name.
+fn words_of_either(
+    alloc: Global,
+    words: &str,
+    names: &[&str],
+    place: usize,
+    other: &str,
+) -> Result<String, AllocError>
+    ensures { IfOk result (λ text. string_bytes text
+        ≡ words.now ++ unwrap_or (slice_get (map (λ n. n.now) names.now) place) other.now) }
+{
+    words_before(alloc, words, name_or(names, place, other))
 }
 
 /// The words of the legend for the colour of the class, for lists with these names.
@@ -50,13 +88,13 @@ fn class_words(alloc: Global, class: Class, names: &[&str]) -> Result<String, Al
         Class::BelowQuarter => "less than a quarter of a dot is in the list",
         Class::FromQuarter => "a quarter of a dot or more is in the list, but not all",
         Class::Whole => "all of a dot is in the list",
-        Class::Removed => "removed: addresses that only the first list has",
-        Class::Added => "added: addresses that only the second list has",
         Class::Mixed => "both: some addresses of a dot are removed, and others are added",
         Class::KeptPart => "no change: a part of a dot is in both lists",
         Class::KeptWhole => "no change: all of a dot is in both lists",
         Class::Overlap => "two lists or more have the same address",
         Class::Several => "two lists or more have addresses of a dot, and none in common",
+        Class::Removed => return words_of_either(alloc, "removed: only in ", names, 0, FIRST),
+        Class::Added => return words_of_either(alloc, "added: only in ", names, 1, SECOND),
         Class::PartOf(place) => return words_of_list(alloc, "a part of a dot is in ", names, place),
         Class::WholeOf(place) => return words_of_list(alloc, "all of a dot is in ", names, place),
     };

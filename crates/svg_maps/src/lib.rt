@@ -41,6 +41,6 @@ pub use outline::{Outline, OutlineClass};
 pub use overlay::{Look, Overlay};
 pub use page::{Page, page_text};
 pub use ring::Ring;
-pub use shown::{change_map_text, set_map_text, sets_map_text};
+pub use shown::{NamedChange, change_map_text, named_change_map_text, set_map_text, sets_map_text};
 pub use square::Counted;
 pub use style::{MOST_LISTS, Theme, style_of};
