@@ -83,7 +83,8 @@ rest_formed v =
     let heads = joined (nodes_of label_nodes v.heads) swatches in
     joined_formed (nodes_of label_nodes v.captions) heads (all_formed label_nodes (λ l. refl) v.captions)
     (joined_formed (nodes_of label_nodes v.heads) swatches (all_formed label_nodes (λ l. refl) v.heads)
-    (joined_formed (nodes_of swatch_nodes v.swatches) placed (all_formed swatch_nodes (λ s. row_formed s.sign s.place s.label) v.swatches)
+    (joined_formed (nodes_of swatch_nodes v.swatches) placed
+    (all_formed swatch_nodes (λ s. row_formed s.sign s.place s.label) v.swatches)
     (placed_formed v)))
 
 pub page_formed : (v : PageView) → are_well_formed (page_nodes v) ≡ true

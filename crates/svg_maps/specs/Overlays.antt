@@ -55,7 +55,8 @@ IsOutlinedSetMap look set frame text = (m : IsSetMap set frame text)
 
 -- The text is a map of the change between two sets, which have these names, with this look. A block is free if neither
 -- set has an address of it.
-abbrev pub IsOutlinedNamedChangeMap : Look → (before after : IpSet) → (names : List (List ℕ)) → Network → List ℕ → Type 0
+abbrev pub IsOutlinedNamedChangeMap : Look → (before after : IpSet) → (names : List (List ℕ)) → Network → List ℕ
+    → Type 0
 IsOutlinedNamedChangeMap look before after names frame text = (m : IsNamedChangeMap before after names frame text)
     × HasLook look m.counted (IsInEither (IsMember before) (IsMember after)) frame m.drawing.depth m.page.view
 

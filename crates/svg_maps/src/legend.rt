@@ -11,10 +11,10 @@ use std::alloc::{AllocError, Global};
 /// The left edge of the captions and of the legend, in pixels.
 pub(crate) const EDGE: u32 = 16;
 
-/// What the first of two compared lists is called if it has no name.
+/// The first of two compared lists in the legend, if it has no name.
 const FIRST: &str = "the first list";
 
-/// What the second of two compared lists is called if it has no name.
+/// The second of two compared lists in the legend, if it has no name.
 const SECOND: &str = "the second list";
 
 /// The height of a line, in pixels.

@@ -18,7 +18,8 @@ returns c =
     let names = map (λ name. name.now) c.args.change.names.now in
     let outlines = c.in_ok-overlay.overlay.outlines.items in
     let note = c.as_str-2.result.now in
-    IfOk-weaker c.map_text.result (λ text. IsOutlinedMap n _ d names note c.as_str.result.now outlines (string_bytes text))
+    IfOk-weaker c.map_text.result
+    (λ text. IsOutlinedMap n _ d names note c.as_str.result.now outlines (string_bytes text))
     (λ text. IsOutlinedNamedChangeMap look before after names n (string_bytes text)) (λ text m. (
       record {
         drawing = d;
