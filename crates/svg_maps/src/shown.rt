@@ -133,11 +133,10 @@ pub fn change_map_text(
     ensures { IfOk result (λ text.
         IsOutlinedChangeMap look.entry before.now after.now (ip_network frame.now) (string_bytes text)) }
 {
-    let names = &[];
     let change = NamedChange {
         before,
         after,
-        names,
+        names: &[],
     };
     named_change_map_text(alloc, frame, change, look)
 }
