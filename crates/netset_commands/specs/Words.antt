@@ -16,7 +16,7 @@ use Rattle.netset_lib.specs.Commands.{grammar_of}
 use Rattle.ipnet_lists.specs.Names.{Names}
 use Rattle.netset_lib.specs.NetworkEntries.{IsArgumentCause}
 use Rattle.netset_lib.specs.PlanAnswers.{IsLengthText}
-use Rattle.netset_lib.specs.declared.command.Flags.{Flags}
+use Rattle.netset_lib.specs.declared.flags.Flags.{Flags}
 use Rattle.netset_lib.specs.declared.network_entry.ArgumentCause.{ArgumentCause}
 use Rattle.ipnet_origins.specs.declared.origins.Validity.{Validity}
 use Rattle.netset_origins.specs.OriginAnswers.{validity_word}
