@@ -6,7 +6,6 @@ pub mod CommandLines
 pub mod EntryOptions
 pub mod FitOptions
 pub mod MapTitles
-pub mod Comments
 pub mod Words
 pub mod InfoWords
 pub mod FindOptions

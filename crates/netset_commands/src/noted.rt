@@ -1,10 +1,11 @@
 //! The lists of a map: a reader that notes the largest entries of each list.
-ghost use Rattle.std.specs.Prelude.{◌≡◌, ◌≤◌, ◌↔◌, ◌<◌, ◌++◌, codes, length, string_bytes, IsTrue, IfOk, OnOk};
-ghost use Rattle.netset_commands.specs.Comments.{IsAfterColon, IsComment, ends_in_colon};
-ghost use Rattle.netset_commands.specs.MapTitles.{listed_title, longer_title, longer_count, is_v4, AreFew, AreFirst};
+ghost use Rattle.std.specs.Prelude.{◌≡◌, ◌≤◌, ◌↔◌, ◌<◌, length, string_bytes, IsTrue, IfOk, OnOk};
+ghost use Rattle.netset_commands.specs.MapTitles.{after_colon, entry_title, listed_title, longer_title};
+ghost use Rattle.netset_commands.specs.MapTitles.{longer_count, is_v4, AreFew, AreFirst, IsEntryFor};
 ghost use Rattle.netset_commands.specs.MapTitles.{each_once, ends_with, networks_of};
 
 use ipnet::{Grammar, IpNet};
+use ipnet_bars::MOST_ENTRIES;
 use ipnet_lists::ReadFailure;
 use ipnet_sets::IpSet;
 use netset_entries::{EntryNotes, NotedEntry};
@@ -20,9 +21,6 @@ const MOST_BYTES: usize = 300;
 
 /// All titles together have fewer bytes of such texts before one more is added.
 const MOST_ADDED: usize = 50_000;
-
-/// How many entries of each family a map has at most.
-const MOST: usize = 1_500;
 
 /// A reader of lists, and the largest entries of each list.
 #[derive(Drop)]
@@ -115,17 +113,27 @@ pub struct TitledEntries {
     pub count: usize,
 }
 
-/// The text of an entry after the name of its list.
-fn title_after(alloc: Global, name: &str, title: &str) -> Result<String, AllocError>
-    ensures { IfOk result (λ text. string_bytes text ≡ name.now ++ codes ": " ++ title.now) }
+/// The second text after the first and a colon.
+fn after_colon(alloc: Global, first: &str, second: &str) -> Result<String, AllocError>
+    ensures { IfOk result (λ text. string_bytes text ≡ after_colon first.now second.now) }
 {
-    let mut text = String::from_str(alloc, name)?;
+    let mut text = String::from_str(alloc, first)?;
     text.push_str(": ")?;
-    text.push_str(title)?;
+    text.push_str(second)?;
     Ok(text)
 }
 
-/// The text of an entry of the list at this place; after the name of the list, if there are several.
+/// The title of an entry: its text, and its comment after a colon if there is one.
+fn entry_title(alloc: Global, text: String, comment: &str) -> Result<String, AllocError>
+    ensures { IfOk result (λ title. string_bytes title ≡ entry_title (string_bytes text) comment.now) }
+{
+    if comment.is_empty() {
+        return Ok(text);
+    }
+    after_colon(alloc, text.as_str(), comment)
+}
+
+/// The title of an entry of the list at this place; after the name of the list, if there are several.
 fn listed_title(
     alloc: Global,
     names: &[&str],
@@ -138,45 +146,32 @@ fn listed_title(
         return Ok(title);
     }
     match names.get(place) {
-        Some(name) => title_after(alloc, name, title.as_str()),
+        Some(name) => after_colon(alloc, name, title.as_str()),
         None => Ok(title),
     }
 }
 
-/// Whether the text ends with one colon.
-#[tactic(auto, using(crate::proofs::CommentLaws::after_one, crate::proofs::CommentLaws::after_none))]
-fn ends_in_colon(text: &str) -> bool
-    ensures { result ≡ ends_in_colon text.now }
+/// The entry of a map for the entry of the list at this place.
+fn entry_for(
+    alloc: Global,
+    names: &[&str],
+    place: usize,
+    noted: NotedEntry,
+) -> Result<MapEntry, AllocError>
+    ensures { IfOk result (IsEntryFor names.now place noted) }
 {
-    text.ends_with(":") && !text.ends_with("::")
-}
-
-/// The text after the first colon that a blank follows; empty if there is none.
-fn after_colon(text: &str) -> &str
-    ensures { IsAfterColon text.now result.now }
-{
-    match text.split_once(": ") {
-        Some((_, rest)) => rest,
-        None => "",
-    }
-}
-
-/// The comment in the title of an entry, which is its text, or its text and its comment with a colon between them.
-//
-// A range of IPv6 may have a colon before a blank too, as in `2001:db8:: - 2001:db8::9`. The front is then `2001:db8:`.
-fn comment_in(title: &str) -> &str
-    ensures { IsComment title.now result.now }
-{
-    match title.split_once(": ") {
-        Some((front, rest)) => {
-            if ends_in_colon(front) {
-                after_colon(rest)
-            } else {
-                rest
-            }
-        }
-        None => "",
-    }
+    let NotedEntry {
+        network,
+        text,
+        comment,
+    } = noted;
+    let title = entry_title(alloc, text, comment.as_str())?;
+    let title = listed_title(alloc, names, place, title)?;
+    Ok(MapEntry {
+        network,
+        title,
+        comment,
+    })
 }
 
 /// The entries of all the lists, the largest first, and entries of one network one after the other. `names` are the
@@ -190,14 +185,7 @@ fn all_entries(
     let mut place: usize = 0;
     for notes in lists {
         for noted in notes.into_entries()? {
-            let NotedEntry { network, title } = noted;
-            let comment = String::from_str(alloc, comment_in(title.as_str()))?;
-            let title = listed_title(alloc, names, place, title)?;
-            entries.push(MapEntry {
-                network,
-                title,
-                comment,
-            })?;
+            entries.push(entry_for(alloc, names, place, noted)?)?;
         }
         place = place.saturating_add(1);
     }
@@ -277,11 +265,11 @@ fn first_entries(alloc: Global, entries: Vec<MapEntry>) -> Result<Vec<MapEntry>,
     let mut ipv6: usize = 0;
     for entry in entries {
         if is_ipv4(&entry.network) {
-            if ipv4 < MOST {
+            if ipv4 < MOST_ENTRIES {
                 ipv4 += 1;
                 first.push(entry)?;
             }
-        } else if ipv6 < MOST {
+        } else if ipv6 < MOST_ENTRIES {
             ipv6 += 1;
             first.push(entry)?;
         }
