@@ -34,8 +34,6 @@ loop-network-init c =
     let line = c.args.line.now in
     let text = c.in-Some.found.text.now in
     let range = entry_range c.in-Some.found.entry in
-    let comment = c.comment_of.result.now in
-    let shown = string_bytes c.in_ok-comment.comment in
     let same = sym c.in-Some.ensures.spelled in
     let contents = subst (IsContents line) same c.contents_of-text.ensures in
     let writes = subst (λ z. IsEntryText old.grammar z range) same c.in-Some.ensures.reads.some in
@@ -47,11 +45,11 @@ loop-network-init c =
         range = range;
         writes = writes;
         block = (are.members n).0 m;
-        comment = comment;
+        comment = c.comment_of.result.now;
         has_comment = c.comment_of.ensures;
         shown = c.in_ok-comment.ensures;
       };
-      one = titled_as old.grammar line text contents comment shown c.comment_of.ensures c.in_ok-comment.ensures;
+      one = titled_as old.grammar line text contents _ _ c.comment_of.ensures c.in_ok-comment.ensures;
       reads = part_none old line _ (titled_in old.grammar line text contents range _ writes are);
     }
 
