@@ -1,15 +1,33 @@
 -- The flags of a command line, the names of its lists, and the operation that it asks for.
-use Rattle.std.specs.Prelude.{◌≡◌, ◌<◌, ◌++◌, length, map, codes}
+use Rattle.std.specs.Prelude.{◌≡◌, ◌<◌, ◌++◌, ℕ, List, length, map, codes}
+use Rattle.std.specs.Global.{Vec}
 use Rattle.clap.specs.declared.parser.matches.ArgMatches.{ArgMatches}
 use Rattle.ipnet_lists.specs.Names.{Names}
+use Rattle.ipnet_sets.specs.declared.set.IpSet.{IpSet}
 use Rattle.netset_commands.specs.Arguments.{AreListNames, IsFlag, IsLastName, entries_of, input_count, list_name}
 use Rattle.netset_commands.specs.Arguments.{values_of}
 use Rattle.netset_commands.specs.declared.arguments.ArgumentFailure.{ArgumentFailure}
 use Rattle.netset_commands.specs.declared.arguments.ArgumentFailure.TheVariants.{InputTwice, ControlCharacter}
 use Rattle.netset_commands.specs.declared.arguments.ArgumentFailure.TheVariants.{NoCommand, LineBreak, Memory}
 use Rattle.netset_commands.specs.declared.named_lists.TwoNames.{TwoNames}
+use Rattle.netset_commands.specs.declared.commands.ListOperation.{ListOperation}
+use Rattle.netset_commands.specs.declared.commands.ListOperation.TheVariants.{Union, Intersection, Difference}
 use Rattle.netset_files.specs.Files.{standard_input}
 use Rattle.netset_lib.specs.declared.flags.Flags.{Flags}
+use Rattle.netset_lib.specs.declared.operation.Combination.{Combination}
+use Rattle.netset_lib.specs.declared.operation.Combination.TheVariants as Combinations
+
+-- The name of the command of the operation.
+abbrev pub operation_name : ListOperation → List ℕ
+operation_name Union = codes "union"
+operation_name Intersection = codes "intersection"
+operation_name Difference = codes "difference"
+
+-- The operation on these sets.
+abbrev pub combination_of : ListOperation → Vec IpSet → Combination
+combination_of Union sets = Combinations.Union sets
+combination_of Intersection sets = Combinations.Intersection sets
+combination_of Difference sets = Combinations.Difference sets
 
 -- These are the flags of the command line.
 pub record AreFlags (matches : ArgMatches) (flags : Flags) : Type 0 where

@@ -1,10 +1,12 @@
 //! The commands of the program, in the order in which help lists them.
-ghost use Rattle.std.specs.Prelude.{◌≡◌, ◌++◌, IfOk};
+ghost use Rattle.std.specs.Prelude.{◌≡◌, ◌↔◌, ◌++◌, Some, IfOk};
 ghost use Rattle.clap.specs.Built.{IsParsedFrom};
 ghost use Rattle.clap.specs.declared.builder.command.Command.{Command};
+ghost use Rattle.netset_commands.specs.Calls.{operation_name};
 ghost use Rattle.netset_commands.specs.CommandLines.{all_commands, command_names, count_names, entry_names};
 ghost use Rattle.netset_commands.specs.CommandLines.{limit_names, list_commands, names_in, operation_names};
 ghost use Rattle.netset_commands.specs.CommandLines.{rule_names, search_names, space_names};
+ghost use Rattle.netset_commands.specs.declared.commands.ListOperation.{ListOperation};
 
 use crate::apply::APPLY_COMMAND;
 use crate::arguments::{
@@ -54,6 +56,33 @@ pub const COMPARE: &str = "compare";
 pub const FILTER: &str = "filter";
 
 pub const ROUTE: &str = "route";
+
+/// An operation on any number of lists.
+#[derive(Clone, Copy)]
+pub enum ListOperation {
+    /// `union`
+    Union,
+    /// `intersection`
+    Intersection,
+    /// `difference`
+    Difference,
+}
+
+/// Returns the operation of the command of this name, or `None` if the command is another.
+///
+/// ```text
+/// "union": Union; "count": None
+/// ```
+pub fn operation_of(name: &str) -> Option<ListOperation>
+    ensures { (operation : ListOperation) → (result ≡ Some operation) ↔ (name.now ≡ operation_name operation) }
+{
+    match name {
+        UNION => Some(ListOperation::Union),
+        INTERSECTION => Some(ListOperation::Intersection),
+        DIFFERENCE => Some(ListOperation::Difference),
+        _ => None,
+    }
+}
 
 /// The name of the flag by which the answers are written while the list is read.
 pub const STREAM: &str = "stream";

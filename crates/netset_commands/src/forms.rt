@@ -8,7 +8,7 @@ ghost use Rattle.netset_forms.specs.declared.options.FormOptions.{FormOptions};
 use crate::arguments::{RANGES_FLAG, is_set};
 use crate::table::{ARGUMENT, Argument, Form};
 use clap::ArgMatches;
-use netset_forms::{FormOptions, FormRequest, SetNames};
+use netset_forms::{FORM_NAMES, FormOptions, FormRequest, SetNames};
 use std::io::Write;
 
 /// The ids and the names of the options.
@@ -39,17 +39,12 @@ const MAXELEM: &str = "maxelem";
 /// The id and the name of the flag for the status of an answer without an address.
 const STATUS: &str = "status";
 
-/// The values of `--format`.
-const FORMATS: &[&str] = &[
-    "plain", "ranges", "json", "csv", "nft", "ipset", "frr", "bird", "iptables",
-];
-
 /// The arguments for the form of an answer that is a set.
 pub const ANSWER_FORM: &[Argument] = &[
     RANGES_FLAG,
     Argument {
         id: FORMAT,
-        form: Form::Choice(FORMAT, "FORM", FORMATS),
+        form: Form::Choice(FORMAT, "FORM", FORM_NAMES),
         help: "How the answer is written; ranges is --ranges",
         conflicts: &[RANGES],
         ..ARGUMENT

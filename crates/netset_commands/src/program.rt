@@ -1,11 +1,10 @@
 //! A run of the program: its arguments, its output and its command.
 ghost use Rattle.std.specs.Prelude.{◌≡◌, ◌≤◌, ◌⊎◌, true, codes, IfErr};
 ghost use Rattle.netset_commands.specs.Arguments.{IsFlag};
-ghost use Rattle.netset_commands.specs.Calls.{AreFlags};
+ghost use Rattle.netset_commands.specs.Calls.{AreFlags, combination_of};
 ghost use Rattle.netset_files.specs.Statuses.{IsExitStatus, IsUsualStatus};
 ghost use Rattle.netset_lib.specs.Commands.{side_of};
 ghost use Rattle.netset_lib.specs.declared.flags.Flags.{Flags};
-ghost use Rattle.netset_lib.specs.declared.operation.Combination.TheVariants.{Union, Intersection, Difference};
 ghost use Rattle.netset_lib.specs.declared.query.Query.TheVariants.{Filter};
 
 use crate::apply::APPLY;
@@ -27,14 +26,13 @@ use crate::changes::print_changes;
 use crate::commands::COMPARE;
 use crate::commands::COMPLEMENT;
 use crate::commands::COUNT;
-use crate::commands::DIFFERENCE;
 use crate::commands::FILTER;
-use crate::commands::INTERSECTION;
+use crate::commands::ListOperation;
 use crate::commands::ROUTE;
 use crate::commands::STREAM;
 use crate::commands::SYMMETRIC_DIFFERENCE;
-use crate::commands::UNION;
 use crate::commands::matches_of;
+use crate::commands::operation_of;
 use crate::entries::OVERLAPS;
 use crate::entries::REDUNDANT;
 use crate::entries::SUPERNET;
@@ -193,8 +191,10 @@ fn open_and_run(rt: &HostRuntime, name: &str, matches: &ArgMatches) -> u8
 fn run_command(rt: &HostRuntime, name: &str, matches: &ArgMatches, writers: &mut Writers<'_>) -> u8
     ensures { result ≤ 2 }
 {
+    if let Some(operation) = operation_of(name) {
+        return combine_lists(rt, operation, matches, writers);
+    }
     match name {
-        UNION | INTERSECTION | DIFFERENCE => combine_lists(rt, name, matches, writers),
         SYMMETRIC_DIFFERENCE => print_symmetric_difference(rt, matches, writers),
         COMPLEMENT => print_complement(rt, matches, writers),
         COUNT if has_lengths_flag(matches) => print_lengths(rt, matches, writers),
@@ -258,11 +258,11 @@ fn run_route(rt: &HostRuntime, matches: &ArgMatches, writers: &mut Writers<'_>) 
     }
 }
 
-/// Prints what an operation on any number of lists makes of them, and returns the status. The name is the command's.
+/// Prints what the operation makes of the lists, and returns the status.
 #[inline(never)]
 fn combine_lists(
     rt: &HostRuntime,
-    name: &str,
+    operation: ListOperation,
     matches: &ArgMatches,
     writers: &mut Writers<'_>,
 ) -> u8
@@ -281,26 +281,24 @@ fn combine_lists(
         Ok(sets) => {
             let command = FormCommand {
                 alloc: rt.alloc(),
-                combination: combination_of(name, sets),
+                combination: combination_of(operation, sets),
                 form,
                 needs_address: needs_address(matches),
             };
-            print_set(command, names, writers)
+            netset_lib::run(command, names, &mut writers.answer, &mut writers.faults)
         }
         Err(status) => status,
     }
 }
 
-/// The operation of the command of this name, on these sets.
-fn combination_of(name: &str, sets: Vec<IpSet>) -> Combination
-    ensures union { name.now ≡ codes "union" → result ≡ Union sets }
-    ensures intersection { name.now ≡ codes "intersection" → result ≡ Intersection sets }
-    ensures difference { name.now ≡ codes "difference" → result ≡ Difference sets }
+/// The operation on these sets.
+fn combination_of(operation: ListOperation, sets: Vec<IpSet>) -> Combination
+    ensures { result ≡ combination_of operation sets }
 {
-    match name {
-        "intersection" => Combination::Intersection(sets),
-        "difference" => Combination::Difference(sets),
-        _ => Combination::Union(sets),
+    match operation {
+        ListOperation::Union => Combination::Union(sets),
+        ListOperation::Intersection => Combination::Intersection(sets),
+        ListOperation::Difference => Combination::Difference(sets),
     }
 }
 
@@ -329,7 +327,7 @@ fn print_symmetric_difference(
                 form,
                 needs_address: needs_address(matches),
             };
-            print_set(command, &names, writers)
+            netset_lib::run(command, &names, &mut writers.answer, &mut writers.faults)
         }
         Err(status) => status,
     }
@@ -353,17 +351,10 @@ fn print_complement(rt: &HostRuntime, matches: &ArgMatches, writers: &mut Writer
                 form,
                 needs_address: needs_address(matches),
             };
-            print_set(command, &[name], writers)
+            netset_lib::run(command, &[name], &mut writers.answer, &mut writers.faults)
         }
         Err(status) => status,
     }
-}
-
-/// Prints the result of the operation, and returns the status.
-fn print_set(command: FormCommand<'_>, names: &[&str], writers: &mut Writers<'_>) -> u8
-    ensures { result ≤ 2 }
-{
-    netset_lib::run(command, names, &mut writers.answer, &mut writers.faults)
 }
 
 /// Prints the number of addresses of each list, and returns the status.

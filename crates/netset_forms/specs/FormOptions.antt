@@ -57,10 +57,9 @@ HasSets Bird = Unit {0}
 HasSets Iptables = ⊥
 
 -- The options name this form: by `--format`, or ranges by `--ranges`; without both it is plain.
-pub record IsFormNamed (options : FormOptions) (form : FormName) : Type 0 where
-  pub given : (named : FormName) → option_map (λ word. word.now) options.format ≡ Some (form_text named)
-      → form ≡ named
-  pub absent : options.format ≡ None → form ≡ cond options.ranges Ranges Plain
+abbrev pub IsFormNamed : FormOptions → FormName → Type 0
+IsFormNamed options form = IsSomeAnd options.format (λ word. word.now ≡ form_text form)
+    ⊎ ((options.format ≡ None) × (form ≡ cond options.ranges Ranges Plain))
 
 -- A set has a name.
 abbrev pub HasNames : FormOptions → Type 0
@@ -174,6 +173,7 @@ pub record IsRequestOf (options : FormOptions) (request : FormRequest) : Type 0 
 
 -- This is a reason why the options of this form do not go together.
 abbrev pub IsFormFault : FormName → FormOptions → FormFault → Type 0
+IsFormFault form options (Faults.Format word) = ⊥
 IsFormFault form options Faults.Prefix = IsSome options.prefix × ¬ (HasLines form)
 IsFormFault form options Faults.LineBreak =
     IsSomeAnd options.prefix (λ text. list_any is_line_break text.now ≡ true)
@@ -210,8 +210,19 @@ IsFormFault form options Faults.OtherMaxelem = IsSome options.maxelem × (form �
 IsFormFault form options (Faults.Maxelem word) =
     (options.maxelem ≡ Some word) × ((n : ℕ) → ¬ (IsMaxelem word.now n))
 
+-- The fault is that `--format` names no form.
+abbrev pub IsUnknownFormat : FormOptions → FormFault → Type 0
+IsUnknownFormat options fault = IsSomeAnd options.format (λ word.
+    (fault ≡ Faults.Format word) × ((form : FormName) → word.now ≢ form_text form))
+
+-- This is a reason why the options do not go together.
+abbrev pub IsFaultOf : FormOptions → FormFault → Type 0
+IsFaultOf options fault = IsUnknownFormat options fault
+    ⊎ ((form : FormName) × IsFormNamed options form × IsFormFault form options fault)
+
 -- The value of the option, if the fault is about one.
 abbrev pub fault_value : FormFault → Option (List ℕ)
+fault_value (Faults.Format word) = Some word.now
 fault_value (Faults.Length word) = Some word.now
 fault_value (Faults.NftName word) = Some word.now
 fault_value (Faults.IpsetName word) = Some word.now

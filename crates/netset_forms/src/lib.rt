@@ -19,6 +19,6 @@ pub use names::{
     is_nft_name, is_target_name,
 };
 pub use newly_permitted::{NewlyPermittedCommand, RulePairFailure};
-pub use options::{FormFault, FormName, FormOptions};
+pub use options::{FORM_NAMES, FormFault, FormName, FormOptions};
 pub use program::{FormCommand, PermittedCommand};
 pub use write::write_form;
