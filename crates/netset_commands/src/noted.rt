@@ -1,26 +1,19 @@
 //! The lists of a map: a reader that notes the largest entries of each list.
-ghost use Rattle.std.specs.Prelude.{◌≡◌, ◌≤◌, ◌↔◌, ◌<◌, length, string_bytes, IsTrue, IfOk, OnOk};
-ghost use Rattle.netset_commands.specs.MapTitles.{after_colon, entry_title, listed_title, longer_title};
-ghost use Rattle.netset_commands.specs.MapTitles.{longer_count, is_v4, AreFew, AreFirst, IsEntryFor};
+ghost use Rattle.std.specs.Prelude.{◌≡◌, ◌≤◌, ◌↔◌, ◌<◌, length, IsTrue, IfOk, OnOk};
+ghost use Rattle.netset_commands.specs.MapTitles.{is_v4, AreFew, AreFirst, IsEntryFor};
 ghost use Rattle.netset_commands.specs.MapTitles.{each_once, ends_with, networks_of};
 
 use ipnet::{Grammar, IpNet};
 use ipnet_bars::MOST_ENTRIES;
 use ipnet_lists::ReadFailure;
 use ipnet_sets::IpSet;
-use netset_entries::{EntryNotes, NotedEntry};
+use netset_entries::{EntryNotes, NotedEntry, map_title, push_title};
 use netset_files::ListReader;
 use netset_lib::SetReader;
 use std::alloc::{AllocError, Global};
 use std::io;
 use std::io::Read;
 use svg_maps::MapEntry;
-
-/// A title to which the text of one more entry is added has fewer bytes before.
-const MOST_BYTES: usize = 300;
-
-/// All titles together have fewer bytes of such texts before one more is added.
-const MOST_ADDED: usize = 50_000;
 
 /// A reader of lists, and the largest entries of each list.
 #[derive(Drop)]
@@ -113,44 +106,6 @@ pub struct TitledEntries {
     pub count: usize,
 }
 
-/// The second text after the first and a colon.
-fn after_colon(alloc: Global, first: &str, second: &str) -> Result<String, AllocError>
-    ensures { IfOk result (λ text. string_bytes text ≡ after_colon first.now second.now) }
-{
-    let mut text = String::from_str(alloc, first)?;
-    text.push_str(": ")?;
-    text.push_str(second)?;
-    Ok(text)
-}
-
-/// The title of an entry: its text, and its comment after a colon if there is one.
-fn entry_title(alloc: Global, text: String, comment: &str) -> Result<String, AllocError>
-    ensures { IfOk result (λ title. string_bytes title ≡ entry_title (string_bytes text) comment.now) }
-{
-    if comment.is_empty() {
-        return Ok(text);
-    }
-    after_colon(alloc, text.as_str(), comment)
-}
-
-/// The title of an entry of the list at this place; after the name of the list, if there are several.
-fn listed_title(
-    alloc: Global,
-    names: &[&str],
-    place: usize,
-    title: String,
-) -> Result<String, AllocError>
-    ensures { IfOk result (λ text. string_bytes text ≡ listed_title names.now place (string_bytes title)) }
-{
-    if names.len() <= 1 {
-        return Ok(title);
-    }
-    match names.get(place) {
-        Some(name) => after_colon(alloc, name, title.as_str()),
-        None => Ok(title),
-    }
-}
-
 /// The entry of a map for the entry of the list at this place.
 fn entry_for(
     alloc: Global,
@@ -160,13 +115,12 @@ fn entry_for(
 ) -> Result<MapEntry, AllocError>
     ensures { IfOk result (IsEntryFor names.now place noted) }
 {
+    let title = map_title(alloc, &noted, names, place)?;
     let NotedEntry {
         network,
-        text,
         comment,
+        ..
     } = noted;
-    let title = entry_title(alloc, text, comment.as_str())?;
-    let title = listed_title(alloc, names, place, title)?;
     Ok(MapEntry {
         network,
         title,
@@ -192,20 +146,6 @@ fn all_entries(
     entries.sort_by_key(|entry| entry.network)?;
     entries.sort_by_key(|entry| entry.network.prefix_len())?;
     Ok(entries)
-}
-
-/// Adds the text of another entry of the network, if neither the title nor all that was added is too long. Returns how
-/// many bytes were added to all titles by then.
-fn push_title(title: &mut String, other: &str, added: usize) -> Result<usize, AllocError>
-    ensures title { OnOk result (string_bytes title.new ≡ longer_title (string_bytes title.old) other.now added) }
-    ensures count { IfOk result (λ count. count ≡ longer_count (string_bytes title.old) other.now added) }
-{
-    if title.len() >= MOST_BYTES || added >= MOST_ADDED {
-        return Ok(added);
-    }
-    title.push_str("; ")?;
-    title.push_str(other)?;
-    Ok(added.saturating_add(other.len()))
 }
 
 /// Whether the last of the entries is of this network.
