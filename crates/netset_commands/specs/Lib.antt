@@ -5,7 +5,7 @@ pub mod Calls
 pub mod CommandLines
 pub mod EntryOptions
 pub mod FitOptions
-pub mod MapTitles
+pub mod MapEntries
 pub mod Words
 pub mod InfoWords
 pub mod FindOptions

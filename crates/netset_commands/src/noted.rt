@@ -1,7 +1,7 @@
 //! The lists of a map: a reader that notes the largest entries of each list.
-ghost use Rattle.std.specs.Prelude.{◌≡◌, ◌≤◌, ◌↔◌, ◌<◌, length, IsTrue, IfOk, OnOk};
-ghost use Rattle.netset_commands.specs.MapTitles.{is_v4, AreFew, AreFirst, IsEntryFor};
-ghost use Rattle.netset_commands.specs.MapTitles.{each_once, ends_with, networks_of};
+ghost use Rattle.std.specs.Prelude.{◌≡◌, IfOk, OnOk};
+ghost use Rattle.netset_commands.specs.MapEntries.{is_v4, AreFew, AreFirst, IsEntryFor};
+ghost use Rattle.netset_commands.specs.MapEntries.{each_once, ends_with, networks_of};
 
 use ipnet::{Grammar, IpNet};
 use ipnet_bars::MOST_ENTRIES;

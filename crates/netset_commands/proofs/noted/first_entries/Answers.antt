@@ -1,5 +1,5 @@
 use Rattle.std.proofs.Common.{◌≡◌, ◌∙◌, ◌+◌, ◌++◌, ◌∷◌, [], List, Bool, false, true, not, sym, ap, subst}
-use Rattle.netset_commands.specs.MapTitles.{is_v4}
+use Rattle.netset_commands.specs.MapEntries.{is_v4}
 use Rattle.netset_commands.proofs.MapLaws.{HaveTaken, takes, passes, swapped}
 use Rattle.netset_commands.proofs.noted.first_entries.Goals as goal
 use Rattle.svg_maps.specs.declared.entry.MapEntry.{MapEntry}
