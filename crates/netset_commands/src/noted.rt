@@ -106,7 +106,7 @@ pub struct TitledEntries {
     pub count: usize,
 }
 
-/// The entry of a map for the entry of the list at this place.
+/// The entry of a map for what was noted of the list at this place.
 fn entry_for(
     alloc: Global,
     names: &[&str],
