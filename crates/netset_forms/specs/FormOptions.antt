@@ -212,8 +212,8 @@ IsFormFault form options (Faults.Maxelem word) =
 
 -- The fault is that `--format` names no form.
 abbrev pub IsUnknownFormat : FormOptions → FormFault → Type 0
-IsUnknownFormat options fault = IsSomeAnd options.format (λ word.
-    (fault ≡ Faults.Format word) × ((form : FormName) → word.now ≢ form_text form))
+IsUnknownFormat options fault = (word : Bor (List ℕ)) × (fault ≡ Faults.Format word)
+    × (options.format ≡ Some word) × ((form : FormName) → ¬ (word.now ≡ form_text form))
 
 -- This is a reason why the options do not go together.
 abbrev pub IsFaultOf : FormOptions → FormFault → Type 0
