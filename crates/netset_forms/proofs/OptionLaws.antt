@@ -2,15 +2,22 @@
 use Rattle.std.proofs.Common.{◌≡◌, ◌↔◌, ◌∙◌, ℕ, List, sym, subst, Option, Some, None}
 use Rattle.std.specs.Borrow.{Bor}
 use Rattle.std.specs.Option.{IsSomeAnd}
+use Rattle.netset_forms.specs.FormOptions.{form_text}
+use Rattle.netset_forms.specs.declared.options.FormName.{FormName}
 
 -- if nothing was read, the text does not say it
 pub none_read : {A : Type 0} (P : A → Type 0) (r : Option A) → ((n : A) → (r ≡ Some n) ↔ P n) → r ≡ None → (n : A)
     → ¬ (P n)
 none_read P r reads none n h = let clash : None ≡ Some n = sym none ∙ (reads n).1 h in absurd cc
 
--- the value of an option is what was read
-pub some_read : {A : Type 0} (P : List ℕ → A → Type 0) (option : Option (Bor (List ℕ))) (word : Bor (List ℕ))
-    (r : Option A) (n : A) → option ≡ Some word → ((m : A) → (r ≡ Some m) ↔ P word.now m) → r ≡ Some n
+-- a word that names no form
+pub no_form : (word : List ℕ) (r : Option FormName) → ((form : FormName) → (r ≡ Some form) ↔ (word ≡ form_text form))
+    → r ≡ None → (form : FormName) → ¬ (word ≡ form_text form)
+no_form word r reads none = none_read (λ form. word ≡ form_text form) r reads none
+
+-- the value of an option is the number that was read
+pub some_read : (P : List ℕ → ℕ → Type 0) (option : Option (Bor (List ℕ))) (word : Bor (List ℕ)) (r : Option ℕ) (n : ℕ)
+    → option ≡ Some word → ((m : ℕ) → (r ≡ Some m) ↔ P word.now m) → r ≡ Some n
     → IsSomeAnd option (λ w. P w.now n)
 some_read P option word r n given reads found =
     let Q : Option (Bor (List ℕ)) → Type 0 = λ o. IsSomeAnd o (λ w. P w.now n) in

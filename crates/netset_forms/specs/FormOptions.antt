@@ -58,7 +58,8 @@ HasSets Iptables = ⊥
 
 -- The options name this form: by `--format`, or ranges by `--ranges`; without both it is plain.
 abbrev pub IsFormNamed : FormOptions → FormName → Type 0
-IsFormNamed options form = IsSomeAnd options.format (λ word. word.now ≡ form_text form)
+IsFormNamed options form =
+    ((word : Bor (List ℕ)) × (options.format ≡ Some word) × (word.now ≡ form_text form))
     ⊎ ((options.format ≡ None) × (form ≡ cond options.ranges Ranges Plain))
 
 -- A set has a name.

@@ -243,6 +243,7 @@ fn read_maxelem(digits: &str) -> Option<u32>
 
 impl<'a> FormOptions<'a> {
     /// The form that the options name: plain, if none does.
+    #[tactic(auto, using(crate::proofs::OptionLaws::no_form))]
     fn name(self) -> Result<FormName, FormFault<'a>>
         ensures good { IfOk result (IsFormNamed self.entry) }
         ensures fault { IfErr result (IsUnknownFormat self.entry) }
