@@ -1,5 +1,5 @@
 -- The titles of noted entries on a map.
-use Rattle.std.specs.Prelude.{◌++◌, ◌+◌, ◌||◌, nat_le, nat_lt, ℕ, Bool, cond, List, [], ◌∷◌, Option, Some, None, codes}
+use Rattle.std.specs.Prelude.{◌++◌, ◌+◌, ◌==◌, ◌||◌, nat_le, nat_lt, ℕ, Bool, cond, List, Option, Some, None, codes}
 use Rattle.std.specs.Prelude.{length, slice_get}
 use Rattle.std.specs.Borrow.{Bor}
 use Rattle.ipnet_lists.specs.Names.{Names}
@@ -10,8 +10,7 @@ after_colon first second = first ++ codes ": " ++ second
 
 -- The title of an entry with this text and this comment. Without a comment, it is the text.
 abbrev pub entry_title : List ℕ → List ℕ → List ℕ
-entry_title text [] = text
-entry_title text (byte ∷ comment) = after_colon text (byte ∷ comment)
+entry_title text comment = cond (length comment == 0) text (after_colon text comment)
 
 -- The title of an entry after the name of its list, if the list has a name.
 -- Example: `office.txt: 10.20.94.0/23: desks` of `office.txt` and `10.20.94.0/23: desks`.
