@@ -1,8 +1,0 @@
-use Rattle.std.proofs.Common.{◌≡◌, ◌++◌, ◌≤◌, replicate, string_bytes}
-use Rattle.ipnet_bars.proofs.marks.push_blanks.Given as goal
-
-abbrev pub invariant-loop : goal.invariant-loop
-invariant-loop l = record {
-  within : l.counter ≤ l.count;
-  blanks : string_bytes l.text ≡ string_bytes l.fn.text ++ replicate l.counter 32;
-}

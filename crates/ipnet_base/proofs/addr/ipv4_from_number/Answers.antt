@@ -1,5 +1,0 @@
-use Rattle.ipnet_base.proofs.AddressLaws.{bits_from_number}
-use Rattle.ipnet_base.proofs.addr.ipv4_from_number.Goals as goal
-
-pub returns : goal.returns
-returns c = bits_from_number c.from_bits.result c.args.number c.ranges.number.fits c.from_bits.ensures

@@ -1,7 +1,0 @@
-use Rattle.std.proofs.Common.{arith}
-use Rattle.ipnet_base.specs.Address.{IPv4}
-use Rattle.ipnet_base.proofs.ArithmeticLaws.{and_is_bitwise}
-use Rattle.ipnet_base.proofs.ipext.Ipv4AddrIpBitAnd.bitand.Goals as goal
-
-pub returns : goal.returns
-returns c = and_is_bitwise IPv4 _ _ _ (cc) (omega arith)

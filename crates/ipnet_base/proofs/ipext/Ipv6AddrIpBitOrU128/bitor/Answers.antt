@@ -1,7 +1,0 @@
-use Rattle.std.proofs.Common.{arith}
-use Rattle.ipnet_base.specs.Address.{IPv6}
-use Rattle.ipnet_base.proofs.ArithmeticLaws.{or_is_bitwise}
-use Rattle.ipnet_base.proofs.ipext.Ipv6AddrIpBitOrU128.bitor.Goals as goal
-
-pub returns : goal.returns
-returns c = or_is_bitwise IPv6 _ _ _ (cc) (omega arith) (omega arith)

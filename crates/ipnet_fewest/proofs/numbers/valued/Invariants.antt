@@ -1,7 +1,0 @@
-use Rattle.std.proofs.Common.{take}
-use Rattle.ipnet_routes.specs.Routes.{ip_routes}
-use Rattle.ipnet_fewest.specs.Numbers.{AreValued}
-use Rattle.ipnet_fewest.proofs.numbers.valued.Given as goal
-
-abbrev pub invariant-loop-index : goal.invariant-loop-index
-invariant-loop-index g l = AreValued l.values (ip_routes (take l.index l.routes)) (ip_routes l.valued.items)

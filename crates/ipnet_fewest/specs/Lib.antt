@@ -1,8 +1,0 @@
--- The definitions that the contracts of this crate cite.
-pub mod Shortest
-pub mod ItemsOf
-pub mod Plans
-pub mod Solved
-pub mod SolvedBlocks
-pub mod FewestRoutes
-pub mod Numbers

@@ -1,7 +1,0 @@
--- The lemmas of this crate.
-mod AllFactsLaws
-mod HostFacts
-mod DigitFacts
-mod FactTexts
-mod RegistryLaws
-mod ZoneFacts

@@ -1,7 +1,0 @@
-use Rattle.ipnet_info.proofs.FactTexts.{then_}
-use Rattle.ipnet_info.proofs.facts.push_line.Goals as goal
-
-pub returns : goal.returns
-returns c =
-    then_ (then_ (then_ c.in_ok-push_piece.ensures c.in_ok-push_piece-2.ensures) c.in_ok-push_piece-3.ensures)
-    c.in_ok-push_piece-4.ensures

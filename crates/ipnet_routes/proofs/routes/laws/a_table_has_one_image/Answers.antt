@@ -1,8 +1,0 @@
-use Rattle.ipnet_routes.proofs.TableOnceLaws.{one_image, one_table}
-use Rattle.ipnet_routes.proofs.routes.laws.a_table_has_one_image.Goals as goal
-
-pub returns-clause-image : goal.returns-clause-image
-returns-clause-image c routes a b p q h g = one_image a b p q routes h g
-
-pub returns-clause-table : goal.returns-clause-table
-returns-clause-table c bytes r s h g = one_table bytes r s h g

@@ -1,7 +1,0 @@
-pub mod FormAnswers
-pub mod FormOptions
-pub mod FormSteps
-pub mod Forms
-pub mod Layouts
-pub mod SetWords
-pub mod FormWords

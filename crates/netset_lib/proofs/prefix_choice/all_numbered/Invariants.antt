@@ -1,7 +1,0 @@
--- The entries so far have numbers.
-use Rattle.std.proofs.Common.{◌≡◌, All, map, take, None}
-use Rattle.netset_lib.specs.PrefixEntryOf.{entry_of}
-use Rattle.netset_lib.proofs.prefix_choice.all_numbered.Given as goal
-
-abbrev pub invariant-loop-entry : goal.invariant-loop-entry
-invariant-loop-entry l = All (λ e. e.number ≡ None → ⊥) (map entry_of (take l.entry-index l.entries))

@@ -1,5 +1,0 @@
--- Lemmas of this crate.
-pub mod FieldLaws
-pub mod VrpLaws
-pub mod RouteLaws
-pub mod AnswerLaws

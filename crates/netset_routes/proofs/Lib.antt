@@ -1,4 +1,0 @@
--- Lemmas of this crate.
-pub mod ShortenLaws
-pub mod AllRouteLaws
-pub mod RefusedLaws

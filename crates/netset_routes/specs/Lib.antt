@@ -1,4 +1,0 @@
--- The definitions that the contracts of this crate use.
-pub mod Shortening
-pub mod AllRoutes
-pub mod AllRouteSteps

@@ -1,8 +1,0 @@
-//! Commands over tables of networks with texts.
-#![tactic(auto)]
-
-mod all_routes;
-mod shorten;
-
-pub use all_routes::{AllRoutesCommand, plain_table_or_report};
-pub use shorten::{ShortenCommand, ShortenRequest};

@@ -1,6 +1,0 @@
--- Lemmas.
-pub mod EscapeLaws
-pub mod PieceLaws
-pub mod ReadLaws
-pub mod GrammarLaws
-pub mod PrintLaws

@@ -1,5 +1,0 @@
--- The definitions that the contracts of this crate cite.
-pub mod Escapes
-pub mod Names
-pub mod Documents
-pub mod Grammar
