@@ -5,6 +5,8 @@ use Rattle.std.specs.Char.Escape.{escape_ascii}
 use Rattle.std.specs.List.{concat}
 use Rattle.ipnet_lists.specs.declared.cause.Cause.{Cause}
 use Rattle.ipnet_lists.specs.declared.cause.NotEntry.{NotEntry}
+use Rattle.ipnet_lists.specs.declared.reading.ReadFailure.{ReadFailure}
+use Rattle.ipnet_lists.specs.declared.reading.ReadFailure.TheVariants.{Unreadable, Memory}
 use Rattle.ipnet_lists.specs.declared.refused.Refusals.{Refusals}
 use Rattle.ipnet_lists.specs.Causes.{IsReportedCause}
 use Rattle.ipnet_lists.specs.CauseTexts.{cause_text}
@@ -111,3 +113,8 @@ more_refusals lines shown count = (lines.count - count) - length (new_refusals l
 abbrev pub OfNew : {C : Type 0} → (List (RefusalFor C) → ℕ → List ℕ → Type 0) → Refusals C → ℕ → ℕ → List ℕ → Type 0
 OfNew Is lines shown count text = ((lines.count ≡ count) × (text ≡ []))
     ⊎ ((lines.count ≢ count) × Is (new_refusals lines shown) (more_refusals lines shown count) text)
+
+-- The words for a list that was not read.
+abbrev pub read_words : ReadFailure → List ℕ
+read_words Unreadable = codes "cannot be read"
+read_words Memory = codes "out of memory"

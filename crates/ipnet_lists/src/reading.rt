@@ -1,5 +1,7 @@
 //! Lists, read through a window, so that their bytes are not kept.
-ghost use Rattle.std.specs.Prelude.{◌≡◌, ◌+◌, ◌<◌, [], length, OnOk, IfOk};
+ghost use Rattle.std.specs.Fmt.{DisplaysOnOk, DisplaysStyledOnOk};
+ghost use Rattle.std.specs.Prelude.{◌≡◌, ◌+◌, ◌<◌, [], length, OnOk, IfOk, Some};
+ghost use Rattle.ipnet_lists.specs.Reports.{read_words};
 ghost use Rattle.ipnet_lists.specs.declared.reading.ReadFailure.TheVariants.{Unreadable, Memory};
 ghost use Rattle.ipnet_text.specs.Inputs.{GaveWhole};
 ghost use Rattle.ipnet_text.specs.Window.{held};
@@ -11,19 +13,45 @@ use ipnet::Grammar;
 use ipnet_text::window::SIZE;
 use ipnet_text::{ReadError, Window, lines_len};
 use std::alloc::{AllocError, Global};
+use std::error::Error;
+use std::fmt;
+use std::fmt::{Display, Formatter};
 use std::io::{ErrorKind, Read};
-use thiserror::Error;
 
 /// Why a list was not read.
-#[derive(Clone, Copy, Debug, PartialEq, Eq, Drop, Error)]
+#[derive(Clone, Copy, Debug, PartialEq, Eq, Drop)]
 pub enum ReadFailure {
     /// A read failed.
-    #[error("cannot be read")]
     Unreadable,
     /// Memory ran out.
-    #[error("out of memory")]
     Memory,
 }
+
+impl ReadFailure {
+    /// Returns the words that report it.
+    ///
+    /// ```text
+    /// Unreadable: "cannot be read"
+    /// ```
+    pub fn words(self) -> &'static str
+        ensures { result.now ≡ read_words self }
+    {
+        match self {
+            Self::Unreadable => "cannot be read",
+            Self::Memory => "out of memory",
+        }
+    }
+}
+
+impl Display for ReadFailure {
+    ghost output = { λ failure. Some (read_words failure) };
+
+    fn fmt<W: fmt::Write>(&self, f: &mut Formatter<W>) -> fmt::Result {
+        f.write_str(self.words())
+    }
+}
+
+impl Error for ReadFailure {}
 
 impl From<AllocError> for ReadFailure {
     ghost from_gives = { λ _ result. result ≡ Memory };

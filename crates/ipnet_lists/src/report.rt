@@ -1,9 +1,10 @@
 //! Reports of refused lines.
-ghost use Rattle.std.specs.Prelude.{◌≡◌, ◌++◌, ◌∷◌, [], ◌-◌, List, ℕ, take, drop, map, OnOk};
+ghost use Rattle.std.specs.Prelude.{◌≡◌, ◌++◌, ◌∷◌, [], ◌-◌, List, ℕ, take, drop, map, IsErr, OnOk};
 ghost use Rattle.std.specs.Char.Escape.{escape_ascii};
 ghost use Rattle.std.specs.Io.{StartsWith};
 ghost use Rattle.std.specs.Io.KnownBytes.{Appends, Keeps};
 ghost use Rattle.ipnet_text.specs.Outputs.{IsWritten, IsFrontWritten};
+ghost use Rattle.ipnet_text.specs.Watched.{writer_of, place_of, HasFailed};
 ghost use Rattle.ipnet_lists.specs.Names.{name_at};
 ghost use Rattle.ipnet_lists.specs.RefusedLines.{refusal_of};
 ghost use Rattle.ipnet_lists.specs.Reports.{IsReportOf, AreReported, AreFirstReported, IsReport, IsReportBegun};
@@ -15,7 +16,7 @@ ghost use Rattle.ipnet_lists.specs.Explanations.{words_of};
 
 use crate::cause::{Cause, NotEntry};
 use crate::refused::{Explanation, LineCause, Refusals, Refused};
-use ipnet_text::write_whole;
+use ipnet_text::Watched;
 use itoa::Buffer;
 use std::io;
 use std::io::Write;
@@ -40,23 +41,29 @@ pub enum Part<'a> {
 }
 
 /// Writes the escape of the byte, or the byte if it is printable.
-fn write_escape<X: Write>(out: &mut X, byte: &u8) -> io::Result<()>
-    ensures whole { OnOk result (Appends (X.contents out.old) (X.contents out.new) (escape_ascii byte.now)) }
+fn write_escape<X: Write>(out: &mut Watched<'_, X>, byte: &u8) -> io::Result<()>
+    ensures whole { OnOk result
+        (Appends (X.contents (writer_of out.old)) (X.contents (writer_of out.new)) (escape_ascii byte.now)) }
     ensures front { (front : List ℕ) × StartsWith (escape_ascii byte.now) front
-        × Appends (X.contents out.old) (X.contents out.new) front }
+        × Appends (X.contents (writer_of out.old)) (X.contents (writer_of out.new)) front }
+    ensures failed { IsErr result → HasFailed out.new }
+    ensures same_reference { place_of out.new ≡ place_of out.old }
 {
     let mut rest = byte.escape_ascii();
     'escape: while let Some(escaped) = rest.next() {
-        write_whole(out, &[escaped])?;
+        out.put(&[escaped])?;
     }
     Ok(())
 }
 
 /// Writes the bytes, escaped.
-fn write_escaped<X: Write>(out: &mut X, bytes: &[u8]) -> io::Result<()>
-    ensures whole { OnOk result (Appends (X.contents out.old) (X.contents out.new) (escaped bytes.now)) }
+fn write_escaped<X: Write>(out: &mut Watched<'_, X>, bytes: &[u8]) -> io::Result<()>
+    ensures whole { OnOk result
+        (Appends (X.contents (writer_of out.old)) (X.contents (writer_of out.new)) (escaped bytes.now)) }
     ensures front { (front : List ℕ) × StartsWith (escaped bytes.now) front
-        × Appends (X.contents out.old) (X.contents out.new) front }
+        × Appends (X.contents (writer_of out.old)) (X.contents (writer_of out.new)) front }
+    ensures failed { IsErr result → HasFailed out.new }
+    ensures same_reference { place_of out.new ≡ place_of out.old }
 {
     for byte in bytes {
         write_escape(out, byte)?;
@@ -65,15 +72,18 @@ fn write_escaped<X: Write>(out: &mut X, bytes: &[u8]) -> io::Result<()>
 }
 
 /// Writes the part.
-fn write_part<X: Write>(out: &mut X, part: Part<'_>) -> io::Result<()>
-    ensures whole { OnOk result (Appends (X.contents out.old) (X.contents out.new) (part_text part.entry)) }
+fn write_part<X: Write>(out: &mut Watched<'_, X>, part: Part<'_>) -> io::Result<()>
+    ensures whole { OnOk result
+        (Appends (X.contents (writer_of out.old)) (X.contents (writer_of out.new)) (part_text part.entry)) }
     ensures front { (front : List ℕ) × StartsWith (part_text part.entry) front
-        × Appends (X.contents out.old) (X.contents out.new) front }
+        × Appends (X.contents (writer_of out.old)) (X.contents (writer_of out.new)) front }
+    ensures failed { IsErr result → HasFailed out.new }
+    ensures same_reference { place_of out.new ≡ place_of out.old }
 {
     match part {
-        Part::Words(words) => write_whole(out, words.as_bytes()),
-        Part::Number(number) => write_whole(out, Buffer::new().format(number).as_bytes()),
-        Part::Plain(bytes) => write_whole(out, bytes),
+        Part::Words(words) => out.put(words.as_bytes()),
+        Part::Number(number) => out.put(Buffer::new().format(number).as_bytes()),
+        Part::Plain(bytes) => out.put(bytes),
         Part::Escaped(bytes) => write_escaped(out, bytes),
     }
 }
@@ -83,10 +93,13 @@ fn write_part<X: Write>(out: &mut X, part: Part<'_>) -> io::Result<()>
 /// ```text
 /// the parts Escaped("a\t"), Words(":") and Number(2): "a\\t:2"
 /// ```
-pub fn write_parts<X: Write>(out: &mut X, parts: &[Part<'_>]) -> io::Result<()>
-    ensures whole { OnOk result (Appends (X.contents out.old) (X.contents out.new) (parts_text parts.now)) }
+pub fn write_parts<X: Write>(out: &mut Watched<'_, X>, parts: &[Part<'_>]) -> io::Result<()>
+    ensures whole { OnOk result
+        (Appends (X.contents (writer_of out.old)) (X.contents (writer_of out.new)) (parts_text parts.now)) }
     ensures front { (front : List ℕ) × StartsWith (parts_text parts.now) front
-        × Appends (X.contents out.old) (X.contents out.new) front }
+        × Appends (X.contents (writer_of out.old)) (X.contents (writer_of out.new)) front }
+    ensures failed { IsErr result → HasFailed out.new }
+    ensures same_reference { place_of out.new ≡ place_of out.old }
 {
     for part in parts {
         write_part(out, *part)?;
@@ -145,17 +158,18 @@ fn reason_of(why: Option<&'static str>) -> Reason
 /// the name a, line 2, the text "x\ty", what "not a rule", and no reason: "a:2: not a rule: x\\ty\n"
 /// ```
 pub fn report_line<'a, X: Write>(
-    faults: &mut X,
+    faults: &mut Watched<'_, X>,
     name: &'a str,
     number: usize,
     text: &'a [u8],
     explanation: Explanation,
 ) -> io::Result<()>
-    ensures whole { OnOk result (Appends (X.contents faults.old) (X.contents faults.new)
+    ensures whole { OnOk result (Appends (X.contents (writer_of faults.old)) (X.contents (writer_of faults.new))
         (report_line name.now number text.now explanation.what.now (words_of explanation.why))) }
     ensures front { (front : List ℕ)
         × StartsWith (report_line name.now number text.now explanation.what.now (words_of explanation.why)) front
-        × Appends (X.contents faults.old) (X.contents faults.new) front }
+        × Appends (X.contents (writer_of faults.old)) (X.contents (writer_of faults.new)) front }
+    ensures failed { IsErr result → HasFailed faults.new }
 {
     let reason = reason_of(explanation.why);
     write_parts(
@@ -228,14 +242,15 @@ pub fn name_of<'a>(names: &[&'a str], index: usize) -> &'a str
 
 /// Reports a refused line.
 fn report_one<X: Write, C: LineCause>(
-    faults: &mut X,
+    faults: &mut Watched<'_, X>,
     names: &[&str],
     line: &Refused<C>,
 ) -> io::Result<()>
     ensures whole { OnOk result (IsWritten (IsReportOf C.explains names.now (refusal_of line.now))
-        (X.contents faults.old) (X.contents faults.new)) }
+        (X.contents (writer_of faults.old)) (X.contents (writer_of faults.new))) }
     ensures front { IsFrontWritten (IsReportOf C.explains names.now (refusal_of line.now))
-        (X.contents faults.old) (X.contents faults.new) }
+        (X.contents (writer_of faults.old)) (X.contents (writer_of faults.new)) }
+    ensures failed { IsErr result → HasFailed faults.new }
 {
     let text = line.text.as_slice();
     let explanation = line.cause.explain(text);
@@ -250,14 +265,15 @@ fn report_one<X: Write, C: LineCause>(
 
 /// Reports the refused lines, one after another.
 fn report_lines<X: Write, C: LineCause>(
-    faults: &mut X,
+    faults: &mut Watched<'_, X>,
     names: &[&str],
     lines: &[Refused<C>],
 ) -> io::Result<()>
     ensures whole { OnOk result (IsWritten (AreReported C.explains names.now (map refusal_of lines.now))
-        (X.contents faults.old) (X.contents faults.new)) }
+        (X.contents (writer_of faults.old)) (X.contents (writer_of faults.new))) }
     ensures front { IsFrontWritten (AreFirstReported C.explains names.now (map refusal_of lines.now))
-        (X.contents faults.old) (X.contents faults.new) }
+        (X.contents (writer_of faults.old)) (X.contents (writer_of faults.new)) }
+    ensures failed { IsErr result → HasFailed faults.new }
 {
     for line in lines {
         report_one(faults, names, line)?;
@@ -290,17 +306,19 @@ fn hidden_of(all: usize, count: usize, shown: usize) -> usize
 /// twelve lines of a list, before (0, 0): ten lines, and "netset: and 2 more"
 /// ```
 pub fn report_since<X: Write, C: LineCause>(
-    faults: &mut X,
+    faults: &mut Watched<'_, X>,
     names: &[&str],
     lines: &Refusals<C>,
     before: (usize, usize),
 ) -> io::Result<()>
-    ensures none { lines.now.count ≡ before.1 → Keeps (X.contents faults.old) (X.contents faults.new) }
+    ensures none { lines.now.count ≡ before.1 → Keeps (X.contents (writer_of faults.old))
+        (X.contents (writer_of faults.new)) }
     ensures whole { OnOk result (IsWritten
         (OfNew (IsReport C.explains names.now) lines.now before.0 before.1)
-        (X.contents faults.old) (X.contents faults.new)) }
+        (X.contents (writer_of faults.old)) (X.contents (writer_of faults.new))) }
     ensures front { IsFrontWritten (OfNew (IsReportBegun C.explains names.now) lines.now before.0 before.1)
-        (X.contents faults.old) (X.contents faults.new) }
+        (X.contents (writer_of faults.old)) (X.contents (writer_of faults.new)) }
+    ensures failed { IsErr result → HasFailed faults.new }
 {
     let (shown, count) = before;
     if lines.count == count {
@@ -319,16 +337,17 @@ pub fn report_since<X: Write, C: LineCause>(
 /// the names a and b, index 1, twelve lines: ten lines that begin with "b:", and "netset: and 2 more"
 /// ```
 pub fn report_refused<X: Write, C: LineCause>(
-    faults: &mut X,
+    faults: &mut Watched<'_, X>,
     names: &[&str],
     index: usize,
     lines: &Refusals<C>,
 ) -> io::Result<()>
-    ensures none { lines.now.count ≡ 0 → Keeps (X.contents faults.old) (X.contents faults.new) }
+    ensures none { lines.now.count ≡ 0 → Keeps (X.contents (writer_of faults.old)) (X.contents (writer_of faults.new)) }
     ensures whole { OnOk result (IsWritten (OfNew (IsReport C.explains (drop index names.now)) lines.now 0 0)
-        (X.contents faults.old) (X.contents faults.new)) }
+        (X.contents (writer_of faults.old)) (X.contents (writer_of faults.new))) }
     ensures front { IsFrontWritten (OfNew (IsReportBegun C.explains (drop index names.now)) lines.now 0 0)
-        (X.contents faults.old) (X.contents faults.new) }
+        (X.contents (writer_of faults.old)) (X.contents (writer_of faults.new)) }
+    ensures failed { IsErr result → HasFailed faults.new }
 {
     report_since(faults, items_after(names, index), lines, (0, 0))
 }
@@ -338,11 +357,13 @@ pub fn report_refused<X: Write, C: LineCause>(
 /// ```text
 /// 2: "netset: and 2 more\n"; 0: nothing
 /// ```
-pub fn report_more<X: Write>(faults: &mut X, more: usize) -> io::Result<()>
-    ensures none { more ≡ 0 → Keeps (X.contents faults.old) (X.contents faults.new) }
-    ensures whole { OnOk result (Appends (X.contents faults.old) (X.contents faults.new) (more_line more)) }
+pub fn report_more<X: Write>(faults: &mut Watched<'_, X>, more: usize) -> io::Result<()>
+    ensures none { more ≡ 0 → Keeps (X.contents (writer_of faults.old)) (X.contents (writer_of faults.new)) }
+    ensures whole { OnOk result
+        (Appends (X.contents (writer_of faults.old)) (X.contents (writer_of faults.new)) (more_line more)) }
     ensures front { (front : List ℕ) × StartsWith (more_line more) front
-        × Appends (X.contents faults.old) (X.contents faults.new) front }
+        × Appends (X.contents (writer_of faults.old)) (X.contents (writer_of faults.new)) front }
+    ensures failed { IsErr result → HasFailed faults.new }
 {
     if more == 0 {
         return Ok(());
@@ -351,10 +372,12 @@ pub fn report_more<X: Write>(faults: &mut X, more: usize) -> io::Result<()>
 }
 
 /// Reports this number of lines that are not shown.
-fn report_count<X: Write>(faults: &mut X, more: usize) -> io::Result<()>
-    ensures whole { OnOk result (Appends (X.contents faults.old) (X.contents faults.new) (count_line more)) }
+fn report_count<X: Write>(faults: &mut Watched<'_, X>, more: usize) -> io::Result<()>
+    ensures whole { OnOk result
+        (Appends (X.contents (writer_of faults.old)) (X.contents (writer_of faults.new)) (count_line more)) }
     ensures front { (front : List ℕ) × StartsWith (count_line more) front
-        × Appends (X.contents faults.old) (X.contents faults.new) front }
+        × Appends (X.contents (writer_of faults.old)) (X.contents (writer_of faults.new)) front }
+    ensures failed { IsErr result → HasFailed faults.new }
 {
     write_parts(
         faults,

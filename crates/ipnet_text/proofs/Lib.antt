@@ -8,5 +8,6 @@ pub mod LineTextLaws
 pub mod JoinLaws
 pub mod ListsLaws
 pub mod WritingLaws
+pub mod WatchedLaws
 pub mod FrontTexts
 pub mod GroupTexts

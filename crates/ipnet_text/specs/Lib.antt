@@ -6,4 +6,5 @@ pub mod LineTexts
 pub mod NetLists
 pub mod Outputs
 pub mod Pieces
+pub mod Watched
 pub mod Window

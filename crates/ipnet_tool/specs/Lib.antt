@@ -4,4 +4,3 @@ pub mod FailureTexts
 pub mod Runs
 pub mod Statuses
 pub mod Reading
-pub mod Watched

@@ -7,10 +7,8 @@ pub mod failure;
 mod input;
 pub mod program;
 pub mod tool;
-pub mod watched;
 
 pub use failure::Failure;
-pub use ipnet_text::ToolError;
+pub use ipnet_text::{ToolError, Watched};
 pub use program::{run, run_watched};
 pub use tool::{aggregate_text, aggregate_text_as, aggregate_text_legacy};
-pub use watched::Watched;

@@ -5,17 +5,18 @@ ghost use Rattle.std.specs.IoError.{error_kind};
 ghost use Rattle.std.specs.Vec.Iter.{into_iter_items};
 ghost use Rattle.std.specs.Io.KnownBytes.{Keeps};
 ghost use Rattle.ipnet.specs.declared.parser.Grammar.{Grammar};
+ghost use Rattle.ipnet_text.specs.Watched.{writer_of, place_of, IsFlushed, HasFailed};
 ghost use Rattle.ipnet_tool.specs.FailureTexts.{IsReported};
 ghost use Rattle.ipnet_tool.specs.Runs.{IsChosenBy, IsAnswered, IsCutShort, HasBadLine, IsFailedBy};
 ghost use Rattle.ipnet_tool.specs.Statuses.{status_of};
-ghost use Rattle.ipnet_tool.specs.Watched.{writer_of, place_of, IsFlushed, HasFailed};
 ghost use Rattle.ipnet_tool.specs.declared.failure.Failure.{Failure};
 ghost use Rattle.ipnet_tool.specs.declared.failure.Failure.TheVariants.{Arguments, Memory};
 
+use crate::answer::put_networks;
 use crate::failure::Failure;
 use crate::input::read_networks;
-use crate::watched::Watched;
 use ipnet::Grammar;
+use ipnet_text::Watched;
 use std::alloc::{AllocError, Global};
 use std::env::Args;
 use std::io;
@@ -111,7 +112,7 @@ pub fn run_watched<R: Read, W: Write, X: Write>(
         Err(failure) => return report(faults, failure),
     };
     families.aggregate();
-    let Ok(()) = out.put_networks(&families) else {
+    let Ok(()) = put_networks(out, &families) else {
         return report(faults, Failure::Unwritable);
     };
     0

@@ -40,6 +40,11 @@ IsNetworkGiven matches id n = IsNetworkWord matches (word_of matches id) n
 abbrev pub IsNoNetwork : Grammar → List ℕ → Type 0
 IsNoNetwork grammar word = (cause : ArgumentCause) × IsArgumentCause grammar word cause
 
+-- The word with this id is no network, in the grammar that the flag `--legacy` chooses.
+abbrev pub IsNoNetworkGiven : ArgMatches → List ℕ → Type 0
+IsNoNetworkGiven matches id =
+    (flags : Flags) × AreFlags matches flags × IsNoNetwork (grammar_of flags.legacy) (word_of matches id)
+
 -- The network that is drawn: the one of `--in`; or the smallest around the IPv6 addresses, with `--ipv6`; or the
 -- smallest around the addresses of the first family that has any.
 abbrev pub IsFrameOf : ArgMatches → Frame → Type 0

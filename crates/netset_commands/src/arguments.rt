@@ -9,6 +9,7 @@ ghost use Rattle.netset_lib.specs.declared.command.Flags.{Flags};
 use crate::table::{ARGUMENT, Argument, Form};
 use clap::ArgMatches;
 use ipnet_lists::{Part, write_parts};
+use ipnet_text::Watched;
 use netset_files::{Empties, Reports};
 use netset_lib::{Families, Flags, families};
 use std::alloc::{AllocError, Global};
@@ -214,7 +215,8 @@ fn escaped_word(alloc: Global, word: &str) -> Result<String, AllocError>
     ensures { IfOk result (λ text. string_bytes text ≡ escaped word.now) }
 {
     let mut bytes = Vec::new(alloc);
-    if write_parts(&mut bytes, &[Part::Escaped(word.as_bytes())]).is_err() {
+    let mut out = Watched::new(&mut bytes);
+    if write_parts(&mut out, &[Part::Escaped(word.as_bytes())]).is_err() {
         return Err(AllocError);
     }
     // An escaped text is ASCII.

@@ -183,8 +183,8 @@ pub fn fit_lists(rt: &HostRuntime, matches: &ArgMatches, writers: &mut Writers<'
                 request,
             };
             let (out, faults) = (&mut writers.answer, &mut writers.faults);
-            let ended = run_fit(command, names, out, faults);
-            writers.without_answer_at_1(ended.status)
+            let status = run_fit(command, names, out, faults);
+            writers.without_answer_at_1(status)
         }
         Err(status) => status,
     }

@@ -3,7 +3,7 @@ ghost use Rattle.std.specs.Prelude.{◌≡◌, ◌≤◌, ◌↔◌, ℕ, Some, 
 ghost use Rattle.ipnet.specs.NetworkOf.{ip_network};
 ghost use Rattle.ipnet_lists.specs.Entries.{IsNetworkOrMasked};
 ghost use Rattle.netset_lib.specs.PlanAnswers.{IsLengthText};
-ghost use Rattle.netset_commands.specs.Words.{word_of, IsNetworkGiven, IsNoNetwork};
+ghost use Rattle.netset_commands.specs.Words.{word_of, IsNetworkGiven, IsNoNetwork, IsNoNetworkGiven};
 
 use crate::arguments::{FIRST, LEGACY_FLAG, OTHERS, OUTPUT_OPTION, flags_of};
 use crate::table::{ARGUMENT, Argument, Form, Subcommand};
@@ -100,7 +100,8 @@ pub fn network_or_report(rt: &HostRuntime, word: &str, grammar: Grammar) -> Opti
 
 /// Reads the network that is listed. If the word is not one, it is reported, and the result is `None`.
 fn network_of(rt: &HostRuntime, matches: &ArgMatches) -> Option<IpNet>
-    ensures { IfSome result (IsNetworkGiven matches.now (codes "first")) }
+    ensures network { IfSome result (IsNetworkGiven matches.now (codes "first")) }
+    ensures none { IfNone result (IsNoNetworkGiven matches.now (codes "first")) }
 {
     let word = word_of(matches, FIRST);
     network_or_report(rt, word, flags_of(matches).grammar())

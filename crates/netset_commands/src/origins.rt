@@ -88,16 +88,8 @@ fn read_both(
 {
     let reports = writers.reports;
     let bytes = whole_of(rt, names[0], reports)?;
-    let vrps = match vrps_or_report(
-        rt.alloc(),
-        bytes.as_slice(),
-        grammar,
-        names[0],
-        &mut writers.faults,
-    ) {
-        Ok(vrps) => vrps,
-        Err(ended) => return Err(ended.status),
-    };
+    let faults = &mut writers.faults;
+    let vrps = vrps_or_report(rt.alloc(), bytes.as_slice(), grammar, names[0], faults)?;
     let allowed = !vrps.is_empty() || reports.report_empty(rt, names[0], "VRPs");
     let routes = bytes_of(rt, names[1], "routes", reports)?;
     if allowed { Ok((vrps, routes)) } else { Err(2) }

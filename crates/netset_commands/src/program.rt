@@ -98,6 +98,7 @@ use clap::ArgMatches;
 use ipnet_sets::IpSet;
 use netset_files::CLOSED;
 use netset_files::Ends;
+use netset_files::Faults;
 use netset_files::FirstReader;
 use netset_files::Lists;
 use netset_files::Writers;
@@ -174,8 +175,9 @@ fn open_and_run(rt: &HostRuntime, name: &str, matches: &ArgMatches) -> u8
 {
     let file = matches.get_str(OUTPUT);
     let ends = Ends::new();
+    let mut faults = Faults::new(rt, &ends);
     let reports = reports_of(matches);
-    let mut writers = match Writers::open(rt, file, reports, &ends) {
+    let mut writers = match Writers::open(rt, file, reports, &mut faults) {
         Ok(writers) => writers,
         Err(failure) => {
             let file = file.unwrap_or_default().as_bytes().escape_ascii();

@@ -1,5 +1,5 @@
 //! The sets of the lists of a command, which are read with a report if that fails.
-ghost use Rattle.std.specs.Prelude.{◌≡◌, ◌<◌, [], true, false, length, IsTrue, IsOk, IsErr, IfOk, IfErr, OnOk};
+ghost use Rattle.std.specs.Prelude.{◌≡◌, ◌<◌, ◌⊎◌, [], true, false, length, IsTrue, IsOk, IsErr, IfOk, IfErr, OnOk};
 ghost use Rattle.netset_commands.specs.Arguments.{entries_of};
 ghost use Rattle.netset_commands.specs.BadLines.{HasBadLine, HasNoBadLine};
 ghost use Rattle.netset_commands.specs.Calls.{AreFlags};
@@ -60,6 +60,8 @@ pub fn finish_lists(
 ) -> Result<(), u8>
     ensures refused { writers.old.reports.skips_bad ≡ false → OnOk result (HasNoBadLine lists.reader) }
     ensures noted { writers.new.skipped ≡ false → OnOk result (HasNoBadLine lists.reader) }
+    ensures some { writers.old.skipped ≡ false → writers.new.skipped ≡ true → HasBadLine lists.reader }
+    ensures bad { IsErr result → HasBadLine lists.reader ⊎ (lists.allowed ≡ false) }
     ensures allowed { IsOk result → IsTrue lists.allowed }
     ensures failed { IfErr result (λ status. status ≡ 2) }
 {

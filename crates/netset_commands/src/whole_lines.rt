@@ -1,8 +1,11 @@
 //! The command `filter --lines`: its flags, and its run.
-ghost use Rattle.std.specs.Prelude.{◌≡◌, ◌≤◌, cond, codes, IfErr};
+ghost use Rattle.std.specs.Prelude.{◌≡◌, ◌≤◌, cond, codes, IfErr, IsTrue};
+ghost use Rattle.ipnet_text.specs.Outputs.{IsWritten};
+ghost use Rattle.ipnet_text.specs.Watched.{writer_of, HasFailed};
 ghost use Rattle.netset_commands.specs.Arguments.{IsFlag};
 ghost use Rattle.netset_commands.specs.Calls.{AreFlags};
 ghost use Rattle.netset_lib.specs.Commands.{grammar_of, side_of};
+ghost use Rattle.netset_lib.specs.Reports.{named_line};
 ghost use Rattle.netset_lib.specs.declared.command.Flags.{Flags};
 
 use crate::arguments::{FIRST, MAPPED, OTHERS, flags_of, is_set};
@@ -13,8 +16,10 @@ use crate::table::{ARGUMENT, Argument, Form};
 use crate::without::{names_without_or_report, without_or_report};
 use clap::ArgMatches;
 use ipnet_sets::IpSet;
+use ipnet_text::Watched;
 use netset_files::{Writers, open_log, report_unread};
 use netset_lib::Failure;
+use netset_lib::reports::report_named;
 use netset_lib::runs::end_with;
 use netset_words::{LineFilter, LinesRequest, run_lines};
 use std::io::Write;
@@ -108,24 +113,24 @@ pub fn filter_lines(rt: &HostRuntime, matches: &ArgMatches, writers: &mut Writer
     };
     match LineFilter::from_set(rt.alloc(), set, how) {
         Ok(filter) => filter_named(rt, filter, &names, names[1], writers),
-        Err(_) => end_with(&Failure::Memory, &names, &mut writers.faults).status,
+        Err(_) => end_with(&Failure::Memory, &names, &mut writers.faults),
     }
 }
 
 /// Ends a run that printed the lines of the log of this name and has this status, and returns the exit status. If the
-/// log begins like UTF-16, that is reported, and the status is 2, since the entries of such a text are not found.
-fn end_log<X: Write>(is_utf16: bool, log: &str, status: u8, faults: &mut X) -> u8
+/// log begins like UTF-16, that is reported, and the status is 2, since the entries of such a text are not found. The
+/// report is whole, unless a write to `faults` has failed.
+fn end_log<X: Write>(is_utf16: bool, log: &str, status: u8, faults: &mut Watched<'_, X>) -> u8
     ensures exact { result ≡ cond is_utf16 2 status }
     ensures status { status ≤ 2 → result ≤ 2 }
+    ensures reported { IsTrue is_utf16 → ¬ (HasFailed faults.new)
+        → IsWritten (λ t. t ≡ named_line log.now (codes "begins like UTF-16: is the file UTF-16?"))
+        (X.contents (writer_of faults.old)) (X.contents (writer_of faults.new)) }
 {
     if !is_utf16 {
         return status;
     }
-    let shown = log.as_bytes().escape_ascii();
-    let _ = writeln!(
-        faults,
-        "netset: {shown}: begins like UTF-16: is the file UTF-16?"
-    );
+    let _ = report_named(faults, log, "begins like UTF-16: is the file UTF-16?");
     2
 }
 

@@ -11,14 +11,14 @@ use Rattle.ipnet_sets.specs.declared.set.IpSet.{IpSet}
 use Rattle.ipnet_sets.specs.Members.{IsMember, IsCountOf}
 use Rattle.ipnet_shortest.specs.Covers.{IsCoverAdding, IsFewestCover, HasCoverAdding}
 use Rattle.ipnet_shortest.proofs.CountLaws.{one_count}
-use Rattle.netset_lib.specs.Reports.{words_line}
+use Rattle.netset_lib.specs.Reports.{IsReportedAs, words_line}
 use Rattle.netset_entries.specs.declared.fit.FitFailure.{FitFailure}
 use Rattle.netset_entries.specs.declared.fit.FitFailure.TheVariants.{NoList, Memory}
 use Rattle.netset_entries.specs.declared.fit.FitLimit.{FitLimit}
 use Rattle.netset_entries.specs.declared.fit.FitLimit.TheVariants.{Spare}
 use Rattle.netset_entries.specs.declared.fit_program.FitCommand.{FitCommand}
 use Rattle.netset_entries.specs.FittedLists.{percent_of, IsFitted, HasFit, IsFitFailure, IsFitReason, IsFitReported}
-use Rattle.netset_entries.specs.FittedLists.{IsFitReportBegun, IsReportedAs, fit_words, exit_of_fit}
+use Rattle.netset_entries.specs.FittedLists.{IsFitReportBegun, fit_words, exit_of_fit}
 
 -- ---- the fewest networks, for a percentage
 

@@ -1,4 +1,5 @@
 -- Lemmas that the proofs of this crate share.
+pub mod BothLaws
 pub mod FitLaws
 pub mod WitnessLaws
 pub mod CoverLaws

@@ -10,6 +10,7 @@ use Rattle.netset_entries.specs.declared.entry_list.EntryList.{EntryList}
 use Rattle.netset_entries.specs.declared.overlaps.Asked.{Asked}
 use Rattle.netset_entries.specs.EntryLineOf.{numbered, IsReadOf, AreAsked}
 use Rattle.netset_entries.specs.NumberedEntries.{NumberedEntry, IsEntryList}
+use Rattle.netset_entries.specs.WriteFailures.{AreRefusedOf}
 use Rattle.netset_entries.specs.Overlaps.{HoldsOfTwo, HoldsOfLists, HasOverlap, HasNoOverlap, IsOverlapOutcome}
 
 -- no line is refused
@@ -18,6 +19,11 @@ pub all_read : (grammar : Grammar) (bytes : List ℕ) (list : EntryList) → IsR
 all_read grammar bytes list (refusals, read, kept) none =
     subst (IsEntryList grammar bytes (map numbered list.entries.items)) (none_refused list.refused refusals kept none)
     read
+
+-- the refused lines of a list that was read
+pub refused_of : (grammar : Grammar) (bytes : List ℕ) (list : EntryList) → IsReadOf grammar bytes list
+    → AreRefusedOf grammar bytes list.refused
+refused_of grammar bytes list (refusals, read, kept) = (map numbered list.entries.items, refusals, read, kept)
 
 module _ (grammar : Grammar) (bytes other : List ℕ) (first second joined : List EntryLine) (count : Option ℕ)
     (read : IsEntryList grammar bytes (map numbered first) [])

@@ -87,6 +87,6 @@ IsSearchOutcome search name bytes false = IsSearched search name bytes [] []
 -- Why a search has no answer, or only a part of it: these lines are refused, memory ran out, or a write failed.
 abbrev pub IsSearchFailure : Search → (name bytes : List ℕ) → WriteFailure → Type 0
 IsSearchFailure search name bytes (Refused lines others) = (text : List ℕ) × (refusals : List Refusal)
-    × IsSearched search name bytes text refusals × AreRefused lines refusals × (refusals ≢ [])
+    × IsSearched search name bytes text refusals × AreRefused lines refusals × (refusals ≢ []) × AreRefused others []
 IsSearchFailure search name bytes Memory = Unit {0}
 IsSearchFailure search name bytes Unwritable = Unit {0}

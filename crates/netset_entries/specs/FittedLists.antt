@@ -11,7 +11,7 @@ use Rattle.ipnet_text.specs.LineTexts.{text_of_lines}
 use Rattle.ipnet_text.specs.Outputs.{IsWritten, IsFrontWritten}
 use Rattle.netset_lib.specs.Combinations.{OfUnion}
 use Rattle.netset_lib.specs.Counts.{IsCountsLine}
-use Rattle.netset_lib.specs.Reports.{words_line}
+use Rattle.netset_lib.specs.Reports.{IsReportedAs, words_line}
 use Rattle.netset_entries.specs.declared.fit.FitFailure.{FitFailure}
 use Rattle.netset_entries.specs.declared.fit.FitFailure.TheVariants.{NoList, Memory}
 use Rattle.netset_entries.specs.declared.fit.FitLimit.{FitLimit}
@@ -92,11 +92,6 @@ IsFitReported failure = IsWritten (λ t. t ≡ words_line (fit_words failure))
 -- A front of that report was written, perhaps all.
 abbrev pub IsFitReportBegun : FitFailure → Option (List ℕ) → Option (List ℕ) → Type 0
 IsFitReportBegun failure = IsFrontWritten (λ t. t ≡ words_line (fit_words failure))
-
--- A front of this report was written, and if `IsSure`, all of it.
-abbrev pub IsReportedAs : List ℕ → Option (List ℕ) → Option (List ℕ) → Type 0 → Type 0
-IsReportedAs report faults faults_after IsSure =
-    IsFrontWritten (λ t. t ≡ report) faults faults_after × (IsSure → IsWritten (λ t. t ≡ report) faults faults_after)
 
 -- The exit status.
 abbrev pub exit_of_fit : FitFailure → ℕ

@@ -17,7 +17,7 @@ use ipnet_sets::IpSet;
 use ipnet_shortest::{
     fewest_ipv4_networks, fewest_ipv6_networks, shortest_ipv4_cover, shortest_ipv6_cover,
 };
-use ipnet_text::lines_of_networks;
+use ipnet_text::{Watched, lines_of_networks};
 use netset_lib::push_counts;
 use netset_lib::reports::{OUT_OF_MEMORY, report_words};
 use netset_lib::runs::Report;
@@ -86,7 +86,7 @@ impl Report for FitFailure {
         }
     }
 
-    fn report<X: Write>(&self, _: &[&str], faults: &mut X) -> io::Result<()> {
+    fn report<X: Write>(&self, _: &[&str], faults: &mut Watched<'_, X>) -> io::Result<()> {
         report_words(faults, self.words())
     }
 }

@@ -1,18 +1,20 @@
 //! The command `fit` of the program.
-ghost use Rattle.std.specs.Prelude.{◌≡◌, ◌≤◌, ◌⊎◌, IsTrue, IfOk, IfErr, string_bytes};
+ghost use Rattle.std.specs.Prelude.{◌≡◌, ◌≤◌, ◌⊎◌, IfOk, IfErr, string_bytes};
 ghost use Rattle.std.specs.Io.KnownBytes.{Keeps};
 ghost use Rattle.ipnet_text.specs.Outputs.{IsFrontWritten};
+ghost use Rattle.ipnet_text.specs.Watched.{writer_of, HasFailed};
 ghost use Rattle.netset_entries.specs.FittedLists.{IsFitAnswer, IsFitReason, IsFitText, IsFitOutput};
-ghost use Rattle.netset_entries.specs.FittedLists.{IsReportedAs, IsFitReported, IsFitReportBegun};
+ghost use Rattle.netset_entries.specs.FittedLists.{IsFitReported, IsFitReportBegun};
 ghost use Rattle.netset_entries.specs.FittedLists.{exit_of_fit, fit_words};
 ghost use Rattle.netset_entries.specs.declared.fit.FitFailure.TheVariants.{NoList};
-ghost use Rattle.netset_lib.specs.Reports.{words_line, unwritable};
+ghost use Rattle.netset_lib.specs.Reports.{IsReportedAs, words_line, unwritable};
 ghost use Rattle.netset_lib.specs.Runs.{IsReported};
 
 use crate::fit::{FitFailure, FitRequest, Fitted, fit_text};
 use ipnet_sets::IpSet;
+use ipnet_text::Watched;
 use netset_lib::runs::{end_unwritable, end_with};
-use netset_lib::{Combination, Ended, combine, write_and_flush};
+use netset_lib::{Combination, combine, write_and_flush};
 use std::alloc::Global;
 use std::io::Write;
 
@@ -56,7 +58,7 @@ impl FitCommand {
 }
 
 /// Writes the networks of the command to `out`, one a line, and then on `faults` how many addresses they add. Returns
-/// how the run ended. If the line on `faults` cannot be written, the status is the same.
+/// the exit status. The report is whole, unless a write to `faults` has failed; the status is the same then.
 ///
 /// | Status | On `faults` | When |
 /// |---|---|---|
@@ -73,32 +75,28 @@ pub fn run_fit<W: Write, X: Write>(
     command: FitCommand,
     names: &[&str],
     out: &mut W,
-    faults: &mut X,
-) -> Ended
-    ensures status { result.status ≤ 2 }
-    ensures answered { result.status ≡ 0 → IsFitOutput command
-        (W.contents out.old) (W.contents out.new) (X.contents faults.old) (X.contents faults.new)
-        (IsTrue result.is_reported) }
-    ensures none { result.status ≡ 1 → Keeps (W.contents out.old) (W.contents out.new)
-        × IsFitReason command NoList
-        × IsReportedAs (words_line (fit_words NoList)) (X.contents faults.old) (X.contents faults.new)
-        (IsTrue result.is_reported) }
-    ensures cut_short { result.status ≡ 2 → (Keeps (W.contents out.old) (W.contents out.new)
+    faults: &mut Watched<'_, X>,
+) -> u8
+    ensures status { result ≤ 2 }
+    ensures answered { result ≡ 0 → IsFitOutput command (W.contents out.old) (W.contents out.new)
+        (X.contents (writer_of faults.old)) (X.contents (writer_of faults.new)) (¬ (HasFailed faults.new)) }
+    ensures none { result ≡ 1 → Keeps (W.contents out.old) (W.contents out.new)
+        × IsFitReason command NoList × IsReportedAs (words_line (fit_words NoList))
+        (X.contents (writer_of faults.old)) (X.contents (writer_of faults.new)) (¬ (HasFailed faults.new)) }
+    ensures cut_short { result ≡ 2 → (Keeps (W.contents out.old) (W.contents out.new)
         × IsReported (IsFitReason command) exit_of_fit IsFitReported IsFitReportBegun 2
-        (X.contents faults.old) (X.contents faults.new) (IsTrue result.is_reported))
+        (X.contents (writer_of faults.old)) (X.contents (writer_of faults.new)) (¬ (HasFailed faults.new)))
         ⊎ (IsFrontWritten (IsFitText command) (W.contents out.old) (W.contents out.new)
-        × IsReportedAs (words_line unwritable) (X.contents faults.old) (X.contents faults.new)
-        (IsTrue result.is_reported)) }
+        × IsReportedAs (words_line unwritable)
+        (X.contents (writer_of faults.old)) (X.contents (writer_of faults.new)) (¬ (HasFailed faults.new))) }
 {
     match command.answer() {
         Ok(fitted) => {
             if !write_and_flush(out, fitted.text.as_bytes()) {
                 return end_unwritable(faults);
             }
-            Ended {
-                status: 0,
-                is_reported: write_and_flush(faults, fitted.report.as_bytes()),
-            }
+            let _ = faults.put(fitted.report.as_bytes());
+            0
         }
         Err(why) => end_with(&why, names, faults),
     }

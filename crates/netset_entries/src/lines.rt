@@ -1,14 +1,19 @@
 //! Lines about entries, written piece by piece, so that an answer of any length takes little memory.
-ghost use Rattle.std.specs.Prelude.{◌≡◌, ◌++◌, OnOk, map};
+ghost use Rattle.std.specs.Prelude.{◌≡◌, ◌++◌, IsErr, OnOk, map};
+ghost use Rattle.ipnet_lists.specs.Reports.{ExplainsEntry, IsReport, IsReportBegun};
 ghost use Rattle.ipnet_text.specs.Outputs.{IsWritten, IsFrontWritten};
+ghost use Rattle.ipnet_text.specs.Watched.{writer_of, HasFailed};
 ghost use Rattle.netset_entries.specs.EntryTexts.{entry_line, entry_line_at};
 ghost use Rattle.netset_entries.specs.EntryLineOf.{numbered};
-ghost use Rattle.netset_entries.specs.WriteReports.{IsWriteReported};
+ghost use Rattle.netset_entries.specs.WriteFailures.{of_piece};
+ghost use Rattle.netset_entries.specs.WriteReports.{AreBothReported, IsWriteReport, IsWriteBegun};
 ghost use Rattle.netset_entries.specs.declared.lines.WriteFailure.TheVariants.{Memory, Unwritable};
 
 use crate::entry_list::EntryLine;
 use ipnet_lists::{RefusedLines, report_refused};
+use ipnet_text::Watched;
 use netset_lib::numbered::push_numbered;
+use netset_lib::piece_failure::PieceFailure;
 use netset_lib::reports::{OUT_OF_MEMORY, UNWRITABLE, report_words};
 use netset_lib::runs::Report;
 use std::alloc::AllocError;
@@ -31,6 +36,17 @@ impl From<AllocError> for WriteFailure {
 
     fn from(_: AllocError) -> WriteFailure {
         WriteFailure::Memory
+    }
+}
+
+impl From<PieceFailure> for WriteFailure {
+    ghost from_gives = { λ failure result. result ≡ of_piece failure };
+
+    fn from(failure: PieceFailure) -> WriteFailure {
+        match failure {
+            PieceFailure::Memory => WriteFailure::Memory,
+            PieceFailure::Unwritable => WriteFailure::Unwritable,
+        }
     }
 }
 
@@ -65,23 +81,37 @@ pub(crate) fn push_line_at(
     }
 }
 
+/// Reports the refused lines of two lists, which have these names: first those of the first list.
+fn report_both<X: Write>(
+    faults: &mut Watched<'_, X>,
+    names: &[&str],
+    first: &RefusedLines,
+    second: &RefusedLines,
+) -> io::Result<()>
+    ensures whole { OnOk result (IsWritten (AreBothReported (IsReport ExplainsEntry) names.now first.now second.now)
+        (X.contents (writer_of faults.old)) (X.contents (writer_of faults.new))) }
+    ensures front { IsFrontWritten (AreBothReported (IsReportBegun ExplainsEntry) names.now first.now second.now)
+        (X.contents (writer_of faults.old)) (X.contents (writer_of faults.new)) }
+    ensures failed { IsErr result → HasFailed faults.new }
+{
+    report_refused(faults, names, 0, first)?;
+    report_refused(faults, names, 1, second)
+}
+
 impl Report for WriteFailure {
     ghost exit = { λ _. 2 };
 
-    ghost is_reported = { λ failure _. IsWriteReported IsWritten failure };
+    ghost is_reported = { λ failure names. IsWritten (IsWriteReport failure names) };
 
-    ghost is_begun = { λ failure _. IsWriteReported IsFrontWritten failure };
+    ghost is_begun = { λ failure names. IsFrontWritten (IsWriteBegun failure names) };
 
     fn status(&self) -> u8 {
         2
     }
 
-    fn report<X: Write>(&self, names: &[&str], faults: &mut X) -> io::Result<()> {
+    fn report<X: Write>(&self, names: &[&str], faults: &mut Watched<'_, X>) -> io::Result<()> {
         match self {
-            WriteFailure::Refused(first, second) => {
-                report_refused(faults, names, 0, first)?;
-                report_refused(faults, names, 1, second)
-            }
+            WriteFailure::Refused(first, second) => report_both(faults, names, first, second),
             WriteFailure::Memory => report_words(faults, OUT_OF_MEMORY),
             WriteFailure::Unwritable => report_words(faults, UNWRITABLE),
         }

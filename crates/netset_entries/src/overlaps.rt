@@ -19,13 +19,13 @@ ghost use Rattle.ipnet_lists.specs.EntryOf.{entry_range};
 ghost use Rattle.ipnet_text.specs.Outputs.{IsWritten, IsFrontWritten};
 
 use crate::entry_list::EntryLine;
-use crate::lines::WriteFailure;
 use crate::runs::runs_of;
 use crate::span::{Family, Span, span_of, spans_of};
 use ipnet::IpAddr;
 use ipnet_lists::{Entry, ip_addr_text};
 use ipnet_text::write_whole;
 use netset_lib::numbered::push_numbered;
+use netset_lib::piece_failure::PieceFailure;
 use netset_lib::write::write_if_long;
 use std::alloc::{AllocError, Global};
 use std::io::Write;
@@ -152,7 +152,7 @@ fn put_pair<W: Write>(
     asked: &Asked<'_>,
     one: &Span,
     other: &Span,
-) -> Result<bool, WriteFailure>
+) -> Result<bool, PieceFailure>
     requires placed { (f : addresses.Family) × IsPlaced (map numbered asked.now.entries.items) f one.now
         × IsPlaced (map numbered asked.now.entries.items) f other.now }
     ensures whole { let more = asked_pairs (map numbered asked.now.entries.items) asked.now.count one.now
@@ -189,7 +189,7 @@ fn put_met<W: Write>(
     asked: &Asked<'_>,
     span: &Span,
     others: (&[Span], &[usize]),
-) -> Result<bool, WriteFailure>
+) -> Result<bool, PieceFailure>
     requires placed { (f : addresses.Family) × IsPlaced (map numbered asked.now.entries.items) f span.now
         × All (IsPlaced (map numbered asked.now.entries.items) f) others.0.now }
     requires runs { AreRuns asked.now.count others.0.now others.1.now }
@@ -231,7 +231,7 @@ fn put_pairs<W: Write>(
     asked: &Asked<'_>,
     spans: &[Span],
     runs: &[usize],
-) -> Result<bool, WriteFailure>
+) -> Result<bool, PieceFailure>
     requires spans { (f : addresses.Family) × AreAllSpans (map numbered asked.now.entries.items) f spans.now }
     requires runs { AreRuns asked.now.count spans.now runs.now }
     ensures whole { let more = pairs_of (map numbered asked.now.entries.items) asked.now.count spans.now in
@@ -301,7 +301,7 @@ pub(crate) fn write_overlaps<W: Write>(
     out: &mut W,
     alloc: Global,
     asked: &Asked<'_>,
-) -> Result<bool, WriteFailure>
+) -> Result<bool, PieceFailure>
     ensures whole { IsOk result → IsWritten (IsOverlapText (map numbered asked.now.entries.items) asked.now.count)
         (W.contents out.old) (W.contents out.new) }
     ensures some { result ≡ Ok true → HasOverlap (map numbered asked.now.entries.items) asked.now.count }

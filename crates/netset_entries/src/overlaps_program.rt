@@ -1,7 +1,8 @@
 //! The command `overlaps` of the program.
-ghost use Rattle.std.specs.Prelude.{◌≡◌, ◌++◌, Some, IfOk, length, ⊤};
+ghost use Rattle.std.specs.Prelude.{◌≡◌, ◌++◌, Some, IfOk, IfErr, length};
 ghost use Rattle.netset_entries.specs.EntryLineOf.{AreAsked};
 ghost use Rattle.netset_entries.specs.Overlaps.{HoldsOfLists, IsOverlapText, IsOverlapOutcome};
+ghost use Rattle.netset_entries.specs.WriteFailures.{IsListsFailure};
 
 use crate::entry_list::{EntryLine, entry_list};
 use crate::lines::WriteFailure;
@@ -33,7 +34,8 @@ fn asked_of<'a>(
     other: Option<&'a [u8]>,
     grammar: Grammar,
 ) -> Result<Asked<'a>, WriteFailure>
-    ensures { IfOk result (AreAsked grammar list.now other.entry) }
+    ensures asked { IfOk result (AreAsked grammar list.now other.entry) }
+    ensures failed { IfErr result (IsListsFailure grammar list.now other.entry) }
 {
     let first = entry_list(alloc, list, grammar)?;
     let Some(other) = other else {
@@ -89,13 +91,13 @@ impl<'a> Command for OverlapsCommand<'a> {
 
     ghost is_outcome = { λ c none. HoldsOfLists c.grammar c.list.now c.other (IsOverlapOutcome none) };
 
-    ghost is_failure = { λ _ _. ⊤ };
+    ghost is_failure = { λ c. IsListsFailure c.grammar c.list.now c.other };
 
     fn write<W: Write>(self, out: &mut W) -> Result<bool, WriteFailure> {
         let asked = asked_of(self.alloc, self.list, self.other, self.grammar)?;
         match write_overlaps(out, self.alloc, &asked) {
             Ok(some) => Ok(!some),
-            Err(failure) => Err(failure),
+            Err(failure) => Err(WriteFailure::from(failure)),
         }
     }
 }

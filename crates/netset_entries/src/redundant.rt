@@ -10,10 +10,11 @@ ghost use Rattle.ipnet_text.specs.Outputs.{IsWritten, IsFrontWritten};
 ghost use Rattle.netset_entries.specs.EntryLineOf.{numbered};
 
 use crate::entry_list::EntryLine;
-use crate::lines::{WriteFailure, push_line_at};
+use crate::lines::push_line_at;
 use crate::redundancy::{Covered, Kept};
 use crate::span::Span;
 use ipnet_text::write_whole;
+use netset_lib::piece_failure::PieceFailure;
 use netset_lib::write::write_if_long;
 use std::alloc::Global;
 use std::io::Write;
@@ -24,7 +25,7 @@ fn put_covering<W: Write>(
     piece: &mut Vec<u8>,
     lines: &[EntryLine<'_>],
     index: usize,
-) -> Result<(), WriteFailure>
+) -> Result<(), PieceFailure>
     ensures whole { let line = codes "  " ++ entry_line_at (map numbered lines.now) index in
         OnOk result (IsInPieces (W.contents out.old) (W.contents out.new) piece.new.items (piece.old.items ++ line)) }
     ensures front { let line = codes "  " ++ entry_line_at (map numbered lines.now) index in
@@ -42,7 +43,7 @@ fn put_witness<W: Write>(
     piece: &mut Vec<u8>,
     lines: &[EntryLine<'_>],
     spans: &[Span],
-) -> Result<(), WriteFailure>
+) -> Result<(), PieceFailure>
     ensures whole { let text = witness_lines (map numbered lines.now) (map (λ s. s.place) spans.now) in
         OnOk result (IsInPieces (W.contents out.old) (W.contents out.new) piece.new.items (piece.old.items ++ text)) }
     ensures front { let text = witness_lines (map numbered lines.now) (map (λ s. s.place) spans.now) in
@@ -62,7 +63,7 @@ fn put_dropped<W: Write>(
     lines: &[EntryLine<'_>],
     index: usize,
     spans: &[Span],
-) -> Result<(), WriteFailure>
+) -> Result<(), PieceFailure>
     ensures whole { let text = entry_line_at (map numbered lines.now) index
         ++ witness_lines (map numbered lines.now) (map (λ s. s.place) spans.now) in
         OnOk result (IsInPieces (W.contents out.old) (W.contents out.new) piece.new.items (piece.old.items ++ text)) }
@@ -83,7 +84,7 @@ pub(crate) fn write_dropped<W: Write>(
     lines: &[EntryLine<'_>],
     kept: &Kept,
     covered: &[Covered],
-) -> Result<(), WriteFailure>
+) -> Result<(), PieceFailure>
     requires { IsCoveredWithin kept.now covered.now }
     ensures whole { let dropped = map (dropped_of kept.now.ipv4.items kept.now.ipv6.items) covered.now in
         OnOk result (Appends (W.contents out.old) (W.contents out.new)
@@ -107,7 +108,7 @@ pub(crate) fn write_redundant<W: Write>(
     out: &mut W,
     alloc: Global,
     lines: &[EntryLine<'_>],
-) -> Result<bool, WriteFailure>
+) -> Result<bool, PieceFailure>
     ensures whole { IsOk result
         → IsWritten (IsRedundantText (map numbered lines.now)) (W.contents out.old) (W.contents out.new) }
     ensures some { result ≡ Ok true → HasDropped (map numbered lines.now) }

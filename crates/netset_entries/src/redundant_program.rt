@@ -1,7 +1,7 @@
 //! The command `redundant` of the program.
-ghost use Rattle.std.specs.Prelude.{⊤};
 ghost use Rattle.netset_entries.specs.NumberedEntries.{HoldsOfEntries};
 ghost use Rattle.netset_entries.specs.Redundancy.{IsRedundantAnswer, IsRedundantOutcome};
+ghost use Rattle.netset_entries.specs.WriteFailures.{IsListFailure};
 
 use crate::entry_list::entry_list;
 use crate::lines::WriteFailure;
@@ -47,7 +47,7 @@ impl<'a> Command for RedundantCommand<'a> {
 
     ghost is_outcome = { λ c none. HoldsOfEntries c.grammar c.list.now (IsRedundantOutcome none) };
 
-    ghost is_failure = { λ _ _. ⊤ };
+    ghost is_failure = { λ c. IsListFailure c.grammar c.list.now };
 
     fn write<W: Write>(self, out: &mut W) -> Result<bool, WriteFailure> {
         let read = entry_list(self.alloc, self.list, self.grammar)?;
@@ -57,7 +57,7 @@ impl<'a> Command for RedundantCommand<'a> {
         match write_redundant(out, self.alloc, read.entries.as_slice()) {
             Ok(true) => Ok(false),
             Ok(false) => Ok(true),
-            Err(failure) => Err(failure),
+            Err(failure) => Err(WriteFailure::from(failure)),
         }
     }
 }

@@ -191,6 +191,7 @@ impl<L: ListReader> Lists<L> {
     pub fn new(reader: L, reports: Reports) -> Lists<L>
         ensures reader { result.reader ≡ reader }
         ensures reports { result.reports ≡ reports }
+        ensures allowed { IsTrue result.allowed }
     {
         Lists {
             reader,
@@ -291,6 +292,10 @@ impl<L: ListReader> Lists<L> {
         ensures file { IfNone entries (IfOk result (λ r. L.reads None None self.reader r.1 r.0.reader)) }
         ensures entries { IfSome entries (λ text. IfOk result (λ r. (after : Left)
             × L.reads (Some (string_bytes text)) after self.reader r.1 r.0.reader)) }
+        ensures allowed { IfNone entries (IfOk result (λ r. IsTrue r.0.allowed ↔ (IsTrue self.allowed
+            × MayBeAsItIs L.holds L.refused self.reports name.now self.reader r.0.reader))) }
+        ensures entries_allowed { IfSome entries (λ text. IfOk result (λ r. IsTrue r.0.allowed
+            ↔ MayBeAsItIs L.holds L.refused self.reports entry_list self.reader r.0.reader)) }
         ensures reports { IfOk result (λ r. r.0.reports ≡ self.reports) }
         ensures failed { IfErr result (λ status. status ≡ 2) }
     {

@@ -1,12 +1,14 @@
 //! The output of a command: standard output, or a file that only a whole answer replaces.
 ghost use Rattle.std.specs.Prelude.{◌≡◌, ◌≢◌, ◌≤◌, ◌⊎◌, ◌↔◌, true, false, IfOk, IfErr, IsTrue};
 ghost use Rattle.std.specs.Option.{option_map};
+ghost use Rattle.ipnet_text.specs.Watched.{HasFailed};
 ghost use Rattle.netset_files.specs.Outputs.{IsFile, IsNamedFile};
 ghost use Rattle.netset_files.specs.Statuses.{IsUsualStatus};
 
 use crate::input::{ERROR_STREAM, Input, OUTPUT_STREAM};
 use crate::lists::Reports;
 use crate::replacement::{OutputFailure, Replacement};
+use ipnet_text::Watched;
 use netset_lib::{Output, finish};
 use std::cell::Cell;
 use std::io;
@@ -144,6 +146,14 @@ pub struct Faults<'a> {
     ends: &'a Ends,
 }
 
+impl<'a> Faults<'a> {
+    /// Standard error, until `ends` notes the end of the output.
+    pub fn new(rt: &HostRuntime, ends: &'a Ends) -> Faults<'a> {
+        let err = rt.stderr();
+        Faults { err, ends }
+    }
+}
+
 impl Write for Faults<'_> {
     fn write(&mut self, buf: &[u8]) -> io::Result<usize> {
         if self.ends.is_over() {
@@ -161,27 +171,29 @@ impl Write for Faults<'_> {
 #[derive(Drop)]
 pub struct Writers<'a> {
     pub answer: AnswerWriter<'a>,
-    pub faults: Faults<'a>,
+    pub faults: Watched<'a, Faults<'a>>,
     pub reports: Reports,
     /// Whether bad lines were skipped.
     pub skipped: bool,
 }
 
 impl<'a> Writers<'a> {
-    /// Opens the output of this name: standard output if there is no name or it is "-", and otherwise a file.
-    /// `ends` notes what ends the output early.
+    /// Opens the output of this name: standard output if there is no name or it is "-", and otherwise a file. `faults`
+    /// gets the reports.
     #[inline(never)]
     pub fn open(
         rt: &HostRuntime,
         name: Option<&'a str>,
         reports: Reports,
-        ends: &'a Ends,
+        faults: &'a mut Faults<'a>,
     ) -> Result<Writers<'a>, OutputFailure>
         ensures file { IfOk result (λ writers. IsFile writers.answer.destination
             ↔ IsNamedFile (option_map (λ text. text.now) name.entry)) }
         ensures answer { IfOk result (λ writers. writers.answer.is_withheld ≡ false) }
+        ensures unpublished { IfOk result (λ writers. writers.answer.is_published ≡ false) }
         ensures reports { IfOk result (λ writers. writers.reports ≡ reports) }
         ensures skipped { IfOk result (λ writers. writers.skipped ≡ false) }
+        ensures sound { IfOk result (λ writers. ¬ (HasFailed writers.faults)) }
     {
         let destination = match name {
             Some(name) if name != STANDARD_OUTPUT => Destination::File(Replacement::open(
@@ -193,12 +205,11 @@ impl<'a> Writers<'a> {
             destination,
             is_published: false,
             is_withheld: false,
-            ends,
+            ends: faults.ends,
         };
-        let err = rt.stderr();
         Ok(Writers {
             answer,
-            faults: Faults { err, ends },
+            faults: Watched::new(faults),
             reports,
             skipped: false,
         })
@@ -231,27 +242,24 @@ impl<'a> Writers<'a> {
     /// Ends a command with this status, and returns the exit status of the program. The file is replaced at status 0
     /// or 1, if the command has an answer; otherwise it stays as it is.
     #[inline(never)]
-    pub fn end(self, status: u8) -> u8
+    pub fn end(&mut self, status: u8) -> u8
         ensures usual { status ≤ 2 → IsUsualStatus result }
         ensures kept { (result ≡ status) ⊎ ((result ≡ 141) ⊎ ((status ≤ 1) × (result ≡ 2))) }
-        ensures withheld { self.entry.answer.is_withheld ≡ true → (result ≡ status) ⊎ (result ≡ 141) }
+        ensures withheld { self.old.answer.is_withheld ≡ true → (result ≡ status) ⊎ (result ≡ 141) }
+        ensures published { self.old.answer.is_withheld ≡ false → self.old.answer.is_published ≡ false
+            → result ≤ 1 → IsTrue self.new.answer.is_published }
     {
-        let Writers {
-            mut answer,
-            mut faults,
-            ..
-        } = self;
-        let status = if answer.is_withheld {
+        let status = if self.answer.is_withheld {
             status
         } else {
-            finish(status, &mut answer, &mut faults)
+            finish(status, &mut self.answer, &mut self.faults)
         };
-        if let Destination::File(file) = &answer.destination {
-            if !answer.is_published {
+        if let Destination::File(file) = &self.answer.destination {
+            if !self.answer.is_published {
                 file.discard();
             }
         }
-        if answer.ends.closed.get() {
+        if self.answer.ends.closed.get() {
             return CLOSED;
         }
         status

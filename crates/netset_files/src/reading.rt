@@ -1,5 +1,6 @@
 //! Lists that are read with a report if that fails.
-ghost use Rattle.std.specs.Prelude.{◌≡◌, ◌≢◌, ◌↔◌, string_bytes, IsTrue, IfSome, IfOk, IfErr};
+ghost use Rattle.std.specs.Prelude.{◌≡◌, ◌≢◌, ◌↔◌, string_bytes, IsTrue, IsOk, IfSome, IfOk, IfErr};
+ghost use Rattle.netset_files.specs.Files.{entry_list};
 ghost use Rattle.netset_files.specs.LineBytes.{MayHaveLines};
 ghost use Rattle.netset_files.specs.declared.lists.Empties.TheVariants.{Refuse};
 
@@ -66,6 +67,7 @@ pub fn bytes_with_entries(
     reports: Reports,
 ) -> Result<Vec<u8>, u8>
     ensures bytes { IfSome entries (λ text. IfOk result (λ bytes. bytes.items ≡ string_bytes text)) }
+    ensures exact { IfSome entries (λ text. IsOk result ↔ MayHaveLines reports entry_list (string_bytes text)) }
     ensures failed { IfErr result (λ status. status ≡ 2) }
 {
     let Some(entries) = entries else {

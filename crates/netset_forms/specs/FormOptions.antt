@@ -115,6 +115,16 @@ AreGoodBoth form options = IfSome options.sets.ipv4 (λ ipv4. IfSome options.set
     (form ≡ Nft → ipv4.now ≢ ipv6.now) × (form ≡ Ipset → AreApart ipv4.now ipv6.now)
     × (form ≡ Bird → ipv4.now ≢ ipv6.now)))
 
+-- The flag `only` of one family leaves the other family out of the answer, since `other`, its own flag, is not set.
+abbrev pub LeavesOut : (only other : Bool) → Type 0
+LeavesOut only other = (only ≡ true) × (other ≡ false)
+
+-- A set has a name, and its family is left out of the answer: its commands would only empty it.
+-- Example: `-4` with `--ipv6-set b`.
+abbrev pub HasOtherFamily : FormOptions → Type 0
+HasOtherFamily options = (IsSome options.sets.ipv6 × LeavesOut options.ipv4_only options.ipv6_only)
+    ⊎ (IsSome options.sets.ipv4 × LeavesOut options.ipv6_only options.ipv4_only)
+
 -- The rules that the options ask for: each of the chain's own, with one family; or the form is another.
 abbrev pub AreRulesOf : FormName → FormOptions → ChainRules → Type 0
 AreRulesOf form options rules =
@@ -160,6 +170,7 @@ pub record IsRequestOf (options : FormOptions) (request : FormRequest) : Type 0 
   pub ipv4 : IsGoodName name options.sets.ipv4
   pub ipv6 : IsGoodName name options.sets.ipv6
   pub both : AreGoodBoth name options
+  pub shown : ¬ (HasOtherFamily options)
 
 -- This is a reason why the options of this form do not go together.
 abbrev pub IsFormFault : FormName → FormOptions → FormFault → Type 0
@@ -186,6 +197,7 @@ IsFormFault form options Faults.OneSet =
     IsSomeAnd options.sets.ipv4 (λ ipv4. IsSomeAnd options.sets.ipv6 (λ ipv6. ¬ (ipv4.now ≢ ipv6.now)))
 IsFormFault form options Faults.NewSet = (form ≡ Ipset)
     × IsSomeAnd options.sets.ipv4 (λ ipv4. IsSomeAnd options.sets.ipv6 (λ ipv6. ¬ (AreApart ipv4.now ipv6.now)))
+IsFormFault form options Faults.OtherFamily = HasOtherFamily options
 IsFormFault form options Faults.OtherChain =
     (form ≢ Iptables) × (IsSome options.chain ⊎ IsSome options.target)
 IsFormFault form options Faults.NoChain = (form ≡ Iptables) × ((options.chain ≡ None) ⊎ (options.target ≡ None))
@@ -221,4 +233,5 @@ fault_value Faults.Sets = None
 fault_value Faults.NoSet = None
 fault_value Faults.OneSet = None
 fault_value Faults.NewSet = None
+fault_value Faults.OtherFamily = None
 fault_value Faults.OtherMaxelem = None

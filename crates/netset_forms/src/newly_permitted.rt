@@ -17,6 +17,7 @@ use crate::write::write_form;
 use ipnet_lists::{ListFailure, Refusals, report_refused};
 use ipnet_rules::Action;
 use ipnet_sets::IpSet;
+use ipnet_text::Watched;
 use netset_lib::reports::{OUT_OF_MEMORY, report_words};
 use netset_lib::runs::Report;
 use netset_lib::{Command, Fault, RuleCause, RuleList};
@@ -45,7 +46,7 @@ impl Report for RulePairFailure {
         2
     }
 
-    fn report<X: Write>(&self, names: &[&str], faults: &mut X) -> io::Result<()> {
+    fn report<X: Write>(&self, names: &[&str], faults: &mut Watched<'_, X>) -> io::Result<()> {
         match self {
             RulePairFailure::First(lines) => report_refused(faults, names, 0, lines),
             RulePairFailure::Second(lines) => report_refused(faults, names, 1, lines),

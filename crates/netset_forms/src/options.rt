@@ -4,6 +4,7 @@ ghost use Rattle.std.specs.List.{list_any};
 ghost use Rattle.netset_forms.specs.FormOptions.{form_text, HasLines, HasSets, HasNames, IsMaxelem, IsRequestOf};
 ghost use Rattle.netset_forms.specs.FormOptions.{IsFormNamed, IsFormOf, IsMostElements, IsMinLength, IsGoodText};
 ghost use Rattle.netset_forms.specs.FormOptions.{AreGoodSets, IsGoodName, AreGoodBoth, AreRulesOf, IsFormFault};
+ghost use Rattle.netset_forms.specs.FormOptions.{HasOtherFamily};
 ghost use Rattle.netset_forms.specs.FormOptions.{fault_value, is_line_break};
 ghost use Rattle.netset_forms.specs.declared.options.FormName.{FormName};
 ghost use Rattle.netset_forms.specs.declared.options.FormName.TheVariants.{Iptables};
@@ -113,6 +114,9 @@ pub enum FormFault<'a> {
     /// One of the sets of ipset has the name of the other's new set.
     #[error("one of --ipv4-set and --ipv6-set is the other with .new, the name of its new set")]
     NewSet,
+    /// A set has a name, and only the other family is asked for.
+    #[error("-4 leaves --ipv6-set empty, and -6 --ipv4-set: name only the set of that family")]
+    OtherFamily,
     /// A chain or a target, and the form is another.
     #[error("--chain and --target are for the format iptables")]
     OtherChain,
@@ -354,6 +358,18 @@ impl<'a> FormOptions<'a> {
         }
     }
 
+    /// Refuses the name of a set whose family is left out: its commands would only empty it.
+    fn check_families(self, form: FormName) -> Result<(), FormFault<'a>>
+        ensures good { OnOk result (¬ (HasOtherFamily self.entry)) }
+        ensures fault { IfErr result (IsFormFault form self.entry) }
+    {
+        match (self.ipv4_only, self.ipv6_only) {
+            (true, false) if self.sets.ipv6.is_some() => Err(FormFault::OtherFamily),
+            (false, true) if self.sets.ipv4.is_some() => Err(FormFault::OtherFamily),
+            _ => Ok(()),
+        }
+    }
+
     /// The rules of the chain that the options of iptables name.
     fn chain_rules(self) -> Result<ChainRules<'a>, FormFault<'a>>
         ensures good { IfOk result (AreRulesOf Iptables self.entry) }
@@ -421,6 +437,7 @@ impl<'a> FormOptions<'a> {
     /// --format json --min-length 24:    Json, of prefix lengths from 24
     /// --format json --prefix x:         Err(Prefix)
     /// --format iptables --chain x:      Err(NoChain)
+    /// --format nft -4 --ipv6-set x:     Err(OtherFamily)
     /// ```
     pub fn request(self) -> Result<FormRequest<'a>, FormFault<'a>>
         ensures request { IfOk result (IsRequestOf self.entry) }
@@ -436,6 +453,7 @@ impl<'a> FormOptions<'a> {
         self.check_name(name, self.sets.ipv4)?;
         self.check_name(name, self.sets.ipv6)?;
         self.check_both(name)?;
+        self.check_families(name)?;
         let rules = self.rules(name)?;
         Ok(FormRequest {
             form: self.form(name, most, rules),

@@ -18,6 +18,7 @@ use crate::form::{FormFailure, FormRequest};
 use crate::write::write_form;
 use ipnet_lists::ListFailure;
 use ipnet_rules::Action;
+use ipnet_text::Watched;
 use netset_lib::reports::report_words;
 use netset_lib::runs::Report;
 use netset_lib::{Combination, Command, Failure, Fault, RuleCause, RuleList, combine};
@@ -36,7 +37,7 @@ impl Report for FormFailure {
         2
     }
 
-    fn report<X: Write>(&self, _: &[&str], faults: &mut X) -> io::Result<()> {
+    fn report<X: Write>(&self, _: &[&str], faults: &mut Watched<'_, X>) -> io::Result<()> {
         report_words(faults, self.to_words().as_str())
     }
 }

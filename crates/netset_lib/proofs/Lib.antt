@@ -2,6 +2,7 @@
 pub mod LengthTexts
 pub mod PlanLaws
 pub mod RunLaws
+pub mod StepLaws
 pub mod ChangeLaws
 pub mod ListingLaws
 pub mod OperationLaws

@@ -47,4 +47,5 @@ pub mod TextReasons
 pub mod TextReplies
 pub mod Reports
 pub mod ListReports
+pub mod StepReports
 pub mod Reasons

@@ -1,17 +1,19 @@
 -- The reports of lists with a report of their own: lists of other lines than entries, and a table with its list.
 use Rattle.std.specs.Prelude.{◌≡◌, ◌-◌, ℕ, List, Option, drop, length}
 use Rattle.ipnet_lists.specs.Lists.{Refusal, RefusalFor}
-use Rattle.ipnet_lists.specs.Names.{Names}
-use Rattle.ipnet_lists.specs.Reports.{ExplainsEntry, OfNew, IsReport, IsReportBegun}
+use Rattle.ipnet_lists.specs.Names.{Names, name_at}
+use Rattle.ipnet_lists.specs.Reports.{ExplainsEntry, OfNew, IsReport, IsReportBegun, read_words}
 use Rattle.ipnet_lists.specs.declared.content_line.ListFailure.{ListFailure}
 use Rattle.ipnet_lists.specs.declared.content_line.ListFailure.TheVariants as Lists
 use Rattle.netset_lib.specs.Reasons.{Explains, prefix_reason, network_reason, no_network, no_prefix_rule}
-use Rattle.netset_lib.specs.Reports.{choice_words, memory_line, words_line}
+use Rattle.netset_lib.specs.Reports.{choice_words, memory_line, named_line, unwritable, words_line}
 use Rattle.netset_lib.specs.TextReasons.{ExplainsTextLine}
 use Rattle.netset_lib.specs.declared.network_entry.NetworkCause.{NetworkCause}
 use Rattle.netset_lib.specs.declared.prefix_answer.PrefixFailure.{PrefixFailure}
 use Rattle.netset_lib.specs.declared.prefix_answer.PrefixFailure.TheVariants as Prefixes
 use Rattle.netset_lib.specs.declared.prefix_line.PrefixCause.{PrefixCause}
+use Rattle.netset_lib.specs.declared.stream.StreamFailure.{StreamFailure}
+use Rattle.netset_lib.specs.declared.stream.StreamFailure.TheVariants as Streams
 use Rattle.netset_lib.specs.declared.text_line.NotTextLine.{NotTextLine}
 use Rattle.netset_lib.specs.declared.text_route.TextFailure.{TextFailure}
 use Rattle.netset_lib.specs.declared.text_route.TextFailure.TheVariants as Texts
@@ -47,7 +49,7 @@ abbrev pub ExplainsNetwork : NetworkCause → List ℕ → List ℕ → Option (
 ExplainsNetwork = Explains no_network network_reason
 
 -- The text reports why a prefix list has no verdicts. For refused lines of the prefix list, `IsFirst` says so of the
--- kept ones and the number of the others, and `IsSecond` for those of the list of networks.
+-- kept ones and the number of the others, and `IsSecond` for the refused lines of the list of networks.
 abbrev pub IsVerdictText : (List (RefusalFor PrefixCause) → ℕ → List ℕ → Type 0)
     → (List (RefusalFor NetworkCause) → ℕ → List ℕ → Type 0) → PrefixFailure → List ℕ → Type 0
 IsVerdictText IsFirst IsSecond (Prefixes.Prefixes lines) text = OfNew IsFirst lines 0 0 text
@@ -68,7 +70,7 @@ IsVerdictBegun failure names text =
     IsVerdictText (IsReportBegun ExplainsPrefix names) (IsReportBegun ExplainsNetwork (drop 1 names)) failure text
 
 -- The text reports why a table with texts has no answers. For refused lines of the table, `IsFirst` says so of the kept
--- ones and the number of the others, and `IsSecond` for those of the list.
+-- ones and the number of the others, and `IsSecond` for the refused lines of the list.
 abbrev pub IsRouteText : (List (RefusalFor NotTextLine) → ℕ → List ℕ → Type 0)
     → (List Refusal → ℕ → List ℕ → Type 0) → TextFailure → List ℕ → Type 0
 IsRouteText IsFirst IsSecond (Texts.Table lines) text = OfNew IsFirst lines 0 0 text
@@ -86,3 +88,20 @@ IsRouteReport failure names text =
 abbrev pub IsRouteBegun : TextFailure → Names → List ℕ → Type 0
 IsRouteBegun failure names text =
     IsRouteText (IsReportBegun ExplainsTextLine names) (IsReportBegun ExplainsEntry (drop 1 names)) failure text
+
+-- The text reports why a stream ended before the end of its list. For refused lines of the first list, `Is` says so of
+-- the kept ones and the number of the others. The last name is of the list.
+abbrev pub IsStreamText : (List Refusal → ℕ → List ℕ → Type 0) → StreamFailure → Names → List ℕ → Type 0
+IsStreamText Is (Streams.Start lines) names text = OfNew Is lines 0 0 text
+IsStreamText Is (Streams.Read failure) names text =
+    text ≡ named_line (name_at names (length names - 1)) (read_words failure)
+IsStreamText Is Streams.Unwritable names text = text ≡ words_line unwritable
+
+-- The text is the report of why a stream ended before the end of its list.
+-- Example: `netset: b: cannot be read`.
+abbrev pub IsStreamReport : StreamFailure → Names → List ℕ → Type 0
+IsStreamReport failure names text = IsStreamText (IsReport ExplainsEntry names) failure names text
+
+-- The text is the first lines of that report, perhaps all.
+abbrev pub IsStreamBegun : StreamFailure → Names → List ℕ → Type 0
+IsStreamBegun failure names text = IsStreamText (IsReportBegun ExplainsEntry names) failure names text

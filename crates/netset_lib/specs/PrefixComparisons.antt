@@ -1,20 +1,19 @@
 -- The comparison of two prefix lists: the first network that only one of them permits.
 use Rattle.std.specs.Prelude.{◌≡◌, ◌↔◌, ◌⊎◌, ◌∷◌, ◌++◌, ℕ, List, [], Bool, IsTrue, Option, codes, drop}
-use Rattle.std.specs.List.{concat}
 use Rattle.ipnet_base.specs.Network.{Network}
 use Rattle.ipnet.specs.CanonicalTexts.{canonical_text}
 use Rattle.ipnet.specs.declared.parser.Grammar.{Grammar}
 use Rattle.ipnet_lists.specs.Lists.{RefusalFor}
 use Rattle.ipnet_lists.specs.Names.{Names, name_at}
 use Rattle.ipnet_lists.specs.RefusedLines.{AreRefused}
-use Rattle.ipnet_lists.specs.Reports.{OfNew, IsReport, IsReportBegun, escaped}
+use Rattle.ipnet_lists.specs.Reports.{OfNew, IsReport, IsReportBegun}
 use Rattle.ipnet_rules.specs.PrefixLists.{IsFirstDifference, IsPermittedByOne, IsRoutePermitted}
 use Rattle.ipnet_rules.specs.PrefixLists.{PermitSameRoutes}
 use Rattle.ipnet_rules.specs.declared.prefix_list.PrefixRule.{PrefixRule}
 use Rattle.netset_lib.specs.ListReports.{ExplainsPrefix}
 use Rattle.netset_lib.specs.PrefixAnswers.{HasRefusedPrefixes}
 use Rattle.netset_lib.specs.PrefixEntries.{PrefixEntry, ArePrefixEntries, AreRulesOf, IsChoiceFault}
-use Rattle.netset_lib.specs.Reports.{choice_words, memory_line}
+use Rattle.netset_lib.specs.Reports.{choice_words, memory_line, named_line}
 use Rattle.netset_lib.specs.declared.prefix_compare.PrefixCompareFailure.{PrefixCompareFailure}
 use Rattle.netset_lib.specs.declared.prefix_compare.PrefixCompareFailure.TheVariants as Failures
 use Rattle.netset_lib.specs.declared.prefix_line.PrefixCause.{PrefixCause}
@@ -82,12 +81,6 @@ abbrev pub IsCompareFailure : Grammar → Option (List ℕ) → List ℕ → Lis
 IsCompareFailure grammar name first second failure = IsListFault grammar first name 0 failure
     ⊎ (((rules : List PrefixRule) × HasListRules grammar first name rules)
     × IsListFault grammar second name 1 failure)
-
--- The line that reports these words about the list of this name.
--- Example: `netset: a: some rules have a sequence number, and others have none`.
-abbrev pub named_line : List ℕ → List ℕ → List ℕ
-named_line name words =
-    concat (codes "netset: " ∷ escaped name ∷ codes ": " ∷ words ∷ (10 ∷ []) ∷ [])
 
 -- The text reports why two lists are not compared. For refused lines of the list with this index, `Is` says so of the
 -- kept ones and the number of the others.

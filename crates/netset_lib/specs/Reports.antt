@@ -1,6 +1,10 @@
 -- The reports of failures, as they are on standard error.
-use Rattle.std.specs.Prelude.{ℕ, List, [], ◌∷◌, ◌++◌, codes, decimal}
+use Rattle.std.specs.Prelude.{◌≡◌, ℕ, List, [], ◌∷◌, ◌++◌, codes, decimal, Option}
 use Rattle.std.specs.List.{concat}
+use Rattle.ipnet.specs.CanonicalTexts.{canonical_text}
+use Rattle.ipnet_base.specs.Network.{Network}
+use Rattle.ipnet_lists.specs.Reports.{escaped}
+use Rattle.ipnet_text.specs.Outputs.{IsWritten, IsFrontWritten}
 use Rattle.netset_lib.specs.declared.failure.Failure.{Failure}
 use Rattle.netset_lib.specs.declared.failure.Failure.TheVariants as Failures
 use Rattle.netset_lib.specs.declared.prefix_choice.ChoiceFault.{ChoiceFault}
@@ -11,6 +15,29 @@ use Rattle.netset_lib.specs.declared.piece_failure.PieceFailure.TheVariants as P
 -- The line that reports these words. Example: `netset: out of memory`, and a line feed (10).
 abbrev pub words_line : List ℕ → List ℕ
 words_line words = concat (codes "netset: " ∷ words ∷ (10 ∷ []) ∷ [])
+
+-- The line that reports these words about the list of this name.
+-- Example: `netset: a: some rules have a sequence number, and others have none`.
+abbrev pub named_line : List ℕ → List ℕ → List ℕ
+named_line name words =
+    concat (codes "netset: " ∷ escaped name ∷ codes ": " ∷ words ∷ (10 ∷ []) ∷ [])
+
+-- The line that reports these words, and a reason in the words of the system.
+-- Example: `netset: output cannot be written: No space left on device (os error 28)`.
+abbrev pub IsReasonLine : List ℕ → List ℕ → Type 0
+IsReasonLine words line = (reason : List ℕ)
+    × (line ≡ concat (codes "netset: " ∷ words ∷ codes ": " ∷ reason ∷ (10 ∷ []) ∷ []))
+
+-- The line that reports that a network has no subnet of this prefix length.
+-- Example: `netset: /7: no subnet of 10.0.0.0/8 has this prefix length`.
+abbrev pub no_subnet_line : Network → ℕ → List ℕ
+no_subnet_line network prefix_len = concat (codes "netset: /" ∷ decimal prefix_len ∷ codes ": no subnet of "
+    ∷ canonical_text network ∷ (codes " has this prefix length" ++ 10 ∷ []) ∷ [])
+
+-- A front of this report was written, perhaps all; all of it, if `IsSure`.
+abbrev pub IsReportedAs : List ℕ → Option (List ℕ) → Option (List ℕ) → (IsSure : Type 0) → Type 0
+IsReportedAs report held held_after IsSure =
+    IsFrontWritten (λ t. t ≡ report) held held_after × (IsSure → IsWritten (λ t. t ≡ report) held held_after)
 
 -- The words of a prefix length that is too long for its family. Example: `/33: the prefix length is above 32`.
 abbrev pub long_words : ℕ → ℕ → List ℕ

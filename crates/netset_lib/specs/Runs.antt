@@ -1,21 +1,28 @@
 -- Runs of the commands of the program `netset`.
 use Rattle.std.specs.Prelude.{◌≡◌, ℕ, List, Option}
+use Rattle.std.specs.Io.KnownBytes.{Appends}
 use Rattle.netset_lib.specs.declared.runs.Fault.{Fault}
 use Rattle.netset_lib.specs.declared.runs.Fault.TheVariants.{Lists, Other}
 use Rattle.ipnet_lists.specs.Names.{Names}
 
--- A failure with this property has this exit status, and a front of its report was written, perhaps all. `IsBegun` says
--- so of a failure and the bytes of the writer, before and after.
-abbrev pub IsReportBegun : {F : Type 0} → (F → Type 0) → (F → ℕ) → (F → Option (List ℕ) → Option (List ℕ) → Type 0)
-    → ℕ → Option (List ℕ) → Option (List ℕ) → Type 0
-IsReportBegun IsFailure exit IsBegun status held held_after =
-    (failure : _) × IsFailure failure × (exit failure ≡ status) × IsBegun failure held held_after
-
--- The same, and if `IsSure`, the whole report was written, as `IsWhole` says.
+-- A failure with this property has this exit status, and a front of its report was written, perhaps all; all of it, if
+-- `IsSure`. `IsBegun` and `IsWhole` say so of a failure and the bytes of the writer, before and after.
 abbrev pub IsReported : {F : Type 0} → (F → Type 0) → (F → ℕ) → (F → Option (List ℕ) → Option (List ℕ) → Type 0)
     → (F → Option (List ℕ) → Option (List ℕ) → Type 0) → ℕ → Option (List ℕ) → Option (List ℕ) → Type 0 → Type 0
 IsReported IsFailure exit IsWhole IsBegun status held held_after IsSure = (failure : _) × IsFailure failure
     × (exit failure ≡ status) × IsBegun failure held held_after × (IsSure → IsWhole failure held held_after)
+
+-- Other texts were written, and then a front of the report of a failure, perhaps all; all of it, if `IsSure`. `IsBegun`
+-- and `IsWhole` say so of a failure and the bytes of the writer, before and after.
+-- Example: `b:2: not a network, an address or a range: x`, and then `netset: b: cannot be read`.
+pub record IsReportedLast {F : Type 0} (IsWhole IsBegun : F → Option (List ℕ) → Option (List ℕ) → Type 0)
+    (held held_after : Option (List ℕ)) (IsSure : Type 0) : Type 0 where
+  pub failure : F
+  pub others : List ℕ
+  pub between : Option (List ℕ)
+  pub first : Appends held between others
+  pub begun : IsBegun failure between held_after
+  pub whole : IsSure → IsWhole failure between held_after
 
 -- The exit status of one failure or the other.
 abbrev pub exit_of_fault : {L F : Type 0} → (L → ℕ) → (F → ℕ) → Fault L F → ℕ

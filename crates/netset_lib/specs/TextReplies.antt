@@ -7,8 +7,8 @@ use Rattle.netset_lib.specs.declared.text_route.TextFailure.TheVariants as Failu
 use Rattle.netset_lib.specs.declared.text_line.NotTextLine.{NotTextLine}
 use Rattle.ipnet_lists.specs.Lists.{Refusal, RefusalFor}
 use Rattle.ipnet_lists.specs.RefusedLines.{AreRefused}
-use Rattle.ipnet_text.specs.Outputs.{IsFrontWritten}
-use Rattle.netset_lib.specs.ListReports.{IsRouteBegun}
+use Rattle.ipnet_text.specs.Outputs.{IsWritten, IsFrontWritten}
+use Rattle.netset_lib.specs.ListReports.{IsRouteReport, IsRouteBegun}
 use Rattle.netset_lib.specs.TextTables.{HasRefusedTextLines, HasRefusedEntries}
 
 -- Why not all entries were looked up: refused lines of the table; refused lines of the list; or out of memory. When
@@ -21,12 +21,13 @@ IsTextFailure grammar table list (Failures.List lines) =
     (refusals : List Refusal) × HasRefusedEntries grammar list refusals × AreRefused lines refusals
 IsTextFailure grammar table list Failures.Memory = Unit {0}
 
--- The bytes are not a table, for refused lines or out of memory, and a front of the report about it was written,
--- perhaps all. The table has this name.
+-- The bytes are not a table, for refused lines or out of memory, and a front of the report about it was written; all of
+-- it, if `IsSure`. The table has this name.
 -- Example: for the bytes `10.0.0.0/33 x\n` and the name `a`,
 -- `a:1: not an entry, with or without text: 10.0.0.0/33 x (the prefix length is above 32)`.
 abbrev pub IsTableReported : Grammar → (bytes : List ℕ) → (name : Bor (List ℕ)) → Option (List ℕ) → Option (List ℕ)
-    → Type 0
-IsTableReported grammar bytes name held held_after = (failure : TextFailure)
+    → (IsSure : Type 0) → Type 0
+IsTableReported grammar bytes name held held_after IsSure = (failure : TextFailure)
     × ((list : List ℕ) → IsTextFailure grammar bytes list failure)
     × IsFrontWritten (IsRouteBegun failure (name ∷ [])) held held_after
+    × (IsSure → IsWritten (IsRouteReport failure (name ∷ [])) held held_after)

@@ -6,6 +6,7 @@ ghost use Rattle.netset_lib.specs.declared.failure.Failure.TheVariants.{Memory};
 
 use crate::reports::{OUT_OF_MEMORY, report_words};
 use crate::runs::Report;
+use ipnet_text::Watched;
 use std::alloc::AllocError;
 use std::io;
 use std::io::Write;
@@ -54,7 +55,7 @@ impl Report for Failure {
         2
     }
 
-    fn report<X: Write>(&self, _: &[&str], faults: &mut X) -> io::Result<()> {
+    fn report<X: Write>(&self, _: &[&str], faults: &mut Watched<'_, X>) -> io::Result<()> {
         report_words(faults, self.words())
     }
 }

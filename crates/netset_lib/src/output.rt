@@ -3,8 +3,13 @@ ghost use Rattle.std.specs.Prelude.{◌≡◌, ◌≢◌, ◌≤◌, ◌↔◌, 
 ghost use Rattle.std.specs.Prelude.{string_bytes};
 ghost use Rattle.std.specs.Io.KnownBytes.{Keeps};
 ghost use Rattle.netset_lib.specs.Outputs.{unfinished_name, AreFileDigits, IsUnfinishedName};
+ghost use Rattle.netset_lib.specs.Reports.{IsReasonLine, unwritable};
+ghost use Rattle.ipnet_text.specs.Outputs.{IsWritten};
+ghost use Rattle.ipnet_text.specs.Watched.{writer_of, HasFailed};
 
+use crate::reports::{UNWRITABLE, report_error};
 use ipnet_lists::are_digits;
+use ipnet_text::Watched;
 use std::alloc::{AllocError, Global};
 use std::io;
 use std::io::Write;
@@ -24,21 +29,23 @@ pub trait Output: Write {
 /// Ends a run with this exit status: publishes its output if the status is 0 or 1, and returns the exit status. So a
 /// program whose output was not flushed does not end with 0 or 1.
 ///
-/// If the output cannot be published, that is reported on `faults`, and the status is 2. If the report cannot be
-/// written, the status is the same.
+/// If the output cannot be published, that is reported on `faults`, and the status is 2. The report is whole, unless a
+/// write to `faults` has failed; the status is the same then.
 ///
 /// ```text
 /// finish(1, out, faults):  1, and out is published
 /// finish(2, out, faults):  2, and out is as it was
 /// ```
-pub fn finish<O: Output, X: Write>(status: u8, out: &mut O, faults: &mut X) -> u8
+pub fn finish<O: Output, X: Write>(status: u8, out: &mut O, faults: &mut Watched<'_, X>) -> u8
     ensures published { ¬ (O.is_published out.old) → (result ≤ 1) ↔ O.is_published out.new }
     ensures same { result ≤ 1 → result ≡ status }
     ensures failed { status ≤ 1 → result ≤ 2 }
     ensures unpublished { 2 ≤ status → (result ≡ status) × (out.new ≡ out.old) }
     ensures contents { Keeps (O.contents out.old) (O.contents out.new) }
-    ensures faultless { result ≤ 1 → Keeps (X.contents faults.old) (X.contents faults.new) }
-    ensures quiet { 2 ≤ status → Keeps (X.contents faults.old) (X.contents faults.new) }
+    ensures faultless { result ≤ 1 → Keeps (X.contents (writer_of faults.old)) (X.contents (writer_of faults.new)) }
+    ensures reported { status ≤ 1 → result ≡ 2 → ¬ (HasFailed faults.new)
+        → IsWritten (IsReasonLine unwritable) (X.contents (writer_of faults.old)) (X.contents (writer_of faults.new)) }
+    ensures quiet { 2 ≤ status → Keeps (X.contents (writer_of faults.old)) (X.contents (writer_of faults.new)) }
 {
     if status > 1 {
         return status;
@@ -46,7 +53,7 @@ pub fn finish<O: Output, X: Write>(status: u8, out: &mut O, faults: &mut X) -> u
     match out.publish() {
         Ok(()) => status,
         Err(error) => {
-            let _ = writeln!(faults, "netset: output cannot be written: {error}");
+            let _ = report_error(faults, UNWRITABLE, &error);
             2
         }
     }

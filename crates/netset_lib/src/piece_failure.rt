@@ -6,6 +6,7 @@ ghost use Rattle.netset_lib.specs.declared.piece_failure.PieceFailure.TheVariant
 
 use crate::reports::{OUT_OF_MEMORY, UNWRITABLE, report_words};
 use crate::runs::Report;
+use ipnet_text::Watched;
 use std::alloc::AllocError;
 use std::io;
 use std::io::Write;
@@ -62,7 +63,7 @@ impl Report for PieceFailure {
         2
     }
 
-    fn report<X: Write>(&self, _: &[&str], faults: &mut X) -> io::Result<()> {
+    fn report<X: Write>(&self, _: &[&str], faults: &mut Watched<'_, X>) -> io::Result<()> {
         report_words(faults, self.words())
     }
 }

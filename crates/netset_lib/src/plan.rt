@@ -24,7 +24,7 @@ use ipnet::IpNet;
 use ipnet_pools::PoolError;
 use ipnet_pools::plan::{plan_ipv4, plan_ipv6};
 use ipnet_sets::IpSet;
-use ipnet_text::lines_of_networks;
+use ipnet_text::{Watched, lines_of_networks};
 use std::alloc::{AllocError, Global};
 use std::error::Error;
 use std::fmt::{Display, Formatter};
@@ -102,7 +102,7 @@ impl Report for PlanFailure {
         }
     }
 
-    fn report<X: Write>(&self, _: &[&str], faults: &mut X) -> io::Result<()> {
+    fn report<X: Write>(&self, _: &[&str], faults: &mut Watched<'_, X>) -> io::Result<()> {
         report_words(faults, self.to_words().as_str())
     }
 }

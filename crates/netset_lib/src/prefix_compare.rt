@@ -1,22 +1,23 @@
 //! The comparison of two prefix lists: the first network that only one of them permits.
-ghost use Rattle.std.specs.Prelude.{◌≡◌, IfOk, IfErr, OnOk, string_bytes};
+ghost use Rattle.std.specs.Prelude.{◌≡◌, IfOk, IfErr, string_bytes};
 ghost use Rattle.ipnet_text.specs.Outputs.{IsWritten, IsFrontWritten};
 ghost use Rattle.ipnet.specs.NetworkOf.{ip_network};
 ghost use Rattle.ipnet_rules.specs.PrefixLists.{IsRoutePermitted};
 ghost use Rattle.netset_lib.specs.PrefixComparisons.{HasListRules, IsListFault, IsListsDifference, IsListsOutcome};
 ghost use Rattle.netset_lib.specs.PrefixComparisons.{IsCompareFailure, IsCompareReport, IsCompareBegun};
-ghost use Rattle.netset_lib.specs.PrefixComparisons.{IsDifferenceText, IsFirstOrSecond, named_line};
+ghost use Rattle.netset_lib.specs.PrefixComparisons.{IsDifferenceText, IsFirstOrSecond};
 ghost use Rattle.netset_lib.specs.PrefixEntryOf.{lent_text};
 ghost use Rattle.netset_lib.specs.declared.prefix_compare.PrefixCompareFailure.TheVariants.{Memory};
 
 use crate::prefix_answer::{PrefixLines, read_prefixes};
 use crate::prefix_choice::{ChoiceFault, rules_of_list};
 use crate::prefix_line::PrefixCause;
-use crate::reports::{OUT_OF_MEMORY, report_words};
+use crate::reports::{OUT_OF_MEMORY, report_named, report_words};
 use crate::runs::{Report, TextCommand};
 use ipnet::{Grammar, IpNet};
-use ipnet_lists::{Part, Refusals, name_of, report_refused, write_parts};
+use ipnet_lists::{Refusals, name_of, report_refused};
 use ipnet_rules::PrefixList;
+use ipnet_text::Watched;
 use std::alloc::{AllocError, Global};
 use std::io;
 use std::io::Write;
@@ -152,25 +153,6 @@ impl<'a> TextCommand for PrefixCompareCommand<'a> {
     }
 }
 
-/// Reports these words about the list of this name. Bytes of the name that are not printable ASCII are escaped.
-fn report_named<'a, X: Write>(faults: &mut X, name: &'a str, words: &'a str) -> io::Result<()>
-    ensures whole { OnOk result (IsWritten (λ t. t ≡ named_line name.now words.now)
-        (X.contents faults.old) (X.contents faults.new)) }
-    ensures front { IsFrontWritten (λ t. t ≡ named_line name.now words.now)
-        (X.contents faults.old) (X.contents faults.new) }
-{
-    write_parts(
-        faults,
-        &[
-            Part::Words("netset: "),
-            Part::Escaped(name.as_bytes()),
-            Part::Words(": "),
-            Part::Plain(words.as_bytes()),
-            Part::Words("\n"),
-        ],
-    )
-}
-
 impl Report for PrefixCompareFailure {
     ghost exit = { λ _. 2 };
 
@@ -182,7 +164,7 @@ impl Report for PrefixCompareFailure {
         2
     }
 
-    fn report<X: Write>(&self, names: &[&str], faults: &mut X) -> io::Result<()> {
+    fn report<X: Write>(&self, names: &[&str], faults: &mut Watched<'_, X>) -> io::Result<()> {
         match self {
             PrefixCompareFailure::Prefixes(index, lines) => {
                 report_refused(faults, names, *index, lines)

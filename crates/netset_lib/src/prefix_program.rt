@@ -11,6 +11,7 @@ use crate::reports::{OUT_OF_MEMORY, report_words};
 use crate::runs::{Report, TextCommand};
 use ipnet::Grammar;
 use ipnet_lists::report_refused;
+use ipnet_text::Watched;
 use std::alloc::Global;
 use std::io;
 use std::io::Write;
@@ -84,7 +85,7 @@ impl Report for PrefixFailure {
         2
     }
 
-    fn report<X: Write>(&self, names: &[&str], faults: &mut X) -> io::Result<()> {
+    fn report<X: Write>(&self, names: &[&str], faults: &mut Watched<'_, X>) -> io::Result<()> {
         match self {
             PrefixFailure::Memory => report_words(faults, OUT_OF_MEMORY),
             PrefixFailure::Prefixes(lines) => report_refused(faults, names, 0, lines),

@@ -1,10 +1,15 @@
 //! Reports of failures.
-ghost use Rattle.std.specs.Prelude.{◌≡◌, OnOk};
+ghost use Rattle.std.specs.Prelude.{◌≡◌, List, ℕ, IsErr, OnOk};
+ghost use Rattle.std.specs.Io.KnownBytes.{Appends, Keeps};
+ghost use Rattle.ipnet_lists.specs.Reports.{OfNew, IsReport};
 ghost use Rattle.ipnet_text.specs.Outputs.{IsWritten, IsFrontWritten};
-ghost use Rattle.netset_lib.specs.Reports.{words_line, long_words};
+ghost use Rattle.ipnet_text.specs.Watched.{writer_of, HasFailed};
+ghost use Rattle.netset_lib.specs.Reports.{words_line, named_line, IsReasonLine, long_words};
 
+use crate::error_words::error_words;
 use arrayvec::ArrayString;
-use ipnet_lists::{Part, write_parts};
+use ipnet_lists::{LineCause, Part, Refusals, report_since, write_parts};
+use ipnet_text::Watched;
 use itoa::Buffer;
 use std::io;
 use std::io::Write;
@@ -20,19 +25,108 @@ pub const UNWRITABLE: &str = "output cannot be written";
 /// ```text
 /// "out of memory": faults gets "netset: out of memory\n"
 /// ```
-pub fn report_words<X: Write>(faults: &mut X, words: &str) -> io::Result<()>
+pub fn report_words<X: Write>(faults: &mut Watched<'_, X>, words: &str) -> io::Result<()>
     ensures whole { OnOk result (IsWritten (λ t. t ≡ words_line words.now)
-        (X.contents faults.old) (X.contents faults.new)) }
-    ensures front { IsFrontWritten (λ t. t ≡ words_line words.now) (X.contents faults.old) (X.contents faults.new) }
+        (X.contents (writer_of faults.old)) (X.contents (writer_of faults.new))) }
+    ensures front { IsFrontWritten (λ t. t ≡ words_line words.now)
+        (X.contents (writer_of faults.old)) (X.contents (writer_of faults.new)) }
+    ensures failed { IsErr result → HasFailed faults.new }
+{
+    let bytes = words.as_bytes();
+    write_parts(
+        faults,
+        &[
+            Part::Words("netset: "),
+            Part::Plain(bytes),
+            Part::Words("\n"),
+        ],
+    )
+}
+
+/// Reports these words about the list of this name. Bytes of the name that are not printable ASCII are escaped. If a
+/// write fails, a front of the line has been written.
+///
+/// ```text
+/// the name "a\t" and "cannot be read": faults gets "netset: a\\t: cannot be read\n"
+/// ```
+pub fn report_named<'a, X: Write>(
+    faults: &mut Watched<'_, X>,
+    name: &'a str,
+    words: &'a str,
+) -> io::Result<()>
+    ensures whole { OnOk result (IsWritten (λ t. t ≡ named_line name.now words.now)
+        (X.contents (writer_of faults.old)) (X.contents (writer_of faults.new))) }
+    ensures front { IsFrontWritten (λ t. t ≡ named_line name.now words.now)
+        (X.contents (writer_of faults.old)) (X.contents (writer_of faults.new)) }
+    ensures failed { IsErr result → HasFailed faults.new }
 {
     write_parts(
         faults,
         &[
             Part::Words("netset: "),
+            Part::Escaped(name.as_bytes()),
+            Part::Words(": "),
             Part::Plain(words.as_bytes()),
             Part::Words("\n"),
         ],
     )
+}
+
+/// Reports these words, and the words of the system for the error, in one line. If a write fails, a front of the line
+/// has been written.
+///
+/// ```text
+/// "output cannot be written": "netset: output cannot be written: No space left on device (os error 28)\n"
+/// ```
+pub fn report_error<X: Write>(
+    faults: &mut Watched<'_, X>,
+    words: &str,
+    error: &io::Error,
+) -> io::Result<()>
+    ensures whole { OnOk result (IsWritten (IsReasonLine words.now)
+        (X.contents (writer_of faults.old)) (X.contents (writer_of faults.new))) }
+    ensures front { IsFrontWritten (IsReasonLine words.now)
+        (X.contents (writer_of faults.old)) (X.contents (writer_of faults.new)) }
+    ensures failed { IsErr result → HasFailed faults.new }
+{
+    let reason = error_words(error);
+    write_parts(
+        faults,
+        &[
+            Part::Words("netset: "),
+            Part::Plain(words.as_bytes()),
+            Part::Words(": "),
+            Part::Plain(reason.as_str().as_bytes()),
+            Part::Words("\n"),
+        ],
+    )
+}
+
+/// Reports the refused lines that are new, as `report_since` does, unless a write to `faults` has failed before. The
+/// report is whole, unless a write has failed.
+///
+/// ```text
+/// twelve lines, before (0, 0): ten lines, and "netset: and 2 more"
+/// ```
+pub fn report_new<X: Write, C: LineCause>(
+    faults: &mut Watched<'_, X>,
+    names: &[&str],
+    lines: &Refusals<C>,
+    before: (usize, usize),
+)
+    ensures none { lines.now.count ≡ before.1
+        → Keeps (X.contents (writer_of faults.old)) (X.contents (writer_of faults.new)) }
+    ensures whole { ¬ (HasFailed faults.new) → IsWritten
+        (OfNew (IsReport C.explains names.now) lines.now before.0 before.1)
+        (X.contents (writer_of faults.old)) (X.contents (writer_of faults.new)) }
+    ensures appended { (text : List ℕ)
+        × Appends (X.contents (writer_of faults.old)) (X.contents (writer_of faults.new)) text }
+    ensures kept { HasFailed faults.old → HasFailed faults.new }
+{
+    if faults.has_failed() {
+        return;
+    }
+    let _ = report_since(faults, names, lines, before);
 }
 
 /// The most bytes that the words of a failure have, without refused lines.

@@ -1,18 +1,21 @@
 //! Commands as values, and the run of any command over any writers.
-ghost use Rattle.std.specs.Prelude.{◌≡◌, ◌≤◌, ◌⊎◌, ℕ, Bool, true, false, List, Option, IsTrue, IfOk, IfErr, OnOk};
-ghost use Rattle.std.specs.Prelude.{string_bytes};
+ghost use Rattle.std.specs.Prelude.{◌≡◌, ◌≤◌, ◌⊎◌, ℕ, Bool, true, false, List, Option, IfOk, IfErr, OnOk};
+ghost use Rattle.std.specs.Prelude.{IsErr, string_bytes};
 ghost use Rattle.std.specs.Io.KnownBytes.{Keeps};
 ghost use Rattle.ipnet_lists.specs.Names.{Names};
 ghost use Rattle.ipnet_lists.specs.Reports.{OfNew, IsReport};
 ghost use Rattle.ipnet_lists.specs.Reports as lists;
 ghost use Rattle.ipnet_text.specs.Outputs.{IsWritten, IsFrontWritten};
+ghost use Rattle.ipnet_text.specs.Watched.{writer_of, HasFailed};
 ghost use Rattle.netset_lib.specs.ListReports.{IsListReport, IsListBegun};
 ghost use Rattle.netset_lib.specs.Reports.{words_line, unwritable};
-ghost use Rattle.netset_lib.specs.Runs.{IsReported, IsReportBegun, OfFault, exit_of_fault};
+ghost use Rattle.netset_lib.specs.Runs.{IsReported, OfFault, exit_of_fault};
 
-use crate::reports::{OUT_OF_MEMORY, UNWRITABLE, report_words};
+use crate::piece_failure::PieceFailure;
+use crate::reports::{OUT_OF_MEMORY, report_words};
 use crate::write::write_and_flush;
 use ipnet_lists::{LineCause, ListFailure, Refusals, report_refused, report_since};
+use ipnet_text::Watched;
 use std::io;
 use std::io::Write;
 
@@ -35,9 +38,12 @@ pub trait Report: Drop {
 
     /// Reports it on `faults`. `names` are the names of the lists. If a write fails, a front of the report has been
     /// written.
-    fn report<X: Write>(&self, names: &[&str], faults: &mut X) -> io::Result<()>
-        ensures whole { OnOk result (is_reported self.now names.now (X.contents faults.old) (X.contents faults.new)) }
-        ensures front { is_begun self.now names.now (X.contents faults.old) (X.contents faults.new) };
+    fn report<X: Write>(&self, names: &[&str], faults: &mut Watched<'_, X>) -> io::Result<()>
+        ensures whole { OnOk result (is_reported self.now names.now
+            (X.contents (writer_of faults.old)) (X.contents (writer_of faults.new))) }
+        ensures front { is_begun self.now names.now (X.contents (writer_of faults.old))
+            (X.contents (writer_of faults.new)) }
+        ensures failed { IsErr result → HasFailed faults.new };
 }
 
 /// A command: it writes its answer, or says why there is none.
@@ -134,7 +140,7 @@ impl<C: LineCause> Report for ListFailure<C> {
         2
     }
 
-    fn report<X: Write>(&self, names: &[&str], faults: &mut X) -> io::Result<()> {
+    fn report<X: Write>(&self, names: &[&str], faults: &mut Watched<'_, X>) -> io::Result<()> {
         match self {
             ListFailure::Refused(lines) => {
                 report_refused(faults, names, names.len().saturating_sub(1), lines)
@@ -155,7 +161,7 @@ impl<C: LineCause> Report for Refusals<C> {
         2
     }
 
-    fn report<X: Write>(&self, names: &[&str], faults: &mut X) -> io::Result<()> {
+    fn report<X: Write>(&self, names: &[&str], faults: &mut Watched<'_, X>) -> io::Result<()> {
         report_since(faults, names, self, (0, 0))
     }
 }
@@ -174,7 +180,7 @@ impl<L: Report, F: Report> Report for Fault<L, F> {
         }
     }
 
-    fn report<X: Write>(&self, names: &[&str], faults: &mut X) -> io::Result<()> {
+    fn report<X: Write>(&self, names: &[&str], faults: &mut Watched<'_, X>) -> io::Result<()> {
         match self {
             Fault::Lists(failure) => failure.report(names, faults),
             Fault::Other(failure) => failure.report(names, faults),
@@ -182,219 +188,120 @@ impl<L: Report, F: Report> Report for Fault<L, F> {
     }
 }
 
-/// How a run ended.
-#[derive(Clone, Copy, Debug, PartialEq, Eq)]
-pub struct Ended {
-    /// The exit status.
-    pub status: u8,
-    /// Whether the report on `faults` is whole. If there is none, it is.
-    pub is_reported: bool,
-}
-
-impl Ended {
-    /// A run with this exit status that reports nothing.
-    fn quiet(status: u8) -> Ended
-        ensures { result.status ≡ status }
-    {
-        Ended {
-            status,
-            is_reported: true,
-        }
-    }
-}
-
-/// Reports the failure, and ends with its status. If a write fails, a front of the report has been written.
+/// Reports the failure, and returns its exit status. The report is whole, unless a write to `faults` has failed.
 ///
 /// ```text
 /// out of memory: status 2, and faults gets "netset: out of memory\n"
 /// ```
-pub fn end_with<F: Report, X: Write>(failure: &F, names: &[&str], faults: &mut X) -> Ended
-    ensures status { result.status ≡ F.exit failure.now }
-    ensures least { 1 ≤ result.status }
-    ensures most { result.status ≤ 2 }
-    ensures whole { IsTrue result.is_reported
-        → F.is_reported failure.now names.now (X.contents faults.old) (X.contents faults.new) }
-    ensures front { F.is_begun failure.now names.now (X.contents faults.old) (X.contents faults.new) }
+pub fn end_with<F: Report, X: Write>(failure: &F, names: &[&str], faults: &mut Watched<'_, X>) -> u8
+    ensures status { result ≡ F.exit failure.now }
+    ensures least { 1 ≤ result }
+    ensures most { result ≤ 2 }
+    ensures whole { ¬ (HasFailed faults.new)
+        → F.is_reported failure.now names.now (X.contents (writer_of faults.old)) (X.contents (writer_of faults.new)) }
+    ensures front { F.is_begun failure.now names.now (X.contents (writer_of faults.old))
+        (X.contents (writer_of faults.new)) }
 {
-    let status = failure.status();
-    match failure.report(names, faults) {
-        Ok(()) => Ended {
-            status,
-            is_reported: true,
-        },
-        Err(_) => Ended {
-            status,
-            is_reported: false,
-        },
-    }
+    let _ = failure.report(names, faults);
+    failure.status()
 }
 
-/// Reports that the output cannot be written, and ends with status 2. If a write fails, a front of the report has been
-/// written.
+/// Reports that the output cannot be written, and returns the exit status 2. The report is whole, unless a write to
+/// `faults` has failed.
 ///
 /// ```text
 /// status 2, and faults gets "netset: output cannot be written\n"
 /// ```
-pub fn end_unwritable<X: Write>(faults: &mut X) -> Ended
-    ensures status { result.status ≡ 2 }
-    ensures whole { IsTrue result.is_reported → IsWritten (λ t. t ≡ words_line unwritable)
-        (X.contents faults.old) (X.contents faults.new) }
+pub fn end_unwritable<X: Write>(faults: &mut Watched<'_, X>) -> u8
+    ensures status { result ≡ 2 }
+    ensures whole { ¬ (HasFailed faults.new) → IsWritten (λ t. t ≡ words_line unwritable)
+        (X.contents (writer_of faults.old)) (X.contents (writer_of faults.new)) }
     ensures front { IsFrontWritten (λ t. t ≡ words_line unwritable)
-        (X.contents faults.old) (X.contents faults.new) }
+        (X.contents (writer_of faults.old)) (X.contents (writer_of faults.new)) }
 {
-    match report_words(faults, UNWRITABLE) {
-        Ok(()) => Ended {
-            status: 2,
-            is_reported: true,
-        },
-        Err(_) => Ended {
-            status: 2,
-            is_reported: false,
-        },
-    }
-}
-
-/// Runs the command as [`run`] does, and returns how it ended: also whether its report is whole. The report is whole
-/// unless a write to `faults` failed.
-///
-/// ```text
-/// the hosts of 10.0.0.9/30: status 0, nothing is reported, and out gets "10.0.0.9\n10.0.0.10\n"
-/// ```
-pub fn run_to_end<C: Command, W: Write, X: Write>(
-    command: C,
-    names: &[&str],
-    out: &mut W,
-    faults: &mut X,
-) -> Ended
-    ensures status { result.status ≤ 2 }
-    ensures answered { result.status ≡ 0 → IsWritten (C.is_answer command) (W.contents out.old) (W.contents out.new)
-        × C.is_outcome command true }
-    ensures other { result.status ≡ 1
-        → (IsWritten (C.is_answer command) (W.contents out.old) (W.contents out.new)
-        × C.is_outcome command false × Keeps (X.contents faults.old) (X.contents faults.new))
-        ⊎ (Keeps (W.contents out.old) (W.contents out.new)
-        × IsReported (C.is_failure command) C.Failure.exit (λ f. C.Failure.is_reported f names.now)
-        (λ f. C.Failure.is_begun f names.now) 1 (X.contents faults.old) (X.contents faults.new)
-        (IsTrue result.is_reported)) }
-    ensures failed { result.status ≡ 2 → IsReported (C.is_failure command) C.Failure.exit
-        (λ f. C.Failure.is_reported f names.now) (λ f. C.Failure.is_begun f names.now) 2
-        (X.contents faults.old) (X.contents faults.new) (IsTrue result.is_reported) }
-    ensures cut_short { result.status ≡ 2 → Keeps (W.contents out.old) (W.contents out.new)
-        ⊎ IsFrontWritten (C.is_answer command) (W.contents out.old) (W.contents out.new) }
-    ensures faultless { result.status ≡ 0 → Keeps (X.contents faults.old) (X.contents faults.new) }
-{
-    match command.write(out) {
-        Ok(true) => Ended::quiet(0),
-        Ok(false) => Ended::quiet(1),
-        Err(failure) => end_with(&failure, names, faults),
-    }
-}
-
-/// Runs the command as [`run_text`] does, and returns how it ended: also whether its report is whole. The report is
-/// whole unless a write to `faults` failed.
-///
-/// ```text
-/// the union of "10.0.0.0/9\n10.128.0.0/9\n": status 0, nothing is reported, and out gets "10.0.0.0/8\n"
-/// ```
-pub fn run_text_to_end<C: TextCommand, W: Write, X: Write>(
-    command: C,
-    names: &[&str],
-    out: &mut W,
-    faults: &mut X,
-) -> Ended
-    ensures status { result.status ≤ 2 }
-    ensures answered { result.status ≡ 0 → IsWritten (C.is_answer command) (W.contents out.old) (W.contents out.new)
-        × C.is_outcome command true }
-    ensures other { result.status ≡ 1
-        → (IsWritten (C.is_answer command) (W.contents out.old) (W.contents out.new)
-        × C.is_outcome command false × Keeps (X.contents faults.old) (X.contents faults.new))
-        ⊎ (Keeps (W.contents out.old) (W.contents out.new)
-        × IsReported (C.is_failure command) C.Failure.exit (λ f. C.Failure.is_reported f names.now)
-        (λ f. C.Failure.is_begun f names.now) 1 (X.contents faults.old) (X.contents faults.new)
-        (IsTrue result.is_reported)) }
-    ensures cut_short { result.status ≡ 2 → (Keeps (W.contents out.old) (W.contents out.new)
-        × IsReported (C.is_failure command) C.Failure.exit (λ f. C.Failure.is_reported f names.now)
-        (λ f. C.Failure.is_begun f names.now) 2 (X.contents faults.old) (X.contents faults.new)
-        (IsTrue result.is_reported))
-        ⊎ (IsFrontWritten (C.is_answer command) (W.contents out.old) (W.contents out.new)
-        × IsFrontWritten (λ t. t ≡ words_line unwritable) (X.contents faults.old) (X.contents faults.new)
-        × (IsTrue result.is_reported
-        → IsWritten (λ t. t ≡ words_line unwritable) (X.contents faults.old) (X.contents faults.new))) }
-    ensures faultless { result.status ≡ 0 → Keeps (X.contents faults.old) (X.contents faults.new) }
-{
-    match command.answer() {
-        Ok((text, succeeded)) => {
-            if !write_and_flush(out, text.lend()) {
-                return end_unwritable(faults);
-            }
-            if succeeded {
-                Ended::quiet(0)
-            } else {
-                Ended::quiet(1)
-            }
-        }
-        Err(why) => end_with(&why, names, faults),
-    }
+    end_with(&PieceFailure::Unwritable, &[], faults)
 }
 
 /// Runs the command, and returns the exit status: 0 if it succeeds, 1 if it has an answer and does not succeed, and
 /// otherwise the status of its failure, which is reported on `faults`.
 ///
-/// `names` are the names of the lists, in order, for the report. If the report cannot be written, the status is the
-/// same.
+/// `names` are the names of the lists, in order, for the report. The report is whole, unless a write to `faults` has
+/// failed; the status is the same then.
 ///
 /// ```text
-/// the hosts of 10.0.0.9/30: status 0, and out gets "10.0.0.9\n10.0.0.10\n"
+/// the hosts of 10.0.0.9/30: status 0, nothing is reported, and out gets "10.0.0.9\n10.0.0.10\n"
 /// ```
 pub fn run<C: Command, W: Write, X: Write>(
     command: C,
     names: &[&str],
     out: &mut W,
-    faults: &mut X,
+    faults: &mut Watched<'_, X>,
 ) -> u8
     ensures status { result ≤ 2 }
     ensures answered { result ≡ 0 → IsWritten (C.is_answer command) (W.contents out.old) (W.contents out.new)
         × C.is_outcome command true }
-    ensures other { result ≡ 1 → (IsWritten (C.is_answer command) (W.contents out.old) (W.contents out.new)
-        × C.is_outcome command false × Keeps (X.contents faults.old) (X.contents faults.new))
+    ensures other { result ≡ 1
+        → (IsWritten (C.is_answer command) (W.contents out.old) (W.contents out.new)
+        × C.is_outcome command false × Keeps (X.contents (writer_of faults.old)) (X.contents (writer_of faults.new)))
         ⊎ (Keeps (W.contents out.old) (W.contents out.new)
-        × IsReportBegun (C.is_failure command) C.Failure.exit (λ f. C.Failure.is_begun f names.now) 1
-        (X.contents faults.old) (X.contents faults.new)) }
-    ensures failed { result ≡ 2 → IsReportBegun (C.is_failure command) C.Failure.exit
-        (λ f. C.Failure.is_begun f names.now) 2 (X.contents faults.old) (X.contents faults.new) }
+        × IsReported (C.is_failure command) C.Failure.exit (λ f. C.Failure.is_reported f names.now)
+        (λ f. C.Failure.is_begun f names.now) 1 (X.contents (writer_of faults.old)) (X.contents (writer_of faults.new))
+        (¬ (HasFailed faults.new))) }
+    ensures failed { result ≡ 2 → IsReported (C.is_failure command) C.Failure.exit
+        (λ f. C.Failure.is_reported f names.now) (λ f. C.Failure.is_begun f names.now) 2
+        (X.contents (writer_of faults.old)) (X.contents (writer_of faults.new)) (¬ (HasFailed faults.new)) }
     ensures cut_short { result ≡ 2 → Keeps (W.contents out.old) (W.contents out.new)
         ⊎ IsFrontWritten (C.is_answer command) (W.contents out.old) (W.contents out.new) }
-    ensures faultless { result ≡ 0 → Keeps (X.contents faults.old) (X.contents faults.new) }
+    ensures faultless { result ≡ 0 → Keeps (X.contents (writer_of faults.old)) (X.contents (writer_of faults.new)) }
 {
-    run_to_end(command, names, out, faults).status
+    match command.write(out) {
+        Ok(true) => 0,
+        Ok(false) => 1,
+        Err(failure) => end_with(&failure, names, faults),
+    }
 }
 
 /// Runs the command as `run` does, and writes its answer as a whole. If a write fails, or the flush after it, the
 /// status is 2, and `netset: output cannot be written` is reported.
 ///
 /// ```text
-/// the union of "10.0.0.0/9\n10.128.0.0/9\n": status 0, and out gets "10.0.0.0/8\n"
+/// the union of "10.0.0.0/9\n10.128.0.0/9\n": status 0, nothing is reported, and out gets "10.0.0.0/8\n"
 /// ```
 pub fn run_text<C: TextCommand, W: Write, X: Write>(
     command: C,
     names: &[&str],
     out: &mut W,
-    faults: &mut X,
+    faults: &mut Watched<'_, X>,
 ) -> u8
     ensures status { result ≤ 2 }
     ensures answered { result ≡ 0 → IsWritten (C.is_answer command) (W.contents out.old) (W.contents out.new)
         × C.is_outcome command true }
-    ensures other { result ≡ 1 → (IsWritten (C.is_answer command) (W.contents out.old) (W.contents out.new)
-        × C.is_outcome command false × Keeps (X.contents faults.old) (X.contents faults.new))
+    ensures other { result ≡ 1
+        → (IsWritten (C.is_answer command) (W.contents out.old) (W.contents out.new)
+        × C.is_outcome command false × Keeps (X.contents (writer_of faults.old)) (X.contents (writer_of faults.new)))
         ⊎ (Keeps (W.contents out.old) (W.contents out.new)
-        × IsReportBegun (C.is_failure command) C.Failure.exit (λ f. C.Failure.is_begun f names.now) 1
-        (X.contents faults.old) (X.contents faults.new)) }
+        × IsReported (C.is_failure command) C.Failure.exit (λ f. C.Failure.is_reported f names.now)
+        (λ f. C.Failure.is_begun f names.now) 1 (X.contents (writer_of faults.old)) (X.contents (writer_of faults.new))
+        (¬ (HasFailed faults.new))) }
     ensures cut_short { result ≡ 2 → (Keeps (W.contents out.old) (W.contents out.new)
-        × IsReportBegun (C.is_failure command) C.Failure.exit (λ f. C.Failure.is_begun f names.now) 2
-        (X.contents faults.old) (X.contents faults.new))
+        × IsReported (C.is_failure command) C.Failure.exit (λ f. C.Failure.is_reported f names.now)
+        (λ f. C.Failure.is_begun f names.now) 2 (X.contents (writer_of faults.old)) (X.contents (writer_of faults.new))
+        (¬ (HasFailed faults.new)))
         ⊎ (IsFrontWritten (C.is_answer command) (W.contents out.old) (W.contents out.new)
-        × IsFrontWritten (λ t. t ≡ words_line unwritable) (X.contents faults.old) (X.contents faults.new)) }
-    ensures faultless { result ≡ 0 → Keeps (X.contents faults.old) (X.contents faults.new) }
+        × IsFrontWritten (λ t. t ≡ words_line unwritable) (X.contents (writer_of faults.old))
+        (X.contents (writer_of faults.new))
+        × (¬ (HasFailed faults.new)
+        → IsWritten (λ t. t ≡ words_line unwritable) (X.contents (writer_of faults.old))
+        (X.contents (writer_of faults.new)))) }
+    ensures faultless { result ≡ 0 → Keeps (X.contents (writer_of faults.old)) (X.contents (writer_of faults.new)) }
 {
-    run_text_to_end(command, names, out, faults).status
+    match command.answer() {
+        Ok((text, succeeded)) => {
+            if !write_and_flush(out, text.lend()) {
+                return end_unwritable(faults);
+            }
+            if succeeded { 0 } else { 1 }
+        }
+        Err(why) => end_with(&why, names, faults),
+    }
 }

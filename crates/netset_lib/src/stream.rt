@@ -4,17 +4,21 @@ ghost use Rattle.std.specs.Io.{StartsWith};
 ghost use Rattle.std.specs.Io.KnownBytes.{Appends, Keeps};
 ghost use Rattle.ipnet.specs.declared.parser.Grammar.{Grammar};
 ghost use Rattle.ipnet_lists.specs.Reading.{WasMadeOf};
+ghost use Rattle.ipnet_lists.specs.Reports.{ExplainsEntry};
 ghost use Rattle.netset_lib.specs.Answering.{found_by};
+ghost use Rattle.netset_lib.specs.StepReports.{AreTold, AreToldSince};
 ghost use Rattle.netset_lib.specs.Streams.{IsStreamed, IsWritten, IsWrittenInPart, IsStreamFailure, IsBroken};
 ghost use Rattle.netset_lib.specs.declared.query.Query.{Query};
 ghost use Rattle.ipnet_lists.specs.declared.reading.ReadFailure.TheVariants.{Unreadable, Memory};
 ghost use Rattle.netset_lib.specs.declared.stream.StreamFailure.TheVariants as StreamFailures;
+ghost use Rattle.ipnet_text.specs.Watched.{writer_of, HasFailed};
 
 use crate::answerer::{Answerer, Answers};
+use crate::reports::report_new;
 use crate::set_reader::SetReader;
 use crate::write::write_and_flush;
-use ipnet_lists::{MOST_READS, ReadFailure, Reading, RefusedLines, report_since};
-use ipnet_text::ReadError;
+use ipnet_lists::{MOST_READS, ReadFailure, Reading, RefusedLines};
+use ipnet_text::{ReadError, Watched};
 use std::alloc::AllocError;
 use std::io::{Read, Write};
 
@@ -96,12 +100,17 @@ fn stream_entries<R: Read, W: Write, X: Write>(
     names: &[&str],
     input: &mut R,
     out: &mut W,
-    faults: &mut X,
+    faults: &mut Watched<'_, X>,
 ) -> Result<(Reading, bool), StreamFailure>
     ensures whole { IfOk result (λ r. WasMadeOf (R.remaining input.old) (R.remaining input.new) stream.lists.reading r.0
         (IsWritten stream.answerer (W.contents out.old) (W.contents out.new) (found_by stream.answerer r.1))) }
     ensures quiet { IfOk result (λ r. r.0.lines.refused.count ≡ stream.lists.reading.lines.refused.count
-        → Keeps (X.contents faults.old) (X.contents faults.new)) }
+        → Keeps (X.contents (writer_of faults.old)) (X.contents (writer_of faults.new))) }
+    ensures appended { (text : List ℕ)
+        × Appends (X.contents (writer_of faults.old)) (X.contents (writer_of faults.new)) text }
+    ensures told { IfOk result (λ r. ¬ (HasFailed faults.new) → AreToldSince ExplainsEntry names.now
+        stream.lists.reading.lines.refused r.0.lines.refused
+        (X.contents (writer_of faults.old)) (X.contents (writer_of faults.new))) }
     ensures part { IfErr result (λ _. IsWrittenInPart stream.answerer stream.lists.reading.lines.grammar
         stream.lists.reading.lines.list (R.remaining input.old) (W.contents out.old) (W.contents out.new)) }
     ensures cause { IfErr result IsBroken }
@@ -117,7 +126,7 @@ fn stream_entries<R: Read, W: Write, X: Write>(
         reading.take_lines(more, answerer, &mut answers)?;
         found = found | answers.found;
         put(&mut answers, out)?;
-        let _ = report_since(faults, names, &reading.lines.refused, before);
+        report_new(faults, names, &reading.lines.refused, before);
         if !more {
             reading.end_list()?;
             return Ok((reading, answerer.is_success(found)));
@@ -146,14 +155,20 @@ impl Stream {
         names: &[&str],
         input: &mut R,
         out: &mut W,
-        faults: &mut X,
+        faults: &mut Watched<'_, X>,
     ) -> Result<Streamed, StreamFailure>
         ensures streamed { IfOk result (λ streamed. (query : Query) → (grammar : Grammar) → (lists : List (List ℕ))
             → WasAsked query grammar lists self
             → IsStreamed query grammar lists (R.remaining input.old) (R.remaining input.new)
             (W.contents out.old) (W.contents out.new) streamed) }
         ensures quiet { IfOk result (λ streamed. streamed.refused ≡ 0
-            → Keeps (X.contents faults.old) (X.contents faults.new)) }
+            → Keeps (X.contents (writer_of faults.old)) (X.contents (writer_of faults.new))) }
+        ensures appended { (text : List ℕ)
+            × Appends (X.contents (writer_of faults.old)) (X.contents (writer_of faults.new)) text }
+        ensures told { IfOk result (λ streamed. (query : Query) → (grammar : Grammar) → (lists : List (List ℕ))
+            → WasAsked query grammar lists self → ¬ (HasFailed faults.new)
+            → AreTold ExplainsEntry names.now streamed.refused
+            (X.contents (writer_of faults.old)) (X.contents (writer_of faults.new))) }
         ensures failure { IfErr result (λ failure. (query : Query) → (grammar : Grammar) → (lists : List (List ℕ))
             → WasAsked query grammar lists self
             → IsStreamFailure query grammar lists (R.remaining input.old) (W.contents out.old) (W.contents out.new)

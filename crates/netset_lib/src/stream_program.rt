@@ -1,13 +1,21 @@
 //! A filter or a route whose answers are written while its second list is read, over any writers.
-ghost use Rattle.std.specs.Prelude.{◌≡◌, ◌≤◌, ◌==◌, ◌⊎◌, ◌↔◌, List, ℕ};
+ghost use Rattle.std.specs.Prelude.{◌≡◌, ◌≢◌, ◌≤◌, ◌==◌, ◌⊎◌, ◌↔◌, List, ℕ};
 ghost use Rattle.std.specs.Io.KnownBytes.{Keeps};
 ghost use Rattle.ipnet.specs.declared.parser.Grammar.{Grammar};
 ghost use Rattle.netset_lib.specs.Streams.{WasAsked, IsStreamed, IsStreamedInPart};
 ghost use Rattle.netset_lib.specs.declared.query.Query.{Query};
+ghost use Rattle.ipnet_lists.specs.Reports.{ExplainsEntry};
+ghost use Rattle.ipnet_text.specs.Outputs.{IsWritten, IsFrontWritten};
+ghost use Rattle.ipnet_text.specs.Watched.{writer_of, HasFailed};
+ghost use Rattle.netset_lib.specs.ListReports.{IsStreamReport, IsStreamBegun};
+ghost use Rattle.netset_lib.specs.Runs.{IsReportedLast};
+ghost use Rattle.netset_lib.specs.StepReports.{AreTold};
 
-use crate::reports::{UNWRITABLE, report_words};
+use crate::reports::{UNWRITABLE, report_named, report_words};
+use crate::runs::{Report, end_with};
 use crate::stream::{Stream, StreamFailure, Streamed};
 use ipnet_lists::{name_of, report_since};
+use ipnet_text::Watched;
 use std::io;
 use std::io::{Read, Write};
 
@@ -31,7 +39,7 @@ pub fn run_stream<R: Read, W: Write, X: Write>(
     names: &[&str],
     input: &mut R,
     out: &mut W,
-    faults: &mut X,
+    faults: &mut Watched<'_, X>,
 ) -> u8
     ensures status { result ≤ 2 }
     ensures streamed { result ≤ 1 → (query : Query) → (grammar : Grammar) → (lists : List (List ℕ))
@@ -43,14 +51,21 @@ pub fn run_stream<R: Read, W: Write, X: Write>(
         → WasAsked query grammar lists stream
         → Keeps (W.contents out.old) (W.contents out.new)
         ⊎ IsStreamedInPart query grammar lists (R.remaining input.old) (W.contents out.old) (W.contents out.new) }
-    ensures faultless { result ≤ 1 → Keeps (X.contents faults.old) (X.contents faults.new) }
+    ensures reported { result ≡ 2 → (query : Query) → (grammar : Grammar) → (lists : List (List ℕ))
+        → WasAsked query grammar lists stream
+        → ((s : Streamed) × (s.refused ≢ 0)
+        × IsStreamed query grammar lists (R.remaining input.old) (R.remaining input.new)
+        (W.contents out.old) (W.contents out.new) s
+        × (¬ (HasFailed faults.new) → AreTold ExplainsEntry names.now s.refused
+        (X.contents (writer_of faults.old)) (X.contents (writer_of faults.new))))
+        ⊎ IsReportedLast (λ failure. IsWritten (IsStreamReport failure names.now))
+        (λ failure. IsFrontWritten (IsStreamBegun failure names.now))
+        (X.contents (writer_of faults.old)) (X.contents (writer_of faults.new)) (¬ (HasFailed faults.new)) }
+    ensures faultless { result ≤ 1 → Keeps (X.contents (writer_of faults.old)) (X.contents (writer_of faults.new)) }
 {
     match stream.answer(names, input, out, faults) {
         Ok(streamed) => stream_status(streamed),
-        Err(failure) => {
-            let _ = report_stream(faults, names, &failure);
-            2
-        }
+        Err(failure) => end_with(&failure, names, faults),
     }
 }
 
@@ -69,19 +84,25 @@ fn stream_status(streamed: Streamed) -> u8
     }
 }
 
-/// Reports why a stream ended. The last name is the list's. Its bytes that are not printable ASCII are escaped.
-fn report_stream<X: Write>(
-    faults: &mut X,
-    names: &[&str],
-    failure: &StreamFailure,
-) -> io::Result<()> {
-    match failure {
-        StreamFailure::Start(lines) => report_since(faults, names, lines, (0, 0)),
-        StreamFailure::Read(failure) => {
-            let name = name_of(names, names.len().saturating_sub(1));
-            let name = name.as_bytes().escape_ascii();
-            writeln!(faults, "netset: {name}: {failure}")
+impl Report for StreamFailure {
+    ghost exit = { λ _. 2 };
+
+    ghost is_reported = { λ failure names. IsWritten (IsStreamReport failure names) };
+
+    ghost is_begun = { λ failure names. IsFrontWritten (IsStreamBegun failure names) };
+
+    fn status(&self) -> u8 {
+        2
+    }
+
+    fn report<X: Write>(&self, names: &[&str], faults: &mut Watched<'_, X>) -> io::Result<()> {
+        match self {
+            StreamFailure::Start(lines) => report_since(faults, names, lines, (0, 0)),
+            StreamFailure::Read(failure) => {
+                let name = name_of(names, names.len().saturating_sub(1));
+                report_named(faults, name, failure.words())
+            }
+            StreamFailure::Unwritable => report_words(faults, UNWRITABLE),
         }
-        StreamFailure::Unwritable => report_words(faults, UNWRITABLE),
     }
 }

@@ -2,18 +2,20 @@
 ghost use Rattle.std.specs.Prelude.{◌≡◌, not, List, ℕ, IfSome, IsNone};
 ghost use Rattle.std.specs.Io.KnownBytes.{Keeps};
 ghost use Rattle.ipnet_text.specs.Outputs.{IsWritten, IsFrontWritten};
+ghost use Rattle.ipnet_text.specs.Watched.{writer_of, HasFailed};
 ghost use Rattle.netset_lib.specs.ListReports.{IsRouteReport, IsRouteBegun};
 ghost use Rattle.netset_lib.specs.TextReasons.{ExplainsTextLine};
 ghost use Rattle.netset_lib.specs.TextReplies.{IsTextFailure, IsTableReported};
 ghost use Rattle.netset_lib.specs.TextTables.{IsTextRouteAnswer, IsTableOfTexts};
 
 use crate::reports::{OUT_OF_MEMORY, report_words};
-use crate::runs::{Report, TextCommand};
+use crate::runs::{Report, TextCommand, end_with};
 use crate::text_line::{NotTextLine, text_cause};
 use crate::text_route::{TextFailure, table_of_texts, text_route_answers};
 use ipnet::Grammar;
 use ipnet_lists::{Explanation, LineCause, explain_cause, report_refused};
 use ipnet_routes::RouteTable;
+use ipnet_text::Watched;
 use std::alloc::Global;
 use std::io;
 use std::io::Write;
@@ -87,7 +89,7 @@ impl Report for TextFailure {
         2
     }
 
-    fn report<X: Write>(&self, names: &[&str], faults: &mut X) -> io::Result<()> {
+    fn report<X: Write>(&self, names: &[&str], faults: &mut Watched<'_, X>) -> io::Result<()> {
         match self {
             TextFailure::Table(lines) => report_refused(faults, names, 0, lines),
             TextFailure::List(lines) => report_refused(faults, names, 1, lines),
@@ -110,17 +112,18 @@ pub fn table_or_report<'a, X: Write>(
     bytes: &'a [u8],
     grammar: Grammar,
     name: &str,
-    faults: &mut X,
+    faults: &mut Watched<'_, X>,
 ) -> Option<RouteTable<&'a str>>
     ensures table { IfSome result (IsTableOfTexts grammar bytes.now) }
-    ensures faultless { IfSome result (λ _. Keeps (X.contents faults.old) (X.contents faults.new)) }
-    ensures reported { IsNone result
-        → IsTableReported grammar bytes.now name.entry (X.contents faults.old) (X.contents faults.new) }
+    ensures faultless { IfSome result
+        (λ _. Keeps (X.contents (writer_of faults.old)) (X.contents (writer_of faults.new))) }
+    ensures reported { IsNone result → IsTableReported grammar bytes.now name.entry
+        (X.contents (writer_of faults.old)) (X.contents (writer_of faults.new)) (¬ (HasFailed faults.new)) }
 {
     match table_of_texts(alloc, bytes, grammar) {
         Ok(table) => Some(table),
         Err(failure) => {
-            let _ = failure.report(&[name], faults);
+            let _ = end_with(&failure, &[name], faults);
             None
         }
     }

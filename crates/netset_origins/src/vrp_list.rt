@@ -1,10 +1,11 @@
 //! Lists of validated ROA payloads (VRPs), as lines or as JSON: their VRPs, or the report of why there are none.
-ghost use Rattle.std.specs.Prelude.{◌≡◌, ◌⊎◌, ◌++◌, [], ℕ, List, Some, IsTrue, IfOk, IfErr, OnOk};
+ghost use Rattle.std.specs.Prelude.{◌≡◌, ◌⊎◌, ◌++◌, [], ℕ, List, Some, IsErr, IfOk, IfErr, OnOk};
 ghost use Rattle.std.specs.Io.{StartsWith};
 ghost use Rattle.std.specs.Io.KnownBytes.{Appends, Keeps};
 ghost use Rattle.ipnet_lists.specs.declared.cause.Cause.TheVariants.{CarriageReturn};
 ghost use Rattle.ipnet_origins.specs.declared.payload.Payload.{Payload};
 ghost use Rattle.ipnet_text.specs.Outputs.{IsWritten, IsFrontWritten};
+ghost use Rattle.ipnet_text.specs.Watched.{writer_of, HasFailed};
 ghost use Rattle.netset_lib.specs.declared.network_entry.ArgumentCause.TheVariants.{NoEntry};
 ghost use Rattle.netset_origins.specs.OriginReports.{fault_line, IsVrpsReport, IsVrpsBegun, IsVrpsReported};
 ghost use Rattle.netset_origins.specs.OriginSteps.{AreVrpsRead};
@@ -22,9 +23,10 @@ use ipnet_lists::{
     write_parts,
 };
 use ipnet_origins::Payload;
+use ipnet_text::Watched;
+use netset_lib::ArgumentCause;
 use netset_lib::reports::{OUT_OF_MEMORY, report_words};
 use netset_lib::runs::{Report, end_with};
-use netset_lib::{ArgumentCause, Ended};
 use std::alloc::{AllocError, Global};
 use std::io;
 use std::io::Write;
@@ -119,11 +121,16 @@ fn vrps_of(alloc: Global, bytes: &[u8], grammar: Grammar) -> Result<Vec<Payload>
 }
 
 /// Reports that JSON with this name is not a list of VRPs. If a write fails, a front of the line has been written.
-fn report_fault<X: Write>(faults: &mut X, name: &str, fault: &JsonFault) -> io::Result<()>
-    ensures whole { OnOk result (Appends (X.contents faults.old) (X.contents faults.new)
+fn report_fault<X: Write>(
+    faults: &mut Watched<'_, X>,
+    name: &str,
+    fault: &JsonFault,
+) -> io::Result<()>
+    ensures whole { OnOk result (Appends (X.contents (writer_of faults.old)) (X.contents (writer_of faults.new))
         (fault_line name.now fault.now)) }
     ensures front { (front : List ℕ) × StartsWith (fault_line name.now fault.now) front
-        × Appends (X.contents faults.old) (X.contents faults.new) front }
+        × Appends (X.contents (writer_of faults.old)) (X.contents (writer_of faults.new)) front }
+    ensures failed { IsErr result → HasFailed faults.new }
 {
     let name = Part::Escaped(name.as_bytes());
     match fault {
@@ -154,7 +161,7 @@ impl Report for VrpsFailure {
         2
     }
 
-    fn report<X: Write>(&self, names: &[&str], faults: &mut X) -> io::Result<()> {
+    fn report<X: Write>(&self, names: &[&str], faults: &mut Watched<'_, X>) -> io::Result<()> {
         match self {
             VrpsFailure::Refused(lines) => report_refused(faults, names, 0, lines),
             VrpsFailure::Json(fault) => report_fault(faults, name_of(names, 0), fault),
@@ -164,7 +171,8 @@ impl Report for VrpsFailure {
 }
 
 /// Returns the VRPs of a list. If lines are refused, if JSON is not a list of VRPs, or if memory runs out, reports it
-/// on `faults`, and the error has status 2. `name` is the name of the list.
+/// on `faults`, and the error is the exit status 2. `name` is the name of the list. The report is whole, unless a write
+/// to `faults` has failed.
 ///
 /// A line has the fields AS number, network and greatest prefix length, with a comma between, and perhaps a trust
 /// anchor and a time, which decide nothing. A header line is skipped. Comments are as in lists of entries. If the first
@@ -187,13 +195,14 @@ pub fn vrps_or_report<X: Write>(
     bytes: &[u8],
     grammar: Grammar,
     name: &str,
-    faults: &mut X,
-) -> Result<Vec<Payload>, Ended>
+    faults: &mut Watched<'_, X>,
+) -> Result<Vec<Payload>, u8>
     ensures vrps { IfOk result (λ vrps. AreVrpsOf grammar bytes.now vrps.items) }
-    ensures faultless { IfOk result (λ _. Keeps (X.contents faults.old) (X.contents faults.new)) }
-    ensures status { IfErr result (λ ended. ended.status ≡ 2) }
-    ensures reported { IfErr result (λ ended. IsVrpsReported grammar bytes.now name.entry (X.contents faults.old)
-        (X.contents faults.new) (IsTrue ended.is_reported)) }
+    ensures faultless { IfOk result
+        (λ _. Keeps (X.contents (writer_of faults.old)) (X.contents (writer_of faults.new))) }
+    ensures status { IfErr result (λ status. status ≡ 2) }
+    ensures reported { IfErr result (λ _. IsVrpsReported grammar bytes.now name.entry
+        (X.contents (writer_of faults.old)) (X.contents (writer_of faults.new)) (¬ (HasFailed faults.new))) }
 {
     match vrps_of(alloc, bytes, grammar) {
         Ok(vrps) => Ok(vrps),

@@ -14,6 +14,7 @@ ghost use Rattle.netset_pictures.specs.declared.bar.PictureFailure.TheVariants.{
 
 use ipnet_bars::{BarForm, Frame, RowWidth, bar_text, comparison_bar_text, frame_of};
 use ipnet_sets::IpSet;
+use ipnet_text::Watched;
 use netset_lib::reports::{OUT_OF_MEMORY, report_words};
 use netset_lib::runs::Report;
 use netset_lib::{Failure, Fault};
@@ -85,7 +86,7 @@ impl Report for PictureFailure {
         2
     }
 
-    fn report<X: Write>(&self, _: &[&str], faults: &mut X) -> io::Result<()> {
+    fn report<X: Write>(&self, _: &[&str], faults: &mut Watched<'_, X>) -> io::Result<()> {
         report_words(faults, self.words())
     }
 }

@@ -1,12 +1,10 @@
--- A table of which lines are refused has no routes, and its report.
-use Rattle.std.proofs.Common.{◌≡◌, ◌≢◌, ℕ, ◌+◌, List, [], ◌∷◌, ◌++◌, ap, sym, ◌∙◌, subst, inl, inr, Option, Some, None}
-use Rattle.std.specs.Io.KnownBytes.{Appends, Keeps}
+-- A table of which lines are refused has no routes.
+use Rattle.std.proofs.Common.{◌≡◌, ◌≢◌, ℕ, ◌+◌, List, [], ◌∷◌, ap, sym, subst, inl, inr}
 use Rattle.ipnet.specs.Lines.{lines_of}
 use Rattle.ipnet.specs.declared.parser.Grammar.{Grammar}
 use Rattle.ipnet_lists.specs.ContentLines.{AreItems}
 use Rattle.ipnet_lists.specs.Lists.{RefusalFor, after_mark}
 use Rattle.ipnet_lists.proofs.OneReading.{all_contents}
-use Rattle.ipnet_text.specs.Outputs.{IsFrontWritten}
 use Rattle.ipnet_routes.specs.declared.routes.RouteTable.{RouteTable}
 use Rattle.netset_lib.specs.TextTables.{TextLine, IsTextLine, IsTextLineCause, HasRefusedTextLines, IsTableOfTexts}
 use Rattle.netset_lib.specs.declared.text_line.NotTextLine.{NotTextLine}
@@ -40,20 +38,3 @@ not_both grammar bytes table refused t r =
     let same = all_contents (lines_of (after_mark bytes)) texts again are also in
     r.some (none_refused grammar 1 again t.lines r.lines refused
     (subst (λ z. AreItems (λ line. IsTextLine grammar line.text) (IsTextLineCause grammar) 1 z t.lines []) same h) k)
-
-kept_then : (a b c : Option (List ℕ)) (bs : List ℕ) → Keeps a b → Appends b c bs → Appends a c bs
-kept_then None b c bs k h = tt
-kept_then (Some xs) None c bs k h = absurd k
-kept_then (Some xs) (Some ys) None bs k h = absurd h
-kept_then (Some xs) (Some ys) (Some zs) bs k h = h ∙ ap (λ z. z ++ bs) k
-
--- what was written after nothing
-pub kept_front : (IsText : List ℕ → Type 0) (a b c : Option (List ℕ)) → Keeps a b → IsFrontWritten IsText b c
-    → IsFrontWritten IsText a c
-kept_front IsText a b c k h = record {
-  text = h.text;
-  right = h.right;
-  front = h.front;
-  begins = h.begins;
-  written = kept_then a b c h.front k h.written;
-}

@@ -14,8 +14,8 @@ use Rattle.ipnet_routes.specs.RoutesOf.{routes_of}
 use Rattle.ipnet_routes.specs.declared.routes.RouteTable.{RouteTable}
 use Rattle.netset_lib.specs.EntryAnswers.{AreAnswers, IsFoundIn}
 use Rattle.ipnet_lists.specs.Reports.{ExplainsEntry}
-use Rattle.ipnet_text.specs.Outputs.{IsFrontWritten}
-use Rattle.netset_lib.specs.ListReports.{IsListBegun}
+use Rattle.ipnet_text.specs.Outputs.{IsWritten, IsFrontWritten}
+use Rattle.netset_lib.specs.ListReports.{IsListReport, IsListBegun}
 use Rattle.netset_lib.specs.RouteAnswers.{Holds}
 use Rattle.netset_lib.specs.TextTables.{HasRefusedEntries}
 use Rattle.netset_routes.specs.Shortening.{route_line}
@@ -68,12 +68,13 @@ IsEntryListFailure grammar bytes (Failures.Refused lines) =
     (refusals : List Refusal) × HasRefusedEntries grammar bytes refusals × AreRefused lines refusals
 IsEntryListFailure grammar bytes Failures.Memory = Unit {0}
 
--- The bytes are not a list of entries, or memory ran out, and a front of the report about it was written, perhaps all.
--- The list has this name.
+-- The bytes are not a list of entries, or memory ran out, and a front of the report about it was written; all of it, if
+-- `IsSure`. The list has this name.
 -- Example: for the bytes `10.0.0.0/33\n` and the name `a`,
 -- `a:1: not a network, an address or a range: 10.0.0.0/33 (the prefix length is above 32)`.
 abbrev pub IsEntriesReported : Grammar → (bytes : List ℕ) → (name : Bor (List ℕ)) → Option (List ℕ)
-    → Option (List ℕ) → Type 0
-IsEntriesReported grammar bytes name held held_after = (failure : ListFailure NotEntry)
+    → Option (List ℕ) → (IsSure : Type 0) → Type 0
+IsEntriesReported grammar bytes name held held_after IsSure = (failure : ListFailure NotEntry)
     × IsEntryListFailure grammar bytes failure
     × IsFrontWritten (IsListBegun ExplainsEntry failure (name ∷ [])) held held_after
+    × (IsSure → IsWritten (IsListReport ExplainsEntry failure (name ∷ [])) held held_after)

@@ -14,12 +14,14 @@ ghost use Rattle.netset_lib.specs.TextTables.{IsTableOfTexts};
 ghost use Rattle.netset_routes.specs.AllRoutes.{AreHolders, IsAllRoutesAnswer, IsEntryListFailure, holder_line};
 ghost use Rattle.netset_routes.specs.AllRoutes.{IsEntriesReported, holder_lines};
 ghost use Rattle.netset_routes.specs.AllRouteSteps.{AddsRoutes, AreRoutesBy};
+ghost use Rattle.ipnet_text.specs.Watched.{writer_of, HasFailed};
 
 use crate::shorten::push_route;
 use ipnet::{Grammar, IpNet};
 use ipnet_lists::{Collector, Entry, LineReader, ListFailure, NotEntry, RefusedLines, skip_mark};
 use ipnet_routes::RouteTable;
-use netset_lib::runs::Report;
+use ipnet_text::Watched;
+use netset_lib::runs::end_with;
 use netset_lib::{TextCommand, table_or_report};
 use std::alloc::{AllocError, Global};
 use std::io::Write;
@@ -262,19 +264,21 @@ pub fn plain_table_or_report<'a, X: Write>(
     bytes: &'a [u8],
     grammar: Grammar,
     name: &str,
-    faults: &mut X,
+    faults: &mut Watched<'_, X>,
 ) -> Option<RouteTable<&'a str>>
     ensures entries { IfSome result (λ _. (entries : List ListEntry) × IsListRead grammar 0 bytes.now entries []) }
     ensures table { IfSome result (IsTableOfTexts grammar bytes.now) }
-    ensures faultless { IfSome result (λ _. Keeps (X.contents faults.old) (X.contents faults.new)) }
-    ensures reported { IsNone result
-        → IsEntriesReported grammar bytes.now name.entry (X.contents faults.old) (X.contents faults.new)
-        ⊎ IsTableReported grammar bytes.now name.entry (X.contents faults.old) (X.contents faults.new) }
+    ensures faultless { IfSome result
+        (λ _. Keeps (X.contents (writer_of faults.old)) (X.contents (writer_of faults.new))) }
+    ensures reported { IsNone result → IsEntriesReported grammar bytes.now name.entry
+        (X.contents (writer_of faults.old)) (X.contents (writer_of faults.new)) (¬ (HasFailed faults.new))
+        ⊎ IsTableReported grammar bytes.now name.entry
+        (X.contents (writer_of faults.old)) (X.contents (writer_of faults.new)) (¬ (HasFailed faults.new)) }
 {
     match check_entries(alloc, bytes, grammar) {
         Ok(()) => table_or_report(alloc, bytes, grammar, name, faults),
         Err(failure) => {
-            let _ = failure.report(&[name], faults);
+            let _ = end_with(&failure, &[name], faults);
             None
         }
     }

@@ -5,8 +5,9 @@ ghost use Rattle.ipnet.specs.NetworkOf.{ip_network};
 ghost use Rattle.ipnet_lists.specs.Lists.{RefusalFor};
 ghost use Rattle.ipnet_routes.specs.Routes.{ip_routes};
 ghost use Rattle.ipnet_text.specs.Outputs.{IsWritten, IsFrontWritten};
+ghost use Rattle.ipnet_text.specs.Watched.{writer_of, HasFailed};
 ghost use Rattle.netset_lib.specs.declared.failure.Failure.TheVariants.{Memory};
-ghost use Rattle.netset_lib.specs.Reports.{memory_line, unwritable, words_line};
+ghost use Rattle.netset_lib.specs.Reports.{IsReportedAs, memory_line, unwritable, words_line};
 ghost use Rattle.netset_lib.specs.TextReplies.{IsTableReported};
 ghost use Rattle.netset_lib.specs.TextTables.{HasRefusedTextLines};
 ghost use Rattle.netset_lib.specs.declared.text_line.NotTextLine.{NotTextLine};
@@ -17,6 +18,7 @@ use ipnet::{Grammar, IpNet};
 use ipnet_fewest::shortest_table;
 use ipnet_routes::RouteTable;
 use ipnet_routes::routes::laws::table_is_in_order;
+use ipnet_text::Watched;
 use netset_lib::{Failure, TextCommand, run_text, table_or_report};
 use std::alloc::{AllocError, Global};
 use std::io::Write;
@@ -109,18 +111,18 @@ impl<'a> ShortenRequest<'a> {
     /// "10.0.0.0/33 x\n", named a: 2, and faults gets
     ///     "a:1: not an entry, with or without text: 10.0.0.0/33 x (the prefix length is above 32)\n"
     /// ```
-    pub fn run<W: Write, X: Write>(&self, out: &mut W, faults: &mut X) -> u8
+    pub fn run<W: Write, X: Write>(&self, out: &mut W, faults: &mut Watched<'_, X>) -> u8
         ensures status { result ≤ 2 }
         ensures never_one { result ≢ 1 }
-        ensures faultless { result ≡ 0 → Keeps (X.contents faults.old) (X.contents faults.new) }
+        ensures faultless { result ≡ 0 → Keeps (X.contents (writer_of faults.old)) (X.contents (writer_of faults.new)) }
         ensures reported { result ≡ 2 → (Keeps (W.contents out.old) (W.contents out.new)
-            × IsTableReported self.now.grammar self.now.bytes.now self.now.name (X.contents faults.old)
-            (X.contents faults.new))
-            ⊎ ((Keeps (W.contents out.old) (W.contents out.new)
-            × IsFrontWritten (λ t. t ≡ memory_line) (X.contents faults.old) (X.contents faults.new))
+            × IsTableReported self.now.grammar self.now.bytes.now self.now.name
+            (X.contents (writer_of faults.old)) (X.contents (writer_of faults.new)) (¬ (HasFailed faults.new)))
+            ⊎ ((Keeps (W.contents out.old) (W.contents out.new) × IsReportedAs memory_line
+            (X.contents (writer_of faults.old)) (X.contents (writer_of faults.new)) (¬ (HasFailed faults.new)))
             ⊎ (IsFrontWritten (IsShortenAnswer self.now.grammar self.now.bytes.now) (W.contents out.old)
-            (W.contents out.new)
-            × IsFrontWritten (λ t. t ≡ words_line unwritable) (X.contents faults.old) (X.contents faults.new))) }
+            (W.contents out.new) × IsReportedAs (words_line unwritable)
+            (X.contents (writer_of faults.old)) (X.contents (writer_of faults.new)) (¬ (HasFailed faults.new)))) }
         ensures answered { result ≡ 0 → IsWritten (IsShortenAnswer self.now.grammar self.now.bytes.now)
             (W.contents out.old) (W.contents out.new) }
         ensures refused { (refused : List (RefusalFor NotTextLine))

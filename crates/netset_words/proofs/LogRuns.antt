@@ -1,13 +1,14 @@
 -- Runs of the filter of a log, by its set.
-use Rattle.std.proofs.Common.{◌≡◌, ◌≤◌, ◌==◌, ◌↔◌, ℕ, List, [], ◌∷◌, ◌++◌, length, Option, refl, sym, ap, ◌∙◌, subst}
-use Rattle.std.proofs.Common.{arith}
-use Rattle.std.proofs.Common.{append-nil}
+use Rattle.std.proofs.Common.{◌≡◌, ◌≢◌, ◌≤◌, ◌==◌, ◌↔◌, ℕ, List, [], ◌∷◌, ◌++◌, length, Option}
+use Rattle.std.proofs.Common.{refl, sym, ap, ◌∙◌, subst, arith, append-nil}
 use Rattle.std.specs.Io.KnownBytes.{Appends, Keeps}
 use Rattle.std.proofs.KnownBytes.{Keeps-trans}
 use Rattle.ipnet.specs.Lines.{lines_of}
 use Rattle.ipnet_sets.specs.Members.{IsMember}
 use Rattle.ipnet_sets.specs.declared.set.IpSet.{IpSet}
 use Rattle.netset_lib.specs.Filters.{IsOnSide}
+use Rattle.netset_lib.specs.Reports.{IsReportedAs}
+use Rattle.netset_lib.proofs.RunLaws.{kept_report}
 use Rattle.ipnet_lists.specs.Lists.{after_mark}
 use Rattle.netset_words.specs.declared.line_filter.LineFilter.{LineFilter}
 use Rattle.netset_words.specs.declared.lines_program.FilteredLog.{FilteredLog}
@@ -74,14 +75,18 @@ module _ (how : LinesRequest) (set : IpSet) (left left_after held held_after : O
   pub all_decided : (log : FilteredLog) (status : ℕ) → status ≤ 1 → (status ≤ 1) ↔ (log.undecided.count ≡ 0)
       → (status ≤ 1 → log.printed ≡ (status == 0)) → (faults then after : Option (List ℕ))
       → (log.undecided.count ≡ 0 → Keeps faults then) → (log.nones ≡ 0 → Keeps then after)
+      → (line : ℕ → List ℕ) (IsSure : Type 0) → (log.nones ≢ 0 → IsReportedAs (line log.nones) then after IsSure)
       → IsResultFor how set left left_after held held_after log
       → ((r : LogResult) × (r.undecided ≡ []) × (r.printed ≡ (status == 0)) × (r.nones ≡ 0 → Keeps faults after)
+      × (r.nones ≢ 0 → IsReportedAs (line r.nones) faults after IsSure)
       × IsLogFiltered how set left left_after held held_after r)
-  all_decided log status few decided printed faults then after quiet report (r, counts, is) = (
+  all_decided log status few decided printed faults then after quiet report line IsSure reported (r, counts, is) = (
     r,
     no_refusal r.undecided (sym counts.undecided.count ∙ decided.0 few),
     sym counts.printed ∙ printed few,
     λ none. Keeps-trans faults then after (quiet (decided.0 few)) (report (counts.nones ∙ none)),
+    λ some. subst (λ n. IsReportedAs (line n) faults after IsSure) counts.nones (kept_report (line log.nones) IsSure
+        faults then after (quiet (decided.0 few)) (reported (λ none. some (sym counts.nones ∙ none)))),
     is,
   )
 

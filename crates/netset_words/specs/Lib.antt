@@ -13,3 +13,4 @@ pub mod LogSteps
 pub mod FilterSteps
 pub mod Logs
 pub mod WordReports
+pub mod LogReports

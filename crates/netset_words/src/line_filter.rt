@@ -215,6 +215,7 @@ pub struct LineFilter {
 }
 
 impl LineFilter {
+    ghost use Rattle.ipnet_lists.specs.RefusedLines.{AreRefused};
     ghost use Rattle.netset_words.specs.Logs.{IsFilterFor};
     ghost use Rattle.netset_words.specs.FilterSteps.{IsFilterUpTo, IsLogUpTo, ReadsUpTo, GoesOn, EndsLine, ReadsEnd};
     ghost use Rattle.netset_words.specs.FilterSteps.{EndsLog};
@@ -235,6 +236,7 @@ impl LineFilter {
     fn new(alloc: Global, request: LinesRequest, set: IpSet) -> LineFilter
         ensures begun { IsLogUpTo request set [] 0 [] result }
         ensures set { result.set ≡ set }
+        ensures undecided { AreRefused result.undecided [] }
     {
         LineFilter {
             alloc,

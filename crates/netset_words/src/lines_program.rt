@@ -1,22 +1,31 @@
 //! The command `filter --lines` of the program, over any readers and writers.
-ghost use Rattle.std.specs.Prelude.{◌≡◌, ◌≤◌, ◌==◌, ◌↔◌, ◌⊎◌, ◌++◌, List, ℕ, [], IfOk, IfErr, OnOk};
+ghost use Rattle.std.specs.Prelude.{◌≡◌, ◌≢◌, ◌≤◌, ◌==◌, ◌↔◌, ◌⊎◌, ◌++◌, List, ℕ, [], IfOk, IfErr, IsErr, OnOk};
 ghost use Rattle.std.specs.Io.{StartsWith};
 ghost use Rattle.std.specs.Io.KnownBytes.{Appends, Keeps};
 ghost use Rattle.ipnet.specs.Lines.{lines_of};
 ghost use Rattle.ipnet_sets.specs.Members.{IsMember};
 ghost use Rattle.ipnet_sets.specs.declared.set.IpSet.{IpSet};
 ghost use Rattle.ipnet_text.specs.Inputs.{GaveWhole};
+ghost use Rattle.ipnet_text.specs.Outputs.{IsWritten, IsFrontWritten};
+ghost use Rattle.ipnet_text.specs.Watched.{writer_of, HasFailed};
 ghost use Rattle.ipnet_lists.specs.Lists.{after_mark};
+ghost use Rattle.netset_lib.specs.Reports.{IsReportedAs};
+ghost use Rattle.netset_lib.specs.Runs.{IsReportedLast};
+ghost use Rattle.netset_lib.specs.StepReports.{AreTold, AreToldSince};
 ghost use Rattle.netset_words.specs.declared.lines_request.LinesRequest.{LinesRequest};
 ghost use Rattle.netset_words.specs.LogLines.{LogResult};
+ghost use Rattle.netset_words.specs.LogReports.{lines_word, log_line, log_name, nones_line};
 ghost use Rattle.netset_words.specs.Logs.{IsLogFiltered, IsLogFilteredButSome, IsLogFilteredInPart, IsFrontPrinted};
 ghost use Rattle.netset_words.specs.Logs.{IsFilterFor, HasCounts};
 ghost use Rattle.netset_words.specs.FilterSteps.{IsLogUpTo, IsTaken, IsStreamed};
+ghost use Rattle.netset_words.specs.WordReports.{ExplainsWord};
 
 use crate::line_filter::LineFilter;
 use crate::refused_word::RefusedWords;
-use ipnet_lists::{MOST_READS, ReadFailure, begin_input, report_since};
-use ipnet_text::{ReadError, Window};
+use ipnet_lists::{MOST_READS, Part, ReadFailure, begin_input, write_parts};
+use ipnet_text::{ReadError, Watched, Window};
+use netset_lib::reports::{UNWRITABLE, report_named, report_new, report_words};
+use netset_lib::runs::{Report, end_with};
 use netset_lib::write_and_flush;
 use std::alloc::AllocError;
 use std::io;
@@ -87,7 +96,7 @@ fn read_log<R: Read, W: Write, X: Write>(
     names: &[&str],
     input: &mut R,
     out: &mut W,
-    faults: &mut X,
+    faults: &mut Watched<'_, X>,
 ) -> Result<LineFilter, LogFailure>
     ensures whole { IfOk result (λ f. (how : LinesRequest) → (set : IpSet)
         → IsLogUpTo how set [] 0 [] filter → IsStreamed how set (R.remaining input.old) (R.remaining input.new)
@@ -95,8 +104,12 @@ fn read_log<R: Read, W: Write, X: Write>(
     ensures part { IfErr result (λ _. (how : LinesRequest) → (set : IpSet)
         → IsLogUpTo how set [] 0 [] filter → IsFrontPrinted how (IsMember set) (R.remaining input.old)
         (W.contents out.old) (W.contents out.new)) }
+    ensures appended { (text : List ℕ)
+        × Appends (X.contents (writer_of faults.old)) (X.contents (writer_of faults.new)) text }
+    ensures told { IfOk result (λ f. ¬ (HasFailed faults.new) → AreToldSince ExplainsWord names.now filter.undecided
+        f.undecided (X.contents (writer_of faults.old)) (X.contents (writer_of faults.new))) }
     ensures quiet { IfOk result (λ f. (how : LinesRequest) → (set : IpSet) → IsLogUpTo how set [] 0 [] filter
-        → f.undecided.count ≡ 0 → Keeps (X.contents faults.old) (X.contents faults.new)) }
+        → f.undecided.count ≡ 0 → Keeps (X.contents (writer_of faults.old)) (X.contents (writer_of faults.new))) }
 {
     let mut filter = filter;
     let mut window = Window::new(filter.alloc)?;
@@ -108,7 +121,7 @@ fn read_log<R: Read, W: Write, X: Write>(
         take_bytes(&mut filter, held, more)?;
         window.take(all);
         put(&mut filter.answers.text, out)?;
-        let _ = report_since(faults, names, &filter.undecided, before);
+        report_new(faults, names, &filter.undecided, before);
         if !more {
             return Ok(filter);
         }
@@ -130,7 +143,7 @@ pub fn filter_log<R: Read, W: Write, X: Write>(
     names: &[&str],
     input: &mut R,
     out: &mut W,
-    faults: &mut X,
+    faults: &mut Watched<'_, X>,
 ) -> Result<FilteredLog, LogFailure>
     ensures whole { IfOk result (λ log. (how : LinesRequest) → (set : IpSet)
         → IsFilterFor how set filter
@@ -139,9 +152,15 @@ pub fn filter_log<R: Read, W: Write, X: Write>(
     ensures part { IfErr result (λ _. (how : LinesRequest) → (set : IpSet)
         → IsFilterFor how set filter → IsLogFilteredInPart how set (R.remaining input.old)
         (W.contents out.old) (W.contents out.new)) }
+    ensures appended { (text : List ℕ)
+        × Appends (X.contents (writer_of faults.old)) (X.contents (writer_of faults.new)) text }
+    ensures told { IfOk result (λ log. (how : LinesRequest) → (set : IpSet)
+        → IsFilterFor how set filter → ¬ (HasFailed faults.new)
+        → AreTold ExplainsWord names.now log.undecided.count
+        (X.contents (writer_of faults.old)) (X.contents (writer_of faults.new))) }
     ensures quiet { IfOk result (λ log. (how : LinesRequest) → (set : IpSet)
         → IsFilterFor how set filter → log.undecided.count ≡ 0
-        → Keeps (X.contents faults.old) (X.contents faults.new)) }
+        → Keeps (X.contents (writer_of faults.old)) (X.contents (writer_of faults.new))) }
 {
     let LineFilter {
         answers,
@@ -155,27 +174,64 @@ pub fn filter_log<R: Read, W: Write, X: Write>(
     })
 }
 
-/// Reports why a log was not read to its end.
-fn report_failure<X: Write>(faults: &mut X, name: &str, failure: &LogFailure) -> io::Result<()> {
-    match failure {
-        LogFailure::Read(failure) => {
-            let name = name.as_bytes().escape_ascii();
-            writeln!(faults, "netset: {name}: {failure}")
+impl Report for LogFailure {
+    ghost exit = { λ _. 2 };
+
+    ghost is_reported = { λ failure names. IsWritten (λ t. t ≡ log_line failure names) };
+
+    ghost is_begun = { λ failure names. IsFrontWritten (λ t. t ≡ log_line failure names) };
+
+    fn status(&self) -> u8 {
+        2
+    }
+
+    fn report<X: Write>(&self, names: &[&str], faults: &mut Watched<'_, X>) -> io::Result<()> {
+        match self {
+            LogFailure::Read(failure) => report_named(faults, log_name(names), failure.words()),
+            LogFailure::Unwritable => report_words(faults, UNWRITABLE),
         }
-        LogFailure::Unwritable => writeln!(faults, "netset: output cannot be written"),
     }
 }
 
-/// Reports the number of lines without an entry. Nothing is printed if there is none.
-fn report_nones<X: Write>(faults: &mut X, name: &str, nones: usize) -> io::Result<()>
-    ensures { nones ≡ 0 → Keeps (X.contents faults.old) (X.contents faults.new) }
+/// The word for this number of lines.
+fn lines_word(count: usize) -> &'static str
+    ensures { result.now ≡ lines_word count }
+{
+    if count == 1 { " line" } else { " lines" }
+}
+
+/// Reports the number of lines without an entry. If a write fails, a front of the line has been written.
+fn report_nones<X: Write>(faults: &mut Watched<'_, X>, name: &str, nones: usize) -> io::Result<()>
+    ensures whole { OnOk result (IsWritten (λ t. t ≡ nones_line name.now nones)
+        (X.contents (writer_of faults.old)) (X.contents (writer_of faults.new))) }
+    ensures front { IsFrontWritten (λ t. t ≡ nones_line name.now nones)
+        (X.contents (writer_of faults.old)) (X.contents (writer_of faults.new)) }
+    ensures failed { IsErr result → HasFailed faults.new }
+{
+    write_parts(
+        faults,
+        &[
+            Part::Words("netset: "),
+            Part::Escaped(name.as_bytes()),
+            Part::Words(": "),
+            Part::Number(nones),
+            Part::Words(lines_word(nones)),
+            Part::Words(" without an entry\n"),
+        ],
+    )
+}
+
+/// Reports the number of lines without an entry, if there are some. The report is whole, unless a write to `faults` has
+/// failed.
+fn end_nones<X: Write>(faults: &mut Watched<'_, X>, name: &str, nones: usize)
+    ensures none { nones ≡ 0 → Keeps (X.contents (writer_of faults.old)) (X.contents (writer_of faults.new)) }
+    ensures reported { nones ≢ 0 → IsReportedAs (nones_line name.now nones)
+        (X.contents (writer_of faults.old)) (X.contents (writer_of faults.new)) (¬ (HasFailed faults.new)) }
 {
     if nones == 0 {
-        return Ok(());
+        return;
     }
-    let lines = if nones == 1 { "line" } else { "lines" };
-    let name = name.as_bytes().escape_ascii();
-    writeln!(faults, "netset: {name}: {nones} {lines} without an entry")
+    let _ = report_nones(faults, name, nones);
 }
 
 /// The exit status for a log that was read to its end.
@@ -191,6 +247,13 @@ fn log_status(log: &FilteredLog) -> u8
     } else {
         1
     }
+}
+
+/// The name of the log: the second of the names.
+fn log_name<'a>(names: &[&'a str]) -> &'a str
+    ensures { result.now ≡ log_name names.now }
+{
+    names.get(1).copied().unwrap_or("log")
 }
 
 /// Writes the lines of a log that are chosen to `out`, while the log is read from `input`, and returns the exit status.
@@ -215,13 +278,15 @@ pub fn run_lines<R: Read, W: Write, X: Write>(
     names: &[&str],
     input: &mut R,
     out: &mut W,
-    faults: &mut X,
+    faults: &mut Watched<'_, X>,
 ) -> u8
     ensures status { result ≤ 2 }
     ensures filtered { result ≤ 1 → (how : LinesRequest) → (set : IpSet)
         → IsFilterFor how set filter
         → ((r : LogResult) × (r.undecided ≡ []) × (r.printed ≡ (result == 0))
-        × (r.nones ≡ 0 → Keeps (X.contents faults.old) (X.contents faults.new))
+        × (r.nones ≡ 0 → Keeps (X.contents (writer_of faults.old)) (X.contents (writer_of faults.new)))
+        × (r.nones ≢ 0 → IsReportedAs (nones_line (log_name names.now) r.nones)
+        (X.contents (writer_of faults.old)) (X.contents (writer_of faults.new)) (¬ (HasFailed faults.new)))
         × IsLogFiltered how set (R.remaining input.old) (R.remaining input.new)
         (W.contents out.old) (W.contents out.new) r) }
     ensures cut_short { result ≡ 2 → (how : LinesRequest) → (set : IpSet)
@@ -229,16 +294,19 @@ pub fn run_lines<R: Read, W: Write, X: Write>(
         → IsLogFilteredButSome how set (R.remaining input.old) (R.remaining input.new)
         (W.contents out.old) (W.contents out.new)
         ⊎ IsLogFilteredInPart how set (R.remaining input.old) (W.contents out.old) (W.contents out.new) }
+    ensures reported { result ≡ 2 → (how : LinesRequest) → (set : IpSet)
+        → IsFilterFor how set filter
+        → IsLogFilteredButSome how set (R.remaining input.old) (R.remaining input.new)
+        (W.contents out.old) (W.contents out.new)
+        ⊎ IsReportedLast (λ failure. IsWritten (λ t. t ≡ log_line failure names.now))
+        (λ failure. IsFrontWritten (λ t. t ≡ log_line failure names.now))
+        (X.contents (writer_of faults.old)) (X.contents (writer_of faults.new)) (¬ (HasFailed faults.new)) }
 {
-    let name = names.get(1).copied().unwrap_or("log");
     match filter_log(filter, names, input, out, faults) {
         Ok(log) => {
-            let _ = report_nones(faults, name, log.nones);
+            end_nones(faults, log_name(names), log.nones);
             log_status(&log)
         }
-        Err(failure) => {
-            let _ = report_failure(faults, name, &failure);
-            2
-        }
+        Err(failure) => end_with(&failure, names, faults),
     }
 }

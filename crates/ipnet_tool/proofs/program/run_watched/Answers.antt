@@ -5,10 +5,10 @@ use Rattle.std.proofs.KnownBytes.{Keeps-refl}
 use Rattle.ipnet.specs.declared.parser.Grammar.{Grammar}
 use Rattle.ipnet_text.specs.LineTexts.{text_of_lines}
 use Rattle.ipnet_text.specs.NetLists.{networks_of}
+use Rattle.ipnet_text.specs.Watched.{writer_of}
 use Rattle.ipnet_tool.specs.Reading.{IsBadLineFrom}
 use Rattle.ipnet_tool.specs.Runs.{IsChosenBy, HasBadLine}
 use Rattle.ipnet_tool.specs.Statuses.{status_of}
-use Rattle.ipnet_tool.specs.Watched.{writer_of}
 use Rattle.ipnet_tool.specs.declared.failure.Failure.{Failure}
 use Rattle.ipnet_tool.specs.declared.failure.Failure.TheVariants.{Arguments, Unreadable, NotUtf8, Memory, Line}
 use Rattle.ipnet_tool.specs.declared.failure.Failure.TheVariants.{Unwritable}

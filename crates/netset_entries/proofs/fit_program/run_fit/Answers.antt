@@ -3,7 +3,8 @@ use Rattle.std.proofs.Common.{inl, inr, refl, sym, subst, ◌∙◌, string_byte
 use Rattle.std.specs.Io.{StartsWith}
 use Rattle.std.specs.Io.KnownBytes.{Appends}
 use Rattle.std.proofs.KnownBytes.{Keeps-refl}
-use Rattle.std.specs.Bool.{IsTrue}
+use Rattle.ipnet_text.specs.Watched.{writer_of, HasFailed}
+use Rattle.ipnet_text.proofs.WatchedLaws.{whole_unless}
 use Rattle.netset_entries.proofs.FitLaws.{none_reported}
 use Rattle.netset_entries.proofs.fit_program.run_fit.Goals as goal
 
@@ -25,7 +26,7 @@ pub returns-else-not-write_and_flush-clause-answered : goal.returns-else-not-wri
 returns-else-not-write_and_flush-clause-answered g c = λ _.
     let Contents = g.W.Write.contents in
     let report = string_bytes c.in-Ok.fitted.report in
-    let (front, begins, reported) = c.write_and_flush-in-Ok.ensures.front in record {
+    let (front, begins, reported) = c.put.ensures.front in record {
       text = string_bytes c.in-Ok.fitted.text;
       report = report;
       right = c.in-Ok.ensures.text;
@@ -42,17 +43,18 @@ returns-else-not-write_and_flush-clause-answered g c = λ _.
         λ sure. record {
           text = report;
           right = refl;
-          written = subst (λ z. Appends (g.X.Write.contents c.args.faults.now)
-              (g.X.Write.contents c.write_and_flush-in-Ok.new.out) z)
-              c.as_bytes-in-Ok.ensures.value (c.write_and_flush-in-Ok.ensures.whole sure);
+          written = subst (λ z. Appends (g.X.Write.contents (writer_of c.args.faults.now))
+              (g.X.Write.contents (writer_of c.put.new.self)) z) c.as_bytes-in-Ok.ensures.value
+              (whole_unless c.put.result c.put.ensures.whole (λ e. c.put.ensures.failed.1 (inr e)) sure);
         },
       );
     }
 
 pub returns-in-Err-clause-none : goal.returns-in-Err-clause-none
 returns-in-Err-clause-none g c = λ one.
-    let (none, reported) = none_reported c.args.command c.in-Err.why (g.X.Write.contents c.args.faults.now)
-    (g.X.Write.contents c.end_with.new.faults) (IsTrue c.end_with.result.is_reported) c.in-Err.ensures.failure
+    let (none, reported) = none_reported c.args.command c.in-Err.why (g.X.Write.contents (writer_of c.args.faults.now))
+    (g.X.Write.contents (writer_of c.end_with.new.faults))
+    (¬ (HasFailed c.end_with.new.faults)) c.in-Err.ensures.failure
     (sym c.end_with.ensures.status ∙ one) c.end_with.ensures.front c.end_with.ensures.whole in
     (Keeps-refl (g.W.Write.contents c.args.out.now), none, reported)
 

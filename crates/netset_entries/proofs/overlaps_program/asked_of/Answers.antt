@@ -1,10 +1,12 @@
-use Rattle.std.proofs.Common.{sym, subst}
+use Rattle.std.proofs.Common.{inl, inr, sym, subst}
 use Rattle.netset_entries.specs.EntryLineOf.{AreAsked}
-use Rattle.netset_entries.proofs.TwoListLaws.{all_read}
+use Rattle.netset_entries.specs.WriteFailures.{IsListsFailure}
+use Rattle.netset_entries.specs.declared.lines.WriteFailure.TheVariants.{Refused}
+use Rattle.netset_entries.proofs.TwoListLaws.{all_read, refused_of}
 use Rattle.netset_entries.proofs.overlaps_program.asked_of.Goals as goal
 
-pub returns : goal.returns
-returns c =
+pub returns-clause-asked : goal.returns-clause-asked
+returns-clause-asked c =
     let first = c.in_ok-first.first in
     let second = c.in_ok-second.second in
     let grammar = c.args.grammar in
@@ -16,4 +18,19 @@ returns c =
       all_read grammar c.in-Some.other.now second c.in_ok-second.ensures c.if-second-ne0.false,
       c.in_ok-joined.ensures.entries,
       c.in_ok-joined.ensures.count,
+    )
+
+pub returns-then-first-ne0-2-clause-failed : goal.returns-then-first-ne0-2-clause-failed
+returns-then-first-ne0-2-clause-failed c =
+    let first = c.in_ok-first.first in
+    let second = c.in_ok-second.second in
+    let grammar = c.args.grammar in
+    let bytes = c.args.list.now in
+    subst (λ other. IsListsFailure grammar bytes other (Refused first.refused second.refused)) (sym c.in-Some.is) (
+      refused_of grammar bytes first c.in_ok-first.ensures,
+      refused_of grammar c.in-Some.other.now second c.in_ok-second.ensures,
+      elim c.then-first-ne0-2.either [
+        | inl some ↦ inl some
+        | inr others ↦ inr others.1
+      ],
     )

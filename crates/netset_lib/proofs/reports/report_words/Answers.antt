@@ -7,16 +7,16 @@ pub returns-clause-whole : goal.returns-clause-whole
 returns-clause-whole g c =
     on_ok_weaker c.write_parts.result
     (λ written. record {
-      text = words_line c.as_bytes.result.now;
-      right = ap words_line c.as_bytes.ensures.value;
+      text = words_line c.as_bytes-bytes.result.now;
+      right = ap words_line c.as_bytes-bytes.ensures.value;
       written = written;
     }) c.write_parts.ensures.whole
 
 pub returns-clause-front : goal.returns-clause-front
 returns-clause-front g c =
     let (front, begins, written) = c.write_parts.ensures.front in record {
-      text = words_line c.as_bytes.result.now;
-      right = ap words_line c.as_bytes.ensures.value;
+      text = words_line c.as_bytes-bytes.result.now;
+      right = ap words_line c.as_bytes-bytes.ensures.value;
       front = front;
       begins = begins;
       written = written;

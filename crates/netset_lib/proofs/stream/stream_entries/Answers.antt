@@ -1,10 +1,15 @@
-use Rattle.std.proofs.Common.{◌||◌, refl, sym, ap, ◌∙◌, subst, false, string_bytes}
-use Rattle.std.proofs.KnownBytes.{Keeps-refl}
+use Rattle.std.proofs.Common.{◌≡◌, ◌||◌, [], refl, sym, ap, ◌∙◌, subst, false, string_bytes, length, vec_len, rules}
+use Rattle.std.proofs.KnownBytes.{Appends-nil, Keeps-refl}
+use Rattle.ipnet_text.specs.Watched.{writer_of}
 use Rattle.netset_lib.specs.Answering.{AreAnswersBy}
 use Rattle.ipnet_lists.specs.Reading.{TakesLines, WasMadeOf, at_first_line}
+use Rattle.ipnet_lists.specs.Reports.{ExplainsEntry}
+use Rattle.netset_lib.specs.StepReports.{AreToldSince}
 use Rattle.netset_lib.specs.Streams.{IsWritten}
 use Rattle.netset_lib.proofs.AnsweringLaws.{none_made}
 use Rattle.ipnet_lists.proofs.MadeLaws.{made_of}
+use Rattle.netset_lib.proofs.RunLaws.{appended_more}
+use Rattle.netset_lib.proofs.StepLaws.{told_none, told_more}
 use Rattle.netset_lib.proofs.StreamLaws.{written_none, taken_written}
 use Rattle.netset_lib.proofs.StreamParts.{none_part, up_to_part, taken_part, starts_with_all, still_quiet, on_err}
 use Rattle.ipnet_lists.proofs.WindowReading.{IsListUpTo, up_to_begin, up_to_lines, up_to_bytes, up_to_whole}
@@ -39,11 +44,26 @@ loop-preserved g c =
           (AreAnswersBy a answers)) c.if-not-more.false c.in_ok-take_lines.ensures)
           c.in_ok-put.ensures.written refl))
           on.is on.same_lines on.read on.end;
+      appended = appended_more (g.X.Write.contents (writer_of c.args.faults.now))
+          (g.X.Write.contents (writer_of c.loop.faults)) (g.X.Write.contents (writer_of c.report_new.new.faults))
+          inv.appended c.report_new.ensures.appended;
+      told = λ sound.
+          let first = c.args.stream.lists.reading.lines.refused in
+          let shown = c.loop.reading.lines.refused.shown in
+          let size : vec_len shown ≡ length shown.items = search rules in
+          subst (λ r. AreToldSince ExplainsEntry c.args.names.now first r
+          (g.X.Write.contents (writer_of c.args.faults.now)) (g.X.Write.contents (writer_of c.report_new.new.faults)))
+          (ap (λ l. l.refused) (sym on.same_lines))
+          (told_more ExplainsEntry c.args.names.now first c.loop.reading.lines.refused
+          c.take_lines.new.self.lines.refused c.len.result (g.X.Write.contents (writer_of c.args.faults.now))
+          (g.X.Write.contents (writer_of c.loop.faults)) (g.X.Write.contents (writer_of c.report_new.new.faults))
+          (c.len.ensures ∙ size) (inv.told (λ failed. sound (c.report_new.ensures.kept failed)))
+          (c.report_new.ensures.whole sound));
       quiet = λ same. still_quiet c.loop.more c.loop.more (left c.args.input.now) (left c.loop.input) start
           c.loop.reading c.take_lines.new.self before then (AreAnswersBy a c.loop.answers) (AreAnswersBy a answers)
-          (g.X.Write.contents c.args.faults.now) (g.X.Write.contents c.loop.faults)
-          (g.X.Write.contents c.report_since.new.faults) inv.list c.in_ok-take_lines.ensures
-          (ap (λ l. l.refused.count) (sym on.same_lines) ∙ same) inv.quiet c.report_since.ensures.none;
+          (g.X.Write.contents (writer_of c.args.faults.now)) (g.X.Write.contents (writer_of c.loop.faults))
+          (g.X.Write.contents (writer_of c.report_new.new.faults)) inv.list c.in_ok-take_lines.ensures
+          (ap (λ l. l.refused.count) (sym on.same_lines) ∙ same) inv.quiet c.report_new.ensures.none;
     }
 
 pub loop-init : goal.loop-init
@@ -55,7 +75,14 @@ loop-init g c =
       found = c.new-answers.ensures.found;
       list = up_to_begin c.in_ok-more.more (left c.args.input.now) (left c.begin.new.input) c.args.stream.lists.reading
           c.begin.new.self (IsWritten c.args.stream.answerer held held false) c.in_ok-more.ensures;
-      quiet = λ _. Keeps-refl (g.X.Write.contents c.args.faults.now);
+      appended = ([], Appends-nil (g.X.Write.contents (writer_of c.args.faults.now)));
+      told = λ sound.
+          let first = c.args.stream.lists.reading.lines.refused in
+          let faults = g.X.Write.contents (writer_of c.args.faults.now) in
+          subst (λ r. AreToldSince ExplainsEntry c.args.names.now first r faults faults)
+          (ap (λ l. l.refused) (sym c.in_ok-more.ensures.lines))
+          (told_none ExplainsEntry c.args.names.now first faults);
+      quiet = λ _. Keeps-refl (g.X.Write.contents (writer_of c.args.faults.now));
     }
 
 pub returns-then-not-more-clause-whole : goal.returns-then-not-more-clause-whole
@@ -97,9 +124,10 @@ returns-then-not-more-clause-quiet g c = λ same.
     still_quiet c.loop.more c.loop.more (left c.args.input.now) (left c.loop.input) start c.loop.reading
     c.take_lines.new.self (IsWritten a held held false)
     (IsWritten a held (g.W.Write.contents c.loop.out) c.loop.found) (AreAnswersBy a c.loop.answers)
-    (AreAnswersBy a c.take_lines.new.made) (g.X.Write.contents c.args.faults.now) (g.X.Write.contents c.loop.faults)
-    (g.X.Write.contents c.report_since.new.faults) inv.list c.in_ok-take_lines.ensures
-    (ap (λ r. r.count) (sym c.end_list.ensures.same_refused) ∙ same) inv.quiet c.report_since.ensures.none
+    (AreAnswersBy a c.take_lines.new.made) (g.X.Write.contents (writer_of c.args.faults.now))
+    (g.X.Write.contents (writer_of c.loop.faults))
+    (g.X.Write.contents (writer_of c.report_new.new.faults)) inv.list c.in_ok-take_lines.ensures
+    (ap (λ r. r.count) (sym c.end_list.ensures.same_refused) ∙ same) inv.quiet c.report_new.ensures.none
 
 pub returns-in_err-more-clause-part : goal.returns-in_err-more-clause-part
 returns-in_err-more-clause-part g c =
@@ -156,3 +184,46 @@ returns-clause-part g c =
     up_to_part c.args.stream.answerer c.loop.more (g.R.Read.remaining c.args.input.now)
     (g.R.Read.remaining c.loop.input) (g.W.Write.contents c.args.out.now) (g.W.Write.contents c.loop.out)
     (at_first_line c.args.stream.lists.reading.lines) c.loop.reading c.loop.found refl c.loop.invariant.list
+
+-- ---- what was reported
+
+pub returns-then-not-more-clause-appended : goal.returns-then-not-more-clause-appended
+returns-then-not-more-clause-appended g c =
+    appended_more (g.X.Write.contents (writer_of c.args.faults.now)) (g.X.Write.contents (writer_of c.loop.faults))
+    (g.X.Write.contents (writer_of c.report_new.new.faults)) c.loop.invariant.appended c.report_new.ensures.appended
+
+pub returns-in_err-end_list-clause-appended : goal.returns-in_err-end_list-clause-appended
+returns-in_err-end_list-clause-appended g c =
+    appended_more (g.X.Write.contents (writer_of c.args.faults.now)) (g.X.Write.contents (writer_of c.loop.faults))
+    (g.X.Write.contents (writer_of c.report_new.new.faults)) c.loop.invariant.appended c.report_new.ensures.appended
+
+pub returns-in_err-more-2-clause-appended : goal.returns-in_err-more-2-clause-appended
+returns-in_err-more-2-clause-appended g c =
+    appended_more (g.X.Write.contents (writer_of c.args.faults.now)) (g.X.Write.contents (writer_of c.loop.faults))
+    (g.X.Write.contents (writer_of c.report_new.new.faults)) c.loop.invariant.appended c.report_new.ensures.appended
+
+pub returns-in_err-more-clause-appended : goal.returns-in_err-more-clause-appended
+returns-in_err-more-clause-appended g c = ([], Appends-nil (g.X.Write.contents (writer_of c.args.faults.now)))
+
+pub returns-in_err-take_lines-clause-appended : goal.returns-in_err-take_lines-clause-appended
+returns-in_err-take_lines-clause-appended g c = c.loop.invariant.appended
+
+pub returns-in_err-put-clause-appended : goal.returns-in_err-put-clause-appended
+returns-in_err-put-clause-appended g c = c.loop.invariant.appended
+
+pub returns-clause-appended : goal.returns-clause-appended
+returns-clause-appended g c = c.loop.invariant.appended
+
+pub returns-then-not-more-clause-told : goal.returns-then-not-more-clause-told
+returns-then-not-more-clause-told g c = λ sound.
+    let first = c.args.stream.lists.reading.lines.refused in
+    let shown = c.loop.reading.lines.refused.shown in
+    let size : vec_len shown ≡ length shown.items = search rules in
+    subst (λ r. AreToldSince ExplainsEntry c.args.names.now first r
+    (g.X.Write.contents (writer_of c.args.faults.now)) (g.X.Write.contents (writer_of c.report_new.new.faults)))
+    (sym c.end_list.ensures.same_refused)
+    (told_more ExplainsEntry c.args.names.now first c.loop.reading.lines.refused
+    c.take_lines.new.self.lines.refused c.len.result (g.X.Write.contents (writer_of c.args.faults.now))
+    (g.X.Write.contents (writer_of c.loop.faults)) (g.X.Write.contents (writer_of c.report_new.new.faults))
+    (c.len.ensures ∙ size) (c.loop.invariant.told (λ failed. sound (c.report_new.ensures.kept failed)))
+    (c.report_new.ensures.whole sound))

@@ -2,6 +2,7 @@ use Rattle.std.proofs.Common.{◌≡◌, ◌∙◌, ◌∷◌, ◌++◌, [], Lis
 use Rattle.std.specs.Io.{StartsWith}
 use Rattle.std.specs.Io.KnownBytes.{Appends}
 use Rattle.std.specs.List.{concat}
+use Rattle.ipnet_text.specs.Watched.{writer_of}
 use Rattle.ipnet_lists.specs.Reports.{escaped}
 use Rattle.netset_origins.specs.OriginReports.{fault_line}
 use Rattle.netset_origins.proofs.vrp_list.report_fault.Goals as goal
@@ -12,8 +13,8 @@ returns-in-NotVrp-clause-whole g c =
     ∷ decimal c.in-NotVrp.index ∷ codes "]: not a VRP (" ∷ why ∷ (codes ")" ++ 10 ∷ []) ∷ []) in
     let same : line c.as_bytes.result.now c.vrp_reason.result.now ≡ fault_line c.args.name.now c.args.fault.now
     = ap₂ line c.as_bytes.ensures.value c.vrp_reason.ensures ∙ ap (fault_line c.args.name.now) (sym c.in-NotVrp.is) in
-    subst (λ t. OnOk c.write_parts-in-NotVrp.result (Appends (g.X.Write.contents c.args.faults.now)
-    (g.X.Write.contents c.write_parts-in-NotVrp.new.out) t)) same c.write_parts-in-NotVrp.ensures.whole
+    subst (λ t. OnOk c.write_parts-in-NotVrp.result (Appends (g.X.Write.contents (writer_of c.args.faults.now))
+    (g.X.Write.contents (writer_of c.write_parts-in-NotVrp.new.out)) t)) same c.write_parts-in-NotVrp.ensures.whole
 
 pub returns-in-NotVrp-clause-front : goal.returns-in-NotVrp-clause-front
 returns-in-NotVrp-clause-front g c =
@@ -21,5 +22,5 @@ returns-in-NotVrp-clause-front g c =
     ∷ decimal c.in-NotVrp.index ∷ codes "]: not a VRP (" ∷ why ∷ (codes ")" ++ 10 ∷ []) ∷ []) in
     let same : line c.as_bytes.result.now c.vrp_reason.result.now ≡ fault_line c.args.name.now c.args.fault.now
     = ap₂ line c.as_bytes.ensures.value c.vrp_reason.ensures ∙ ap (fault_line c.args.name.now) (sym c.in-NotVrp.is) in
-    subst (λ t. (front : List ℕ) × StartsWith t front × Appends (g.X.Write.contents c.args.faults.now)
-    (g.X.Write.contents c.write_parts-in-NotVrp.new.out) front) same c.write_parts-in-NotVrp.ensures.front
+    subst (λ t. (front : List ℕ) × StartsWith t front × Appends (g.X.Write.contents (writer_of c.args.faults.now))
+    (g.X.Write.contents (writer_of c.write_parts-in-NotVrp.new.out)) front) same c.write_parts-in-NotVrp.ensures.front

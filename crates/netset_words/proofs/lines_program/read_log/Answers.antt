@@ -1,10 +1,14 @@
-use Rattle.std.proofs.Common.{refl, subst, ◌∙◌, ◌++◌, length, ap, arith}
+use Rattle.std.proofs.Common.{◌≡◌, [], refl, subst, ◌∙◌, ◌++◌, length, ap, arith, vec_len, rules}
 use Rattle.std.proofs.Math.ListN.{drop_of_length-le}
-use Rattle.std.proofs.KnownBytes.{Keeps-refl}
+use Rattle.std.proofs.KnownBytes.{Appends-nil, Keeps-refl}
 use Rattle.ipnet_sets.specs.Members.{IsMember}
 use Rattle.ipnet_text.specs.Window.{held}
+use Rattle.ipnet_text.specs.Watched.{writer_of}
+use Rattle.netset_lib.proofs.RunLaws.{appended_more}
+use Rattle.netset_lib.proofs.StepLaws.{told_none, told_more}
 use Rattle.netset_lib.proofs.StreamParts.{on_err}
 use Rattle.netset_words.specs.FilterSteps.{IsTaken}
+use Rattle.netset_words.specs.WordReports.{ExplainsWord}
 use Rattle.netset_words.proofs.LogParts.{nothing_part, reading_part, taken_part, starts_with_all}
 use Rattle.netset_words.proofs.LogReading.{IsLogReading, reading_begins, reading_goes, reading_ends, still_quiet}
 use Rattle.netset_words.proofs.lines_program.read_log.Goals as goal
@@ -14,7 +18,10 @@ loop-init g c = record {
   reading = reading_begins c.in_ok-more.more (g.R.Read.remaining c.args.input.now)
       (g.R.Read.remaining c.begin_input.new.input) (g.W.Write.contents c.args.out.now) c.args.filter
       c.begin_input.new.window c.in_ok-more.ensures;
-  quiet = λ how set begun none. Keeps-refl (g.X.Write.contents c.args.faults.now);
+  appended = ([], Appends-nil (g.X.Write.contents (writer_of c.args.faults.now)));
+  told = λ sound. told_none ExplainsWord c.args.names.now c.args.filter.undecided
+      (g.X.Write.contents (writer_of c.args.faults.now));
+  quiet = λ how set begun none. Keeps-refl (g.X.Write.contents (writer_of c.args.faults.now));
 }
 
 pub loop-preserved : goal.loop-preserved
@@ -48,11 +55,22 @@ loop-preserved g c =
           (c.in_ok-take_bytes.ensures how set written least before h))
           (c.take.ensures ∙ drop_of_length-le (held c.loop.window) (omega (arith, ap length c.held-held.ensures.value)))
           window read c.in_ok-more-2.ensures.end;
+      appended = appended_more (g.X.Write.contents (writer_of c.args.faults.now))
+          (g.X.Write.contents (writer_of c.loop.faults)) (g.X.Write.contents (writer_of c.report_new.new.faults))
+          c.loop.invariant.appended c.report_new.ensures.appended;
+      told = λ sound.
+          let kept = c.loop.filter.undecided.shown in
+          let size : vec_len kept ≡ length kept.items = search rules in
+          told_more ExplainsWord c.args.names.now c.args.filter.undecided c.loop.filter.undecided
+          c.take_bytes.new.filter.undecided c.len.result (g.X.Write.contents (writer_of c.args.faults.now))
+          (g.X.Write.contents (writer_of c.loop.faults)) (g.X.Write.contents (writer_of c.report_new.new.faults))
+          (c.len.ensures ∙ size) (c.loop.invariant.told (λ failed. sound (c.report_new.ensures.kept failed)))
+          (c.report_new.ensures.whole sound);
       quiet = still_quiet c.loop.more (left c.args.input.now) (left c.loop.input) (to c.args.out.now) (to c.loop.out)
-          (g.X.Write.contents c.args.faults.now) (g.X.Write.contents c.loop.faults)
-          (g.X.Write.contents c.report_since.new.faults) c.args.filter c.loop.filter c.take_bytes.new.filter
+          (g.X.Write.contents (writer_of c.args.faults.now)) (g.X.Write.contents (writer_of c.loop.faults))
+          (g.X.Write.contents (writer_of c.report_new.new.faults)) c.args.filter c.loop.filter c.take_bytes.new.filter
           c.loop.window shown c.loop.invariant.reading c.in_ok-take_bytes.ensures c.loop.invariant.quiet
-          c.report_since.ensures.none;
+          c.report_new.ensures.none;
     }
 
 pub returns-then-not-more-clause-whole : goal.returns-then-not-more-clause-whole
@@ -86,10 +104,11 @@ returns-then-not-more-clause-quiet g c =
     let left = g.R.Read.remaining in
     let to = g.W.Write.contents in
     still_quiet c.loop.more (left c.args.input.now) (left c.loop.input) (to c.args.out.now) (to c.loop.out)
-    (g.X.Write.contents c.args.faults.now) (g.X.Write.contents c.loop.faults)
-    (g.X.Write.contents c.report_since.new.faults) c.args.filter c.loop.filter c.take_bytes.new.filter c.loop.window
+    (g.X.Write.contents (writer_of c.args.faults.now)) (g.X.Write.contents (writer_of c.loop.faults))
+    (g.X.Write.contents
+    (writer_of c.report_new.new.faults)) c.args.filter c.loop.filter c.take_bytes.new.filter c.loop.window
     c.held-held.result.now c.loop.invariant.reading c.in_ok-take_bytes.ensures c.loop.invariant.quiet
-    c.report_since.ensures.none
+    c.report_new.ensures.none
 
 pub returns-in_err-window-clause-part : goal.returns-in_err-window-clause-part
 returns-in_err-window-clause-part g c =
@@ -138,3 +157,40 @@ returns-clause-part g c =
     reading_part c.loop.more (g.R.Read.remaining c.args.input.now) (g.R.Read.remaining c.loop.input)
     (g.W.Write.contents c.args.out.now) (g.W.Write.contents c.loop.out) c.args.filter c.loop.filter c.loop.window
     c.loop.invariant.reading
+
+-- ---- what was reported
+
+pub returns-then-not-more-clause-appended : goal.returns-then-not-more-clause-appended
+returns-then-not-more-clause-appended g c =
+    appended_more (g.X.Write.contents (writer_of c.args.faults.now)) (g.X.Write.contents (writer_of c.loop.faults))
+    (g.X.Write.contents (writer_of c.report_new.new.faults)) c.loop.invariant.appended c.report_new.ensures.appended
+
+pub returns-in_err-more-2-clause-appended : goal.returns-in_err-more-2-clause-appended
+returns-in_err-more-2-clause-appended g c =
+    appended_more (g.X.Write.contents (writer_of c.args.faults.now)) (g.X.Write.contents (writer_of c.loop.faults))
+    (g.X.Write.contents (writer_of c.report_new.new.faults)) c.loop.invariant.appended c.report_new.ensures.appended
+
+pub returns-in_err-window-clause-appended : goal.returns-in_err-window-clause-appended
+returns-in_err-window-clause-appended g c = ([], Appends-nil (g.X.Write.contents (writer_of c.args.faults.now)))
+
+pub returns-in_err-more-clause-appended : goal.returns-in_err-more-clause-appended
+returns-in_err-more-clause-appended g c = ([], Appends-nil (g.X.Write.contents (writer_of c.args.faults.now)))
+
+pub returns-in_err-take_bytes-clause-appended : goal.returns-in_err-take_bytes-clause-appended
+returns-in_err-take_bytes-clause-appended g c = c.loop.invariant.appended
+
+pub returns-in_err-put-clause-appended : goal.returns-in_err-put-clause-appended
+returns-in_err-put-clause-appended g c = c.loop.invariant.appended
+
+pub returns-clause-appended : goal.returns-clause-appended
+returns-clause-appended g c = c.loop.invariant.appended
+
+pub returns-then-not-more-clause-told : goal.returns-then-not-more-clause-told
+returns-then-not-more-clause-told g c = λ sound.
+    let kept = c.loop.filter.undecided.shown in
+    let size : vec_len kept ≡ length kept.items = search rules in
+    told_more ExplainsWord c.args.names.now c.args.filter.undecided c.loop.filter.undecided
+    c.take_bytes.new.filter.undecided c.len.result (g.X.Write.contents (writer_of c.args.faults.now))
+    (g.X.Write.contents (writer_of c.loop.faults)) (g.X.Write.contents (writer_of c.report_new.new.faults))
+    (c.len.ensures ∙ size) (c.loop.invariant.told (λ failed. sound (c.report_new.ensures.kept failed)))
+    (c.report_new.ensures.whole sound)

@@ -7,14 +7,14 @@ use Rattle.netset_entries.proofs.overlaps_program.OverlapsCommandCommand.write.G
 pub returns-in-Ok-clause-whole : goal.returns-in-Ok-clause-whole
 returns-in-Ok-clause-whole g c =
     let of = c.args.self in
-    whole_weaker (λ text. of_asked of.grammar of.list.now of.other c.in_ok-asked.asked c.in_ok-asked.ensures
+    whole_weaker (λ text. of_asked of.grammar of.list.now of.other c.in_ok-asked.asked c.in_ok-asked.ensures.asked
     (λ entries count. IsOverlapText entries count text))
     (g.W.Write.contents c.args.out.now) (g.W.Write.contents c.write_overlaps.new.out) (c.in-Ok.ensures.whole refl)
 
 pub returns-in-Ok-clause-outcome : goal.returns-in-Ok-clause-outcome
 returns-in-Ok-clause-outcome g c =
     let of = c.args.self in
-    overlap_outcome of.grammar of.list.now of.other c.in_ok-asked.asked c.in-Ok.some c.in_ok-asked.ensures
+    overlap_outcome of.grammar of.list.now of.other c.in_ok-asked.asked c.in-Ok.some c.in_ok-asked.ensures.asked
     (λ found. c.in-Ok.ensures.some (ap Ok found)) (λ none. c.in-Ok.ensures.none (ap Ok none))
 
 pub returns-clause-front : goal.returns-clause-front
@@ -24,7 +24,7 @@ returns-clause-front g c =
       | inl kept ↦ inl kept
       | inr cut ↦ inr (
         refl,
-        front_weaker (λ text. of_asked of.grammar of.list.now of.other c.in_ok-asked.asked c.in_ok-asked.ensures
+        front_weaker (λ text. of_asked of.grammar of.list.now of.other c.in_ok-asked.asked c.in_ok-asked.ensures.asked
             (λ entries count. IsOverlapText entries count text))
             (g.W.Write.contents c.args.out.now) (g.W.Write.contents c.write_overlaps.new.out) cut,
       )

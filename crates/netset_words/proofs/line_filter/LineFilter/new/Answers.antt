@@ -25,3 +25,6 @@ returns-clause-begun c = record {
     least_count = omega arith;
   };
 }
+
+pub returns-clause-undecided : goal.returns-clause-undecided
+returns-clause-undecided c = c.new-3.ensures
