@@ -34,8 +34,12 @@ def csv_text(networks):
                                            for network, family, first, last in rows])
 
 
-def nft_text(networks, name):
+def nft_text(networks, name, family, declares=False):
     text = "flush set {}\n".format(name)
+    if declares:
+        kind = {4: "ipv4_addr", 6: "ipv6_addr"}[family]
+        text = lines(["add table " + " ".join(name.split()[:2]),
+                      "add set {} {{ type {}; flags interval; }}".format(name, kind)]) + text
     if networks:
         text += "add element {} {{\n    ".format(name) + ",\n    ".join(networks) + "\n}\n"
     return text
@@ -49,11 +53,16 @@ def ipset_text(networks, name, family):
     return lines(commands + ["swap {0}.new {0}".format(name), "destroy {}.new".format(name)])
 
 
-def frr_text(networks, name, family):
+def le_words(network, most):
+    """What lets an entry for the network also permit more specific networks, up to this length."""
+    return " le {}".format(most) if int(network.split("/")[1]) < most else ""
+
+
+def frr_text(networks, name, family, most=0):
     """A prefix list: none of its name stays, and one without an entry would permit everything."""
     begin = "{} prefix-list {}".format({4: "ip", 6: "ipv6"}[family], name)
     every = {4: "0.0.0.0/0 le 32", 6: "::/0 le 128"}[family]
-    entries = ["permit " + network for network in networks] or ["deny " + every]
+    entries = ["permit " + network + le_words(network, most) for network in networks] or ["deny " + every]
     return lines(["no " + begin] + ["{} seq {} {}".format(begin, 5 * place, entry)
                                     for place, entry in enumerate(entries, 1)])
 
@@ -70,7 +79,7 @@ def iptables_text(networks, chain, target):
 
 
 # the forms that have a name for each family
-WITH_SETS = {"nft": lambda networks, name, _: nft_text(networks, name), "ipset": ipset_text, "frr": frr_text,
+WITH_SETS = {"nft": nft_text, "ipset": ipset_text, "frr": frr_text,
              "bird": lambda networks, name, _: bird_text(networks, name)}
 
 
@@ -82,11 +91,12 @@ def by_family(ranges, names, text_of):
 
 class Request:
     """What is asked for: a form, the texts around lines, the least prefix length, the names of the sets by family, the
-    families, and the chain and the target of iptables."""
+    families, the chain and the target of iptables, the greatest lengths of entries by family, and whether sets are
+    declared."""
 
     def __init__(self, form, around=("", ""), least=0, names=None, families=(), rules=()):
         self.form, self.around, self.least, self.names = form, around, least, names or {}
-        self.families, self.rules = families, rules
+        self.families, self.rules, self.lengths, self.declares = families, rules, {}, False
 
     def chosen(self, ranges):
         """The ranges of the families that are asked for: all, if none is."""
@@ -103,7 +113,9 @@ class Request:
         words += ["-{}".format(family) for family in self.families]
         for option, name in zip(("--chain", "--target"), self.rules):
             words += [option, name]
-        return words
+        for family, most in self.lengths.items():
+            words += ["--ipv{}-le".format(family), str(most)]
+        return words + ["--declare"] * self.declares
 
 
 def refusal(request, ranges):
@@ -118,6 +130,15 @@ def refusal(request, ranges):
     return None
 
 
+def named_text(request, networks, name, family):
+    """The text of one family in a form with names."""
+    if request.form == "nft":
+        return nft_text(networks, name, family, request.declares)
+    if request.form == "frr":
+        return frr_text(networks, name, family, request.lengths.get(family, 0))
+    return WITH_SETS[request.form](networks, name, family)
+
+
 def form_text(request, ranges):
     """The text of the set in this form."""
     ranges, least, names = request.chosen(ranges), request.least, request.names
@@ -128,9 +149,9 @@ def form_text(request, ranges):
     if request.form == "iptables":
         return iptables_text(networks_of(ranges, least), *request.rules)
     if request.form in WITH_SETS:
-        text_of = WITH_SETS[request.form]
         low = max(least, 1) if request.form == "ipset" else least
-        return by_family(ranges, names, lambda part, name, family: text_of(networks_of(part, low), name, family))
+        return by_family(ranges, names, lambda part, name, family: named_text(request, networks_of(part, low), name,
+                                                                              family))
     return {"json": json_text, "csv": csv_text}[request.form](networks_of(ranges, least))
 
 
@@ -165,7 +186,12 @@ def random_request(chance):
     names = {family: word.format(family) for family in kept} if form in WITH_SETS else {}
     rules = ("blocked", chance.choice(("DROP", "ACCEPT", "other"))) if form == "iptables" else ()
     families = chance.choice(((4,), (6,)) if rules else ((), (), (4,), (6,), (4, 6)))
-    return Request(form, around, least, names, families, rules)
+    request = Request(form, around, least, names, families, rules)
+    request.declares = form == "nft" and chance.random() < 0.5
+    if form == "frr":
+        request.lengths = {family: chance.choice((0, 1, 8, 24, 25, 31, 32, *(() if family == 4 else (64, 127, 128))))
+                           for family in names if chance.random() < 0.6}
+    return request
 
 
 def is_short(ranges, least):

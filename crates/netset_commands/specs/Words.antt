@@ -11,7 +11,9 @@ use Rattle.ipnet_bars.specs.declared.frame.Frame.TheVariants.{Named, Ipv6, First
 use Rattle.ipnet_lists.specs.Entries.{IsNetworkOrMasked}
 use Rattle.netset_commands.specs.Arguments.{IsFlag, input_count}
 use Rattle.netset_commands.specs.Calls.{AreFlags}
+use Rattle.netset_commands.specs.SelectOptions.{IsLengthGiven}
 use Rattle.netset_forms.specs.declared.options.FormOptions.{FormOptions}
+use Rattle.netset_forms.specs.declared.options.GivenLengths.{GivenLengths}
 use Rattle.netset_lib.specs.Commands.{grammar_of}
 use Rattle.ipnet_lists.specs.Names.{Names}
 use Rattle.netset_lib.specs.NetworkEntries.{IsArgumentCause}
@@ -80,6 +82,11 @@ pub record ArePictured (matches : ArgMatches) (names : Names) (compares : Bool) 
   pub once : ¬ (1 < input_count names)
   pub two : compares ≡ true → length names ≡ 2
 
+-- These are the greatest lengths of the entries of prefix lists. Example: 24 for IPv4, for `--ipv4-le 24`.
+pub record AreLengthsGiven (matches : ArgMatches) (lengths : GivenLengths) : Type 0 where
+  pub ipv4 : IsLengthGiven matches (codes "ipv4-le") lengths.ipv4
+  pub ipv6 : IsLengthGiven matches (codes "ipv6-le") lengths.ipv6
+
 -- These are the options for the form of an answer.
 pub record AreFormOptions (matches : ArgMatches) (options : FormOptions) : Type 0 where
   pub format : option_map (λ word. word.now) options.format ≡ first_value (found_of matches) (codes "format")
@@ -89,6 +96,8 @@ pub record AreFormOptions (matches : ArgMatches) (options : FormOptions) : Type 
   pub least : option_map (λ word. word.now) options.min_length ≡ first_value (found_of matches) (codes "min-length")
   pub ipv4_set : option_map (λ word. word.now) options.sets.ipv4 ≡ first_value (found_of matches) (codes "ipv4-set")
   pub ipv6_set : option_map (λ word. word.now) options.sets.ipv6 ≡ first_value (found_of matches) (codes "ipv6-set")
+  pub declares : IsFlag matches (codes "declare") options.declares
+  pub lengths : AreLengthsGiven matches options.lengths
   pub maxelem : option_map (λ word. word.now) options.maxelem ≡ first_value (found_of matches) (codes "maxelem")
   pub chain : option_map (λ word. word.now) options.chain ≡ first_value (found_of matches) (codes "chain")
   pub target : option_map (λ word. word.now) options.target ≡ first_value (found_of matches) (codes "target")

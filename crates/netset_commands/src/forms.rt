@@ -1,14 +1,15 @@
 //! The options for the form of an answer that is a set.
 ghost use Rattle.std.specs.Prelude.{◌≡◌, codes, IfOk, IfErr};
 ghost use Rattle.netset_commands.specs.Arguments.{IsFlag};
-ghost use Rattle.netset_commands.specs.Words.{AreFormOptions};
+ghost use Rattle.netset_commands.specs.Words.{AreFormOptions, AreLengthsGiven};
 ghost use Rattle.netset_forms.specs.FormOptions.{IsRequestOf};
 ghost use Rattle.netset_forms.specs.declared.options.FormOptions.{FormOptions};
 
 use crate::arguments::{RANGES_FLAG, is_set};
+use crate::select::length_of;
 use crate::table::{ARGUMENT, Argument, Form};
 use clap::ArgMatches;
-use netset_forms::{FormOptions, FormRequest, SetNames};
+use netset_forms::{FormOptions, FormRequest, GivenLengths, SetNames};
 use std::io::Write;
 
 /// The ids and the names of the options.
@@ -33,6 +34,12 @@ const MIN_LENGTH: &str = "min-length";
 const IPV4_SET: &str = "ipv4-set";
 
 const IPV6_SET: &str = "ipv6-set";
+
+const DECLARE: &str = "declare";
+
+const IPV4_LE: &str = "ipv4-le";
+
+const IPV6_LE: &str = "ipv6-le";
 
 const MAXELEM: &str = "maxelem";
 
@@ -107,6 +114,24 @@ pub const ANSWER_FORM: &[Argument] = &[
         ..ARGUMENT
     },
     Argument {
+        id: DECLARE,
+        form: Form::Flag(DECLARE),
+        help: "Add the sets and their tables first, unless they exist, for nft",
+        ..ARGUMENT
+    },
+    Argument {
+        id: IPV4_LE,
+        form: Form::Value(IPV4_LE, "LEN"),
+        help: "Permit also the more specific IPv4 networks up to this prefix length, for frr",
+        ..ARGUMENT
+    },
+    Argument {
+        id: IPV6_LE,
+        form: Form::Value(IPV6_LE, "LEN"),
+        help: "The same for the IPv6 networks",
+        ..ARGUMENT
+    },
+    Argument {
         id: CHAIN,
         form: Form::Value(CHAIN, "CHAIN"),
         help: "The chain that gets the rules, for iptables, with -4 or -6",
@@ -133,14 +158,29 @@ pub fn needs_address(matches: &ArgMatches) -> bool
     is_set(matches, STATUS)
 }
 
-/// The options for the form of an answer.
-fn options_of<'a>(matches: &ArgMatches<'a>) -> FormOptions<'a>
-    ensures { AreFormOptions matches.now result }
+/// The greatest lengths of the entries of prefix lists. If a word is not a prefix length, it is reported, and the error
+/// is the exit status.
+fn lengths_of(rt: &HostRuntime, matches: &ArgMatches) -> Result<GivenLengths, u8>
+    ensures lengths { IfOk result (AreLengthsGiven matches.now) }
+    ensures failed { IfErr result (λ status. status ≡ 2) }
 {
+    let ipv4 = length_of(rt, matches, IPV4_LE)?;
+    let ipv6 = length_of(rt, matches, IPV6_LE)?;
+    Ok(GivenLengths { ipv4, ipv6 })
+}
+
+/// The options for the form of an answer. If a word is not a prefix length, it is reported, and the error is the exit
+/// status.
+fn options_of<'a>(rt: &HostRuntime, matches: &ArgMatches<'a>) -> Result<FormOptions<'a>, u8>
+    ensures options { IfOk result (AreFormOptions matches.now) }
+    ensures failed { IfErr result (λ status. status ≡ 2) }
+{
+    let lengths = lengths_of(rt, matches)?;
     let ranges = is_set(matches, RANGES);
     let ipv4_only = is_set(matches, IPV4_ONLY);
     let ipv6_only = is_set(matches, IPV6_ONLY);
-    FormOptions {
+    let declares = is_set(matches, DECLARE);
+    Ok(FormOptions {
         format: matches.get_str(FORMAT),
         ranges,
         prefix: matches.get_str(PREFIX),
@@ -150,12 +190,14 @@ fn options_of<'a>(matches: &ArgMatches<'a>) -> FormOptions<'a>
             ipv4: matches.get_str(IPV4_SET),
             ipv6: matches.get_str(IPV6_SET),
         },
+        declares,
+        lengths,
         maxelem: matches.get_str(MAXELEM),
         chain: matches.get_str(CHAIN),
         target: matches.get_str(TARGET),
         ipv4_only,
         ipv6_only,
-    }
+    })
 }
 
 /// Returns the form that the options of the command ask for. If they cannot be used, that is reported, and the error is
@@ -166,7 +208,8 @@ pub fn form_of<'a>(rt: &HostRuntime, matches: &ArgMatches<'a>) -> Result<FormReq
         × IsRequestOf options request) }
     ensures failed { IfErr result (λ status. status ≡ 2) }
 {
-    match options_of(matches).request() {
+    let options = options_of(rt, matches)?;
+    match options.request() {
         Ok(request) => Ok(request),
         Err(fault) => {
             let _ = match fault.value() {

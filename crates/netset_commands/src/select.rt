@@ -146,7 +146,7 @@ impl ListReader for SelectedLists {
 
 /// Reads the prefix length of the option, or `None` if it is omitted. If the word is not one, it is reported, and the
 /// error is the exit status.
-fn length_of(rt: &HostRuntime, matches: &ArgMatches, id: &str) -> Result<Option<u8>, u8>
+pub fn length_of(rt: &HostRuntime, matches: &ArgMatches, id: &str) -> Result<Option<u8>, u8>
     ensures length { IfOk result (IsLengthGiven matches.now id.now) }
     ensures failed { IfErr result (λ status. status ≡ 2) }
 {

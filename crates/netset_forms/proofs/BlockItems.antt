@@ -206,7 +206,7 @@ pub items_of_blocks : (item : Item) (layout : Layout) (least : ℕ) (InSet : Add
 items_of_blocks Items.Network layout least InSet h = refl
 items_of_blocks Items.Row layout least InSet h = refl
 items_of_blocks Items.Range layout least InSet h = absurd (h refl)
-items_of_blocks Items.Entry layout least InSet h = refl
+items_of_blocks (Items.Entry lengths) layout least InSet h = refl
 
 ranges_of_value : (s : IpSet) → (ranges : List AddressRange) × AreRangesOf (IsMember s) ranges
 ranges_of_value s = (
@@ -239,7 +239,7 @@ text_of_items Items.Row layout least s fits = text_of_blocks Items.Row layout le
 text_of_items Items.Range layout least s fits =
     let (ranges, h) = ranges_of_value s in
     (text_in layout (map range_text ranges), record { ranges = ranges; fewest = h; spelled = refl })
-text_of_items Items.Entry layout least s fits = text_of_blocks Items.Entry layout least s fits
+text_of_items (Items.Entry lengths) layout least s fits = text_of_blocks (Items.Entry lengths) layout least s fits
 
 -- a part has a text
 pub text_if_some : (part : Option Part) → FitsIfSome part → (text : List ℕ) × IsTextIfSome part text

@@ -22,10 +22,10 @@ use Rattle.netset_forms.specs.FormAnswers.{IsNewlyPermittedForm}
 use Rattle.netset_forms.specs.RulePairs.{IsNewlyPermittedSet}
 use Rattle.netset_forms.specs.Forms.{AreBlocksIn, AreRangesIn, IsFamilyText, AreFamilyTexts, IsFormText, IsOfFamily}
 use Rattle.netset_forms.specs.Forms.{plain_items, row_items, entries_from, ipset_kind, frr_of, IsOfFamilies}
-use Rattle.netset_forms.specs.Forms.{IsAskedText, HasOne}
+use Rattle.netset_forms.specs.Forms.{IsAskedText, HasOne, nft_type}
 use Rattle.netset_forms.specs.Forms.{IsFormFailure, IsAskedFailure}
 use Rattle.netset_forms.specs.Layouts.{Layout, line_layout, json_layout, csv_layout, nft_layout, ipset_layout}
-use Rattle.netset_forms.specs.Layouts.{bird_layout, chain_layout}
+use Rattle.netset_forms.specs.Layouts.{bird_layout, chain_layout, declared_nft_layout}
 use Rattle.netset_forms.specs.declared.form.FormFailure.{FormFailure}
 use Rattle.netset_forms.specs.declared.form.FormFailure.TheVariants as Failures
 use Rattle.netset_lib.specs.declared.operation.Families.{Families}
@@ -87,11 +87,14 @@ form_same A B same Forms.Json least text h = blocks_same A B same json_layout pl
 form_same A B same Forms.Csv least text h = blocks_same A B same csv_layout row_items least text h
 form_same A B same (Forms.Nft names) least text h =
     families_same A B same nft_layout nft_layout plain_items names least text h
+form_same A B same (Forms.DeclaredNft names) least text h =
+    families_same A B same (declared_nft_layout (nft_type IPv4)) (declared_nft_layout (nft_type IPv6)) plain_items names
+    least text h
 form_same A B same (Forms.Ipset names most) least text h =
     families_same A B same (ipset_layout (ipset_kind most IPv4)) (ipset_layout (ipset_kind most IPv6)) plain_items
     names (max least 1) text h
-form_same A B same (Forms.Frr names) least text h =
-    families_same A B same (frr_of IPv4) (frr_of IPv6) (entries_from 5) names least text h
+form_same A B same (Forms.Frr names lengths) least text h =
+    families_same A B same (frr_of IPv4) (frr_of IPv6) (entries_from lengths 5) names least text h
 form_same A B same (Forms.Bird names) least text h =
     families_same A B same bird_layout bird_layout plain_items names least text h
 form_same A B same (Forms.Iptables rules) least text h =

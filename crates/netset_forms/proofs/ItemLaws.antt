@@ -12,14 +12,14 @@ pub no_items : (item : Item) (number : ℕ) → items_of item number [] ≡ []
 no_items Items.Network number = refl
 no_items Items.Row number = refl
 no_items Items.Range number = refl
-no_items Items.Entry number = refl
+no_items (Items.Entry lengths) number = refl
 
 more_items : (item : Item) (number : ℕ) (n : Network) (networks : List Network)
     → items_of item number (n ∷ networks) ≡ item_text item number n ∷ items_of item (next_number number) networks
 more_items Items.Network number n networks = refl
 more_items Items.Row number n networks = refl
 more_items Items.Range number n networks = refl
-more_items Items.Entry number n networks = refl
+more_items (Items.Entry lengths) number n networks = refl
 
 -- the items of two lists are the items of the first, and then the items of the second
 pub items_append : (item : Item) (number : ℕ) (first second : List Network)

@@ -97,10 +97,12 @@ both_parts layout4 layout6 items_of InSet Four Six names least parts fits four s
 pub text_of_item : (k : Commands) (layout : Layout) (least : ℕ) (InSet : Address → Type 0) (text : List ℕ)
     → IsItemsText (named_item k) layout least InSet text → AreBlocksIn layout (named_items k) least InSet text
 text_of_item Sets.Nft layout least InSet text h = h
+text_of_item Sets.DeclaredNftIpv4 layout least InSet text h = h
+text_of_item Sets.DeclaredNftIpv6 layout least InSet text h = h
 text_of_item (Sets.IpsetIpv4 most) layout least InSet text h = h
 text_of_item (Sets.IpsetIpv6 most) layout least InSet text h = h
-text_of_item Sets.FrrIpv4 layout least InSet text h = h
-text_of_item Sets.FrrIpv6 layout least InSet text h = h
+text_of_item (Sets.FrrIpv4 lengths) layout least InSet text h = h
+text_of_item (Sets.FrrIpv6 lengths) layout least InSet text h = h
 text_of_item Sets.Bird layout least InSet text h = h
 
 -- the networks of every family can have the prefix length 1
@@ -127,13 +129,12 @@ module _ (form : AnswerForm) (n : ℕ) (InSet : Address → Type 0) where
       (least_is ∙ ap (λ z. least_in z n) is ∙ low) h)))
 
   -- the parts of the families of the form, by networks of its least prefix length
-  pub named_of_form : (f : AnswerForm) (least : ℕ) (IsText : ℕ → List ℕ → Type 0) (r : Result Parts FormFailure)
-      → form ≡ f → least ≡ least_in form n → least_in f n ≡ n → IsText n ≡ IsFormText f n InSet
-      → IfOk r (MakeParts (IsText least)) → IfOk r (MakeParts (IsFormText form n InSet))
-  named_of_form f least IsText r is least_is low text h =
+  pub named_of_form : (f : AnswerForm) (least : ℕ) (r : Result Parts FormFailure)
+      → form ≡ f → least ≡ least_in form n → least_in f n ≡ n
+      → IfOk r (MakeParts (IsFormText f least InSet)) → IfOk r (MakeParts (IsFormText form n InSet))
+  named_of_form f least r is least_is low h =
       subst (λ z. IfOk r (MakeParts (IsFormText z n InSet))) (sym is)
-      (subst (λ T. IfOk r (MakeParts T)) text
-      (subst (λ m. IfOk r (MakeParts (IsText m))) (least_is ∙ ap (λ z. least_in z n) is ∙ low) h))
+      (subst (λ m. IfOk r (MakeParts (IsFormText f m InSet))) (least_is ∙ ap (λ z. least_in z n) is ∙ low) h)
 
 -- ---- why parts are missing
 

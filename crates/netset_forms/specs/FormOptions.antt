@@ -1,5 +1,5 @@
 -- The options of a command line for the form of an answer, and why they do not go together.
-use Rattle.std.specs.Prelude.{◌≡◌, ◌≢◌, ◌⊎◌, ◌↔◌, ◌==◌, ◌||◌, ◌≤◌, ℕ, Bool, true, false, cond, List, [], codes}
+use Rattle.std.specs.Prelude.{◌≡◌, ◌≢◌, ◌⊎◌, ◌↔◌, ◌==◌, ◌||◌, ◌≤◌, ◌<◌, ℕ, Bool, true, false, cond, List, [], codes}
 use Rattle.std.specs.Prelude.{Option, Some, None, IsSome, IfSome, IsSomeAnd, unwrap_or, option_map}
 use Rattle.std.specs.List.{list_any}
 use Rattle.std.specs.Borrow.{Bor}
@@ -9,10 +9,10 @@ use Rattle.netset_forms.specs.SetWords.{AreApart, IsIpsetName, IsNftName, IsFrrN
 use Rattle.netset_forms.specs.SetWords.{IsChainName, IsTargetName}
 use Rattle.netset_forms.specs.declared.form.AnswerForm.{AnswerForm}
 use Rattle.netset_forms.specs.declared.form.AnswerForm.TheVariants as Forms
+use Rattle.netset_forms.specs.declared.fault.FormFault.{FormFault}
+use Rattle.netset_forms.specs.declared.fault.FormFault.TheVariants as Faults
 use Rattle.netset_forms.specs.declared.form.ChainRules.{ChainRules}
 use Rattle.netset_forms.specs.declared.form.FormRequest.{FormRequest}
-use Rattle.netset_forms.specs.declared.options.FormFault.{FormFault}
-use Rattle.netset_forms.specs.declared.options.FormFault.TheVariants as Faults
 use Rattle.netset_forms.specs.declared.options.FormName.{FormName}
 use Rattle.netset_forms.specs.declared.options.FormName.TheVariants.{Plain, Ranges, Json, Csv, Nft, Ipset}
 use Rattle.netset_forms.specs.declared.options.FormName.TheVariants.{Frr, Bird, Iptables}
@@ -80,6 +80,10 @@ abbrev pub IsMinLength : FormName → FormOptions → ℕ → Type 0
 IsMinLength form options length = ((options.min_length ≡ None) × (length ≡ 0))
     ⊎ (IsSomeAnd options.min_length (λ word. IsLengthText word.now length) × (form ≢ Ranges))
 
+-- A greatest length of entries is for FRR, for a prefix list with a name, and at most the greatest of its family.
+abbrev pub IsForList : (greatest : ℕ) → FormName → (length : Option ℕ) → (name : Option (Bor (List ℕ))) → Type 0
+IsForList greatest form length name = IfSome length (λ n. (form ≡ Frr) × IsSome name × (n ≤ greatest))
+
 -- A line feed (10) or a carriage return (13).
 abbrev pub is_line_break : ℕ → Bool
 is_line_break byte = byte == 10 || byte == 13
@@ -145,10 +149,15 @@ IsFormOf form options most rules (Forms.Ranges lines) = (form ≡ Ranges)
     × (lines.prefix.now ≡ text_or_none options.prefix) × (lines.suffix.now ≡ text_or_none options.suffix)
 IsFormOf form options most rules Forms.Json = form ≡ Json
 IsFormOf form options most rules Forms.Csv = form ≡ Csv
-IsFormOf form options most rules (Forms.Nft sets) = (form ≡ Nft) × (sets ≡ options.sets)
+IsFormOf form options most rules (Forms.Nft sets) =
+    (form ≡ Nft) × (options.declares ≡ false) × (sets ≡ options.sets)
+IsFormOf form options most rules (Forms.DeclaredNft sets) =
+    (form ≡ Nft) × (options.declares ≡ true) × (sets ≡ options.sets)
 IsFormOf form options most rules (Forms.Ipset sets number) =
     (form ≡ Ipset) × (sets ≡ options.sets) × (number ≡ most)
-IsFormOf form options most rules (Forms.Frr sets) = (form ≡ Frr) × (sets ≡ options.sets)
+IsFormOf form options most rules (Forms.Frr sets lengths) =
+    (form ≡ Frr) × (sets ≡ options.sets)
+    × (lengths.ipv4 ≡ unwrap_or options.lengths.ipv4 0) × (lengths.ipv6 ≡ unwrap_or options.lengths.ipv6 0)
 IsFormOf form options most rules (Forms.Bird sets) = (form ≡ Bird) × (sets ≡ options.sets)
 IsFormOf form options most rules (Forms.Iptables written) = (form ≡ Iptables) × (written ≡ rules)
 
@@ -171,6 +180,9 @@ pub record IsRequestOf (options : FormOptions) (request : FormRequest) : Type 0 
   pub ipv6 : IsGoodName name options.sets.ipv6
   pub both : AreGoodBoth name options
   pub shown : ¬ (HasOtherFamily options)
+  pub ipv4_length : IsForList 32 name options.lengths.ipv4 options.sets.ipv4
+  pub ipv6_length : IsForList 128 name options.lengths.ipv6 options.sets.ipv6
+  pub declared : options.declares ≡ true → name ≡ Nft
 
 -- This is a reason why the options of this form do not go together.
 abbrev pub IsFormFault : FormName → FormOptions → FormFault → Type 0
@@ -209,6 +221,13 @@ IsFormFault form options Faults.OneFamily = (form ≡ Iptables) × ¬ (options.i
 IsFormFault form options Faults.OtherMaxelem = IsSome options.maxelem × (form ≢ Ipset)
 IsFormFault form options (Faults.Maxelem word) =
     (options.maxelem ≡ Some word) × ((n : ℕ) → ¬ (IsMaxelem word.now n))
+IsFormFault form options Faults.OtherLengths =
+    (form ≢ Frr) × (IsSome options.lengths.ipv4 ⊎ IsSome options.lengths.ipv6)
+IsFormFault form options Faults.NoIpv4List = IsSome options.lengths.ipv4 × (options.sets.ipv4 ≡ None)
+IsFormFault form options Faults.NoIpv6List = IsSome options.lengths.ipv6 × (options.sets.ipv6 ≡ None)
+IsFormFault form options Faults.LongIpv4 = IsSomeAnd options.lengths.ipv4 (λ n. 32 < n)
+IsFormFault form options Faults.LongIpv6 = IsSomeAnd options.lengths.ipv6 (λ n. 128 < n)
+IsFormFault form options Faults.OtherDeclaration = (options.declares ≡ true) × (form ≢ Nft)
 
 -- The value of the option, if the fault is about one.
 abbrev pub fault_value : FormFault → Option (List ℕ)
@@ -235,3 +254,9 @@ fault_value Faults.OneSet = None
 fault_value Faults.NewSet = None
 fault_value Faults.OtherFamily = None
 fault_value Faults.OtherMaxelem = None
+fault_value Faults.OtherLengths = None
+fault_value Faults.NoIpv4List = None
+fault_value Faults.NoIpv6List = None
+fault_value Faults.LongIpv4 = None
+fault_value Faults.LongIpv6 = None
+fault_value Faults.OtherDeclaration = None

@@ -1,6 +1,6 @@
 -- The private steps of writing an answer in a form.
 -- Only private contracts use these.
-use Rattle.std.specs.Prelude.{◌≡◌, ℕ, Bool, true, false, List, [], ◌∷◌, ◌++◌, codes, decimal, Option, Some, None}
+use Rattle.std.specs.Prelude.{◌≡◌, ℕ, Bool, true, false, List, [], ◌∷◌, ◌++◌, Option, Some, None}
 use Rattle.std.specs.Prelude.{string_bytes}
 use Rattle.std.specs.Io.{StartsWith}
 use Rattle.std.specs.Io.KnownBytes.{Appends}
@@ -25,9 +25,10 @@ use Rattle.netset_forms.specs.declared.form.AnswerForm.TheVariants as Forms
 use Rattle.netset_forms.specs.declared.form.FormFailure.{FormFailure}
 use Rattle.netset_forms.specs.declared.form.FormFailure.TheVariants as Failures
 use Rattle.netset_forms.specs.declared.form.SetNames.{SetNames}
-use Rattle.netset_forms.specs.Forms.{plain_items, row_items, entries_from, next_number}
+use Rattle.netset_forms.specs.Forms.{plain_items, row_items, entries_from, entry_text, next_number, nft_type}
 use Rattle.netset_forms.specs.Forms.{network_row, AreBlocksIn, AreRangesIn, FitsFamilies, HasOne, ipset_kind, frr_of}
 use Rattle.netset_forms.specs.Layouts.{Layout, later_items, text_in, nft_layout, ipset_layout, bird_layout}
+use Rattle.netset_forms.specs.Layouts.{declared_nft_layout}
 
 -- The layout that a value has.
 abbrev pub layout_of : Frame → Layout
@@ -41,28 +42,34 @@ layout_of f = record {
 -- The layout of the commands for a set with a name.
 abbrev pub named_layout : Commands → List ℕ → Layout
 named_layout Sets.Nft = nft_layout
+named_layout Sets.DeclaredNftIpv4 = declared_nft_layout (nft_type IPv4)
+named_layout Sets.DeclaredNftIpv6 = declared_nft_layout (nft_type IPv6)
 named_layout (Sets.IpsetIpv4 most) = ipset_layout (ipset_kind most IPv4)
 named_layout (Sets.IpsetIpv6 most) = ipset_layout (ipset_kind most IPv6)
-named_layout Sets.FrrIpv4 = frr_of IPv4
-named_layout Sets.FrrIpv6 = frr_of IPv6
+named_layout (Sets.FrrIpv4 lengths) = frr_of IPv4
+named_layout (Sets.FrrIpv6 lengths) = frr_of IPv6
 named_layout Sets.Bird = bird_layout
 
 -- The items of the commands for a set.
 abbrev pub named_items : Commands → List Network → List (List ℕ)
 named_items Sets.Nft = plain_items
+named_items Sets.DeclaredNftIpv4 = plain_items
+named_items Sets.DeclaredNftIpv6 = plain_items
 named_items (Sets.IpsetIpv4 most) = plain_items
 named_items (Sets.IpsetIpv6 most) = plain_items
-named_items Sets.FrrIpv4 = entries_from 5
-named_items Sets.FrrIpv6 = entries_from 5
+named_items (Sets.FrrIpv4 lengths) = entries_from lengths 5
+named_items (Sets.FrrIpv6 lengths) = entries_from lengths 5
 named_items Sets.Bird = plain_items
 
 -- The kind of the items of the commands.
 abbrev pub named_item : Commands → Item
 named_item Sets.Nft = Items.Network
+named_item Sets.DeclaredNftIpv4 = Items.Network
+named_item Sets.DeclaredNftIpv6 = Items.Network
 named_item (Sets.IpsetIpv4 most) = Items.Network
 named_item (Sets.IpsetIpv6 most) = Items.Network
-named_item Sets.FrrIpv4 = Items.Entry
-named_item Sets.FrrIpv6 = Items.Entry
+named_item (Sets.FrrIpv4 lengths) = Items.Entry lengths
+named_item (Sets.FrrIpv6 lengths) = Items.Entry lengths
 named_item Sets.Bird = Items.Network
 
 -- The texts, one after the other.
@@ -120,14 +127,14 @@ abbrev pub item_text : Item → ℕ → Network → List ℕ
 item_text Items.Network number n = canonical_text n
 item_text Items.Row number n = network_row n
 item_text Items.Range number n = canonical_text n
-item_text Items.Entry number n = decimal number ++ codes " permit " ++ canonical_text n
+item_text (Items.Entry lengths) number n = entry_text lengths number n
 
 -- The texts of networks, from a place with this sequence number on.
 abbrev pub items_of : Item → ℕ → List Network → List (List ℕ)
 items_of Items.Network number = plain_items
 items_of Items.Row number = row_items
 items_of Items.Range number = plain_items
-items_of Items.Entry number = entries_from number
+items_of (Items.Entry lengths) number = entries_from lengths number
 
 -- The sequence number of the place after the networks, if this is the number of the first.
 abbrev pub number_after : ℕ → List Network → ℕ
@@ -145,7 +152,7 @@ abbrev pub IsItemsText : Item → Layout → ℕ → (Address → Type 0) → Li
 IsItemsText Items.Network layout min_length = AreBlocksIn layout plain_items min_length
 IsItemsText Items.Row layout min_length = AreBlocksIn layout row_items min_length
 IsItemsText Items.Range layout min_length = AreRangesIn layout
-IsItemsText Items.Entry layout min_length = AreBlocksIn layout (entries_from 5) min_length
+IsItemsText (Items.Entry lengths) layout min_length = AreBlocksIn layout (entries_from lengths 5) min_length
 
 -- The text of the part.
 abbrev pub IsPartText : Part → List ℕ → Type 0
@@ -212,7 +219,8 @@ least_in (Forms.Ranges lines) min_length = 0
 least_in Forms.Json min_length = min_length
 least_in Forms.Csv min_length = min_length
 least_in (Forms.Nft names) min_length = min_length
+least_in (Forms.DeclaredNft names) min_length = min_length
 least_in (Forms.Ipset names most) min_length = min_length
-least_in (Forms.Frr names) min_length = min_length
+least_in (Forms.Frr names lengths) min_length = min_length
 least_in (Forms.Bird names) min_length = min_length
 least_in (Forms.Iptables rules) min_length = min_length

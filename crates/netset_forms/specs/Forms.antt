@@ -1,6 +1,6 @@
 -- The text of a set of addresses in each form.
 use Rattle.std.specs.Prelude.{◌≡◌, ◌<◌, ◌≤◌, ◌+◌, ℕ, List, [], ◌∷◌, ◌++◌, codes, decimal, map, Option, Some, None}
-use Rattle.std.specs.Prelude.{max, min}
+use Rattle.std.specs.Prelude.{max, min, nat_lt, if◌then◌else◌}
 use Rattle.std.specs.Borrow.{Bor}
 use Rattle.ipnet_base.specs.Address.{Family, IPv4, IPv6, width, Address}
 use Rattle.ipnet_base.specs.Network.{Network, first_of, last_of}
@@ -10,12 +10,13 @@ use Rattle.ipnet.specs.CanonicalTexts.{address_text, canonical_text}
 use Rattle.ipnet_sets.specs.SetRanges.{AreRangesOf}
 use Rattle.netset_forms.specs.declared.form.AnswerForm.{AnswerForm}
 use Rattle.netset_forms.specs.declared.form.AnswerForm.TheVariants as Forms
+use Rattle.netset_forms.specs.declared.form.EntryLengths.{EntryLengths}
 use Rattle.netset_forms.specs.declared.form.FormFailure.{FormFailure}
 use Rattle.netset_forms.specs.declared.form.FormFailure.TheVariants as Failures
 use Rattle.netset_forms.specs.declared.form.FormRequest.{FormRequest}
 use Rattle.netset_forms.specs.declared.form.SetNames.{SetNames}
 use Rattle.netset_forms.specs.Layouts.{Layout, text_in, line_layout, json_layout, csv_layout, nft_layout, ipset_layout}
-use Rattle.netset_forms.specs.Layouts.{frr_layout, bird_layout, chain_layout}
+use Rattle.netset_forms.specs.Layouts.{declared_nft_layout, frr_layout, bird_layout, chain_layout}
 use Rattle.netset_lib.specs.declared.operation.Families.{Families}
 use Rattle.netset_lib.specs.declared.operation.Families.TheVariants as Chosen
 use Rattle.ipnet_lists.specs.SetLines.{range_text}
@@ -52,12 +53,36 @@ row_items = map network_row
 abbrev pub next_number : ℕ → ℕ
 next_number number = min (number + 5) 18446744073709551615
 
+-- The greatest prefix length of the routes that the entries of a prefix list permit, for networks of this family.
+abbrev pub entry_length : EntryLengths → Family → ℕ
+entry_length lengths IPv4 = lengths.ipv4
+entry_length lengths IPv6 = lengths.ipv6
+
+-- The words of an entry that permit more specific networks too, up to this prefix length. Example: ` le 24`.
+abbrev pub up_to_words : ℕ → List ℕ
+up_to_words most = codes " le " ++ decimal most
+
+-- These words after a network of this length. If it is not shorter, there are none: a router refuses
+-- `192.0.2.0/24 le 23`.
+-- Example: ` le 24` for 24 and 192.0.0.0/16, and nothing for 24 and 192.0.2.0/24.
+abbrev pub le_words : (most length : ℕ) → List ℕ
+le_words most length = if nat_lt length most then up_to_words most else []
+
+-- The network of an entry, and the words that permit more specific networks.
+-- Example: `192.0.0.0/16 le 24` and `192.0.2.0/24` for the length 24.
+abbrev pub entry_network : EntryLengths → Network → List ℕ
+entry_network lengths n = canonical_text n ++ le_words (entry_length lengths n.family) n.prefix_len
+
+-- The entry of a prefix list that permits the network, from its sequence number on. Example: `5 permit 10.0.0.0/31`.
+abbrev pub entry_text : EntryLengths → ℕ → Network → List ℕ
+entry_text lengths number n = decimal number ++ codes " permit " ++ entry_network lengths n
+
 -- The entries of a prefix list that permit the networks, with their sequence numbers from this one on.
 -- Example: `5 permit 10.0.0.0/31` and `10 permit 10.0.0.2/32` from 5 on.
-abbrev pub entries_from : ℕ → List Network → List (List ℕ)
-entries_from number [] = []
-entries_from number (n ∷ networks) =
-    (decimal number ++ codes " permit " ++ canonical_text n) ∷ entries_from (next_number number) networks
+abbrev pub entries_from : EntryLengths → ℕ → List Network → List (List ℕ)
+entries_from lengths number [] = []
+entries_from lengths number (n ∷ networks) =
+    entry_text lengths number n ∷ entries_from lengths (next_number number) networks
 
 -- The items are the fewest ranges of the set.
 pub record AreRangesIn (layout : Layout) (InSet : Address → Type 0) (text : List ℕ) : Type 0 where
@@ -105,6 +130,11 @@ abbrev pub frr_of : Family → List ℕ → Layout
 frr_of IPv4 = frr_layout (codes "ip") (codes "0.0.0.0/0 le 32")
 frr_of IPv6 = frr_layout (codes "ipv6") (codes "::/0 le 128")
 
+-- The type of the elements of a set of nft with networks of this family.
+abbrev pub nft_type : Family → List ℕ
+nft_type IPv4 = codes "ipv4_addr"
+nft_type IPv6 = codes "ipv6_addr"
+
 -- The text of the set in the form, by networks of at least this prefix length. `ipset` refuses a network of prefix
 -- length 0, so there the least length is 1.
 -- Example: for 10.0.0.0 to 10.0.0.2 and `Networks` with the prefix `permit ` and the suffix `;`, the lines
@@ -116,9 +146,12 @@ IsFormText (Forms.Ranges lines) min_length = AreRangesIn (line_layout lines.pref
 IsFormText Forms.Json min_length = AreBlocksIn json_layout plain_items min_length
 IsFormText Forms.Csv min_length = AreBlocksIn csv_layout row_items min_length
 IsFormText (Forms.Nft names) min_length = AreFamilyTexts nft_layout nft_layout plain_items names min_length
+IsFormText (Forms.DeclaredNft names) min_length = AreFamilyTexts (declared_nft_layout (nft_type IPv4))
+    (declared_nft_layout (nft_type IPv6)) plain_items names min_length
 IsFormText (Forms.Ipset names most) min_length = AreFamilyTexts (ipset_layout (ipset_kind most IPv4))
     (ipset_layout (ipset_kind most IPv6)) plain_items names (max min_length 1)
-IsFormText (Forms.Frr names) min_length = AreFamilyTexts (frr_of IPv4) (frr_of IPv6) (entries_from 5) names min_length
+IsFormText (Forms.Frr names lengths) min_length =
+    AreFamilyTexts (frr_of IPv4) (frr_of IPv6) (entries_from lengths 5) names min_length
 IsFormText (Forms.Bird names) min_length = AreFamilyTexts bird_layout bird_layout plain_items names min_length
 IsFormText (Forms.Iptables rules) min_length =
     AreBlocksIn (chain_layout rules.chain.now rules.target.now) plain_items min_length
@@ -138,8 +171,9 @@ names_in (Forms.Ranges lines) = None
 names_in Forms.Json = None
 names_in Forms.Csv = None
 names_in (Forms.Nft names) = Some names
+names_in (Forms.DeclaredNft names) = Some names
 names_in (Forms.Ipset names most) = Some names
-names_in (Forms.Frr names) = Some names
+names_in (Forms.Frr names lengths) = Some names
 names_in (Forms.Bird names) = Some names
 names_in (Forms.Iptables rules) = None
 

@@ -1,5 +1,6 @@
 -- Texts of items, such as the networks of an answer: what is written before, between and after the items.
-use Rattle.std.specs.Prelude.{ℕ, List, [], ◌∷◌, ◌++◌, codes}
+use Rattle.std.specs.Prelude.{◌==◌, ℕ, Bool, List, [], ◌∷◌, ◌++◌, codes}
+use Rattle.std.specs.List.{before_first, after_first}
 
 -- The texts around items: before, between and after them. `none` is the whole text if there is no item.
 pub record Layout : Type 0 where
@@ -60,6 +61,39 @@ nft_layout name = record {
   after = 10 ∷ codes "}" ++ 10 ∷ [];
   none = nft_flush name;
 }
+
+-- The layout with this text before all else, whether there are items or not.
+abbrev pub preceded : List ℕ → Layout → Layout
+preceded text l = record {
+  before = text ++ l.before;
+  between = l.between;
+  after = l.after;
+  none = text ++ l.none;
+}
+
+-- A space.
+abbrev pub is_space : ℕ → Bool
+is_space byte = byte == 32
+
+-- The family and the table of a set of nft: the first two words of its name.
+-- Example: `inet filter` of `inet filter allowed`.
+abbrev pub nft_table : List ℕ → List ℕ
+nft_table name = before_first is_space name ++ codes " " ++ before_first is_space (after_first is_space name)
+
+-- The command of `nft` that adds the table of a set with this name, unless it exists. Example: `add table inet filter`.
+abbrev pub nft_add_table : List ℕ → List ℕ
+nft_add_table name = codes "add table " ++ nft_table name ++ 10 ∷ []
+
+-- The command of `nft` that adds a set for networks of this type, unless it exists.
+-- Example: `add set inet filter allowed { type ipv4_addr; flags interval; }`.
+abbrev pub nft_add_set : List ℕ → List ℕ → List ℕ
+nft_add_set kind name =
+    codes "add set " ++ name ++ codes " { type " ++ kind ++ codes "; flags interval; }" ++ 10 ∷ []
+
+-- Commands of `nft`: the set with this name exists, for networks of this type. It has the items as its elements, and no
+-- others.
+abbrev pub declared_nft_layout : List ℕ → List ℕ → Layout
+declared_nft_layout kind name = preceded (nft_add_table name ++ nft_add_set kind name) (nft_layout name)
 
 -- The command of `ipset` that creates a set of this kind, unless it exists.
 abbrev pub ipset_create : List ℕ → List ℕ → List ℕ

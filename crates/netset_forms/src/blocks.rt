@@ -1,16 +1,17 @@
 //! The networks of a set and its ranges as the items of a text, without a list of them.
-ghost use Rattle.std.specs.Prelude.{◌≡◌, ◌≤◌, ◌++◌, codes, decimal, IfOk, OnOk, OnErr};
+ghost use Rattle.std.specs.Prelude.{◌≡◌, ◌≤◌, ◌++◌, IfOk, OnOk, OnErr};
 ghost use Rattle.ipnet_base.specs.RangeOf.{ip_range};
 ghost use Rattle.ipnet.specs.NetworkOf.{ip_network};
 ghost use Rattle.ipnet.specs.SubnetsLeft.{ip_subnets_left};
 ghost use Rattle.ipnet_sets.specs.Members.{IsMember};
 ghost use Rattle.ipnet_text.specs.Pieces.{IsInPieces};
 ghost use Rattle.ipnet_lists.specs.SetLines.{range_text};
-ghost use Rattle.ipnet.specs.CanonicalTexts.{canonical_text};
-ghost use Rattle.netset_forms.specs.Forms.{AreBlocksIn, AreRangesIn, next_number};
+ghost use Rattle.netset_forms.specs.Forms.{AreBlocksIn, AreRangesIn, entry_text, next_number};
 ghost use Rattle.netset_forms.specs.FormSteps.{layout_of, IsCut, PutsSome, CutsSome, item_text, items_of, front_in};
 ghost use Rattle.netset_forms.specs.FormSteps.{none_after, number_after, IsPartText, FitsPart};
 
+use crate::entries::entry_network;
+use crate::form::EntryLengths;
 use crate::parts::{Item, Part};
 use crate::pieces::{put, put_network, put_number, put_pair, put_row};
 use arrayvec::ArrayString;
@@ -40,15 +41,16 @@ fn put_entry<W: Write>(
     piece: &mut ArrayString<PIECE>,
     number: u64,
     network: IpNet,
+    lengths: EntryLengths,
 ) -> io::Result<()>
     ensures ok { OnOk result (IsInPieces (W.contents out.old) (W.contents out.new) piece.new.bytes
-        (piece.old.bytes ++ (decimal number ++ codes " permit " ++ canonical_text (ip_network network)))) }
+        (piece.old.bytes ++ entry_text lengths number (ip_network network))) }
     ensures cut { OnErr result (IsCut (W.contents out.old) (W.contents out.new) piece.old.bytes
-        (decimal number ++ codes " permit " ++ canonical_text (ip_network network))) }
+        (entry_text lengths number (ip_network network))) }
 {
     put_number(out, piece, number)?;
     put(out, piece, " permit ")?;
-    put_network(out, piece, network)
+    put(out, piece, entry_network(network, lengths).as_str())
 }
 
 /// Appends the item of a network at a place with this sequence number to the piece.
@@ -66,7 +68,7 @@ fn put_item<W: Write>(
 {
     match item {
         Item::Row => put_row(out, piece, network),
-        Item::Entry => put_entry(out, piece, number, network),
+        Item::Entry(lengths) => put_entry(out, piece, number, network, lengths),
         _ => put_network(out, piece, network),
     }
 }

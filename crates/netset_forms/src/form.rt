@@ -38,6 +38,16 @@ pub struct ChainRules<'a> {
     pub target: &'a str,
 }
 
+/// The greatest prefix lengths of the routes that the entries of prefix lists permit, one for each family. An entry for
+/// a network of this length, or a longer one, permits only the network: with 0, each entry does.
+#[derive(Clone, Copy, Debug, PartialEq, Eq)]
+pub struct EntryLengths {
+    /// For IPv4 networks.
+    pub ipv4: u8,
+    /// For IPv6 networks.
+    pub ipv6: u8,
+}
+
 /// How a set of addresses is written.
 ///
 /// ```text
@@ -71,11 +81,15 @@ pub enum AnswerForm<'a> {
     Csv,
     /// Commands of `nft` that give sets these networks in place of all others. A name is a family, a table and a set.
     Nft(SetNames<'a>),
+    /// The same after commands that add the sets and their tables unless they exist, so that `nft` loads the text on a
+    /// machine without them.
+    DeclaredNft(SetNames<'a>),
     /// Commands of `ipset restore` that give sets these networks in place of all others. The number is the `maxelem` of
     /// the sets: the most networks that a set can have.
     Ipset(SetNames<'a>, u32),
-    /// Commands of FRR that give prefix lists these networks in place of all others.
-    Frr(SetNames<'a>),
+    /// Commands of FRR that give prefix lists these networks in place of all others. An entry also permits the more
+    /// specific networks up to the length of its family.
+    Frr(SetNames<'a>, EntryLengths),
     /// Definitions of sets of prefixes for BIRD 2.
     Bird(SetNames<'a>),
     /// Lines of `iptables-restore` or `ip6tables-restore` that give a chain a rule for each network, and no others. The

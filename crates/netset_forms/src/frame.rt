@@ -1,11 +1,13 @@
 //! The texts around the items of an answer.
 ghost use Rattle.std.specs.Prelude.{◌≡◌, ◌++◌, IfOk, decimal, string_bytes};
+ghost use Rattle.std.specs.List.{before_first, after_first};
 ghost use Rattle.netset_forms.specs.FormSteps.{layout_of, text_of_all};
 ghost use Rattle.netset_forms.specs.Layouts as layouts;
 ghost use Rattle.netset_forms.specs.Layouts.{line_layout, json_layout, csv_layout, nft_layout, ipset_layout};
-ghost use Rattle.netset_forms.specs.Layouts.{frr_layout, bird_layout, chain_layout};
+ghost use Rattle.netset_forms.specs.Layouts.{declared_nft_layout, frr_layout, bird_layout, chain_layout, is_space};
 ghost use Rattle.netset_forms.specs.FormSteps.{named_layout};
 
+use crate::form::EntryLengths;
 use std::alloc::{AllocError, Global};
 
 /// The commands for a named set of one family.
@@ -13,14 +15,18 @@ use std::alloc::{AllocError, Global};
 pub(crate) enum Commands {
     /// Commands of nft.
     Nft,
+    /// Commands of nft for a set of IPv4 networks, which they add unless it exists.
+    DeclaredNftIpv4,
+    /// The same for IPv6.
+    DeclaredNftIpv6,
     /// Commands of ipset for a set of IPv4 networks with this `maxelem`.
     IpsetIpv4(u32),
     /// The same for IPv6.
     IpsetIpv6(u32),
-    /// Commands of FRR for an IPv4 prefix list.
-    FrrIpv4,
+    /// Commands of FRR for an IPv4 prefix list, whose entries have these lengths.
+    FrrIpv4(EntryLengths),
     /// The same for IPv6.
-    FrrIpv6,
+    FrrIpv6(EntryLengths),
     /// A definition of BIRD.
     Bird,
 }
@@ -123,6 +129,65 @@ fn nft(alloc: Global, name: &str) -> Result<Frame, AllocError>
     })
 }
 
+/// The text before the first space, and the text after it: all of the text, and nothing, if there is none.
+fn cut_at_space(text: &str) -> (&str, &str)
+    ensures before { result.0.now ≡ before_first is_space text.now }
+    ensures after { result.1.now ≡ after_first is_space text.now }
+{
+    match text.split_once(' ') {
+        Some((before, after)) => (before, after),
+        None => (text, ""),
+    }
+}
+
+/// The command of nft that adds the table of a set with this name, unless it exists.
+fn nft_add_table(alloc: Global, name: &str) -> Result<String, AllocError>
+    ensures { IfOk result (λ text. string_bytes text ≡ layouts.nft_add_table name.now) }
+{
+    let (family, rest) = cut_at_space(name);
+    let (table, _) = cut_at_space(rest);
+    joined(alloc, &["add table ", family, " ", table, "\n"])
+}
+
+/// The command of nft that adds a set with this name for networks of this type, unless it exists.
+fn nft_add_set(alloc: Global, kind: &str, name: &str) -> Result<String, AllocError>
+    ensures { IfOk result (λ text. string_bytes text ≡ layouts.nft_add_set kind.now name.now) }
+{
+    joined(
+        alloc,
+        &["add set ", name, " { type ", kind, "; flags interval; }\n"],
+    )
+}
+
+/// The texts of the frame, with this text before all else.
+fn preceded(alloc: Global, text: &str, frame: Frame) -> Result<Frame, AllocError>
+    ensures { IfOk result (λ whole. layout_of whole ≡ layouts.preceded text.now (layout_of frame)) }
+{
+    let Frame {
+        before,
+        between,
+        after,
+        none,
+    } = frame;
+    Ok(Frame {
+        before: joined(alloc, &[text, before.as_str()])?,
+        between,
+        after,
+        none: joined(alloc, &[text, none.as_str()])?,
+    })
+}
+
+/// Commands of nft as above, after the commands that add the set for networks of this type.
+fn declared_nft(alloc: Global, kind: &str, name: &str) -> Result<Frame, AllocError>
+    ensures { IfOk result (λ frame. layout_of frame ≡ declared_nft_layout kind.now name.now) }
+{
+    let add_table = nft_add_table(alloc, name)?;
+    let add_set = nft_add_set(alloc, kind, name)?;
+    let front = joined(alloc, &[add_table.as_str(), add_set.as_str()])?;
+    let frame = nft(alloc, name)?;
+    preceded(alloc, front.as_str(), frame)
+}
+
 /// Commands of ipset before the first item: both sets are created unless they exist, and the new set is emptied.
 fn ipset_start(alloc: Global, kind: &str, name: &str) -> Result<String, AllocError>
     ensures { IfOk result (λ text. string_bytes text ≡ layouts.ipset_start kind.now name.now) }
@@ -210,6 +275,8 @@ pub(crate) fn named(alloc: Global, commands: Commands, name: &str) -> Result<Fra
 {
     match commands {
         Commands::Nft => nft(alloc, name),
+        Commands::DeclaredNftIpv4 => declared_nft(alloc, "ipv4_addr", name),
+        Commands::DeclaredNftIpv6 => declared_nft(alloc, "ipv6_addr", name),
         Commands::IpsetIpv4(most) => {
             let kind = kind_of(alloc, "hash:net family inet maxelem ", most)?;
             ipset(alloc, kind.as_str(), name)
@@ -218,8 +285,8 @@ pub(crate) fn named(alloc: Global, commands: Commands, name: &str) -> Result<Fra
             let kind = kind_of(alloc, "hash:net family inet6 maxelem ", most)?;
             ipset(alloc, kind.as_str(), name)
         }
-        Commands::FrrIpv4 => frr(alloc, "ip", "0.0.0.0/0 le 32", name),
-        Commands::FrrIpv6 => frr(alloc, "ipv6", "::/0 le 128", name),
+        Commands::FrrIpv4(_) => frr(alloc, "ip", "0.0.0.0/0 le 32", name),
+        Commands::FrrIpv6(_) => frr(alloc, "ipv6", "::/0 le 128", name),
         Commands::Bird => bird(alloc, name),
     }
 }

@@ -3,6 +3,8 @@
 
 mod blocks;
 mod enough;
+mod entries;
+pub mod fault;
 pub mod form;
 mod frame;
 pub mod names;
@@ -13,12 +15,15 @@ mod pieces;
 pub mod program;
 pub mod write;
 
-pub use form::{AnswerForm, ChainRules, FormFailure, FormRequest, LineTexts, SetNames};
+pub use fault::FormFault;
+pub use form::{
+    AnswerForm, ChainRules, EntryLengths, FormFailure, FormRequest, LineTexts, SetNames,
+};
 pub use names::{
     are_ipset_sets, are_nft_sets, is_bird_name, is_chain_name, is_frr_name, is_ipset_name,
     is_nft_name, is_target_name,
 };
 pub use newly_permitted::{NewlyPermittedCommand, RulePairFailure};
-pub use options::{FormFault, FormName, FormOptions};
+pub use options::{FormName, FormOptions, GivenLengths};
 pub use program::{FormCommand, PermittedCommand};
 pub use write::write_form;

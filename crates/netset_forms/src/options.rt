@@ -1,15 +1,15 @@
 //! The options of a command line for the form of an answer.
-ghost use Rattle.std.specs.Prelude.{◌≡◌, ◌↔◌, ◌⊎◌, ◌==◌, ℕ, Some, IsTrue, IfOk, IfErr, OnOk, option_map};
+ghost use Rattle.std.specs.Prelude.{◌≡◌, ◌↔◌, ◌⊎◌, ◌==◌, ℕ, true, Some, IsTrue, IfOk, IfErr, OnOk};
 ghost use Rattle.std.specs.List.{list_any};
 ghost use Rattle.netset_forms.specs.FormOptions.{form_text, HasLines, HasSets, HasNames, IsMaxelem, IsRequestOf};
 ghost use Rattle.netset_forms.specs.FormOptions.{IsFormNamed, IsFormOf, IsMostElements, IsMinLength, IsGoodText};
 ghost use Rattle.netset_forms.specs.FormOptions.{AreGoodSets, IsGoodName, AreGoodBoth, AreRulesOf, IsFormFault};
-ghost use Rattle.netset_forms.specs.FormOptions.{HasOtherFamily};
-ghost use Rattle.netset_forms.specs.FormOptions.{fault_value, is_line_break};
+ghost use Rattle.netset_forms.specs.FormOptions.{HasOtherFamily, IsForList, is_line_break};
 ghost use Rattle.netset_forms.specs.declared.options.FormName.{FormName};
-ghost use Rattle.netset_forms.specs.declared.options.FormName.TheVariants.{Iptables};
+ghost use Rattle.netset_forms.specs.declared.options.FormName.TheVariants.{Iptables, Nft};
 
-use crate::form::{AnswerForm, ChainRules, FormRequest, LineTexts, SetNames};
+use crate::fault::FormFault;
+use crate::form::{AnswerForm, ChainRules, EntryLengths, FormRequest, LineTexts, SetNames};
 use crate::names::{
     are_ipset_sets, are_nft_sets, is_bird_name, is_chain_name, is_frr_name, is_ipset_name,
     is_nft_name, is_target_name,
@@ -42,6 +42,15 @@ pub enum FormName {
     Iptables,
 }
 
+/// The greatest lengths of the entries of prefix lists, as they were given.
+#[derive(Clone, Copy, Debug, PartialEq, Eq)]
+pub struct GivenLengths {
+    /// `--ipv4-le`
+    pub ipv4: Option<u8>,
+    /// `--ipv6-le`
+    pub ipv6: Option<u8>,
+}
+
 /// The options for the form of an answer, as they were given.
 #[derive(Clone, Copy, Debug, PartialEq, Eq)]
 pub struct FormOptions<'a> {
@@ -57,6 +66,10 @@ pub struct FormOptions<'a> {
     pub min_length: Option<&'a str>,
     /// `--ipv4-set` and `--ipv6-set`
     pub sets: SetNames<'a>,
+    /// `--declare`
+    pub declares: bool,
+    /// `--ipv4-le` and `--ipv6-le`
+    pub lengths: GivenLengths,
     /// `--maxelem`
     pub maxelem: Option<&'a str>,
     /// `--chain`
@@ -67,103 +80,6 @@ pub struct FormOptions<'a> {
     pub ipv4_only: bool,
     /// `-6`
     pub ipv6_only: bool,
-}
-
-/// Why the options of a form do not go together.
-#[derive(Clone, Copy, Debug, PartialEq, Eq, Drop, thiserror::Error)]
-pub enum FormFault<'a> {
-    /// A text before each line, and the form has no such lines.
-    #[error("--prefix is for the formats plain and ranges")]
-    Prefix,
-    /// The text before each line has a line feed or a carriage return.
-    #[error("--prefix has a line break")]
-    LineBreak,
-    /// A text after each line, and the form has no such lines.
-    #[error("--suffix is for the formats plain and ranges")]
-    Suffix,
-    /// The text after each line has a line feed or a carriage return.
-    #[error("--suffix has a line break")]
-    SuffixBreak,
-    /// A minimum prefix length, and the form has no networks.
-    #[error("--min-length is not for ranges, which have no prefix length")]
-    Ranges,
-    /// The minimum prefix length is not one.
-    #[error("not a prefix length")]
-    Length(&'a str),
-    /// The name of a set, and the form has no sets.
-    #[error("--ipv4-set and --ipv6-set are for the formats nft, ipset, frr and bird")]
-    Sets,
-    /// No set has a name.
-    #[error("name a set by --ipv4-set or --ipv6-set")]
-    NoSet,
-    /// The text does not name a set of nft.
-    #[error("not a family, a table and a set of nft, such as inet filter allowed")]
-    NftName(&'a str),
-    /// The text does not name a set of ipset.
-    #[error("not a name of a set of ipset, such as allowed, or longer than 27 bytes")]
-    IpsetName(&'a str),
-    /// The text does not name a prefix list of FRR.
-    #[error("not a name of a prefix list of FRR, such as allowed, or longer than 128 bytes")]
-    FrrName(&'a str),
-    /// The text is not a symbol of BIRD.
-    #[error("not a symbol of BIRD, such as ALLOWED4, or longer than 64 bytes")]
-    BirdName(&'a str),
-    /// Both names are of one set.
-    #[error("--ipv4-set and --ipv6-set name one set")]
-    OneSet,
-    /// One of the sets of ipset has the name of the other's new set.
-    #[error("one of --ipv4-set and --ipv6-set is the other with .new, the name of its new set")]
-    NewSet,
-    /// A set has a name, and only the other family is asked for.
-    #[error("-4 leaves --ipv6-set empty, and -6 --ipv4-set: name only the set of that family")]
-    OtherFamily,
-    /// A chain or a target, and the form is another.
-    #[error("--chain and --target are for the format iptables")]
-    OtherChain,
-    /// No chain or no target.
-    #[error("the format iptables needs --chain and --target")]
-    NoChain,
-    /// The text does not name a chain that a user creates.
-    #[error("not a name of a chain of your own, such as blocked, or longer than 28 bytes")]
-    ChainName(&'a str),
-    /// The text does not name a target.
-    #[error("not a target of iptables, such as DROP, or longer than 28 bytes")]
-    TargetName(&'a str),
-    /// The rules of the chain lead to the chain.
-    #[error("--target is the chain itself")]
-    OwnTarget,
-    /// Not one of the two families.
-    #[error("the format iptables needs either -4 or -6")]
-    OneFamily,
-    /// A `maxelem`, and the form is another.
-    #[error("--maxelem is for the format ipset")]
-    OtherMaxelem,
-    /// The text is not a `maxelem`.
-    #[error("not a number from 1 to 4294967295")]
-    Maxelem(&'a str),
-}
-
-impl<'a> FormFault<'a> {
-    /// Returns the value of the option, if the fault is about one.
-    ///
-    /// ```text
-    /// Length("x"): Some("x"); NoSet: None
-    /// ```
-    pub fn value(self) -> Option<&'a str>
-        ensures { option_map (λ text. text.now) result ≡ fault_value self.entry }
-    {
-        match self {
-            FormFault::Length(value) => Some(value),
-            FormFault::NftName(value) => Some(value),
-            FormFault::IpsetName(value) => Some(value),
-            FormFault::FrrName(value) => Some(value),
-            FormFault::BirdName(value) => Some(value),
-            FormFault::ChainName(value) => Some(value),
-            FormFault::TargetName(value) => Some(value),
-            FormFault::Maxelem(value) => Some(value),
-            _ => None,
-        }
-    }
 }
 
 impl FormName {
@@ -411,20 +327,72 @@ impl<'a> FormOptions<'a> {
         }
     }
 
+    /// Refuses a greatest length of IPv4 entries if the form has no entries, if their list has no name, or if the
+    /// length is above 32.
+    fn check_ipv4_length(self, form: FormName) -> Result<(), FormFault<'a>>
+        ensures good { OnOk result (IsForList 32 form self.entry.lengths.ipv4 self.entry.sets.ipv4) }
+        ensures fault { IfErr result (IsFormFault form self.entry) }
+    {
+        let Some(length) = self.lengths.ipv4 else {
+            return Ok(());
+        };
+        match form {
+            FormName::Frr => match self.sets.ipv4 {
+                None => Err(FormFault::NoIpv4List),
+                Some(_) if length > 32 => Err(FormFault::LongIpv4),
+                Some(_) => Ok(()),
+            },
+            _ => Err(FormFault::OtherLengths),
+        }
+    }
+
+    /// Refuses a greatest length of IPv6 entries as `check_ipv4_length` does one of IPv4 entries.
+    fn check_ipv6_length(self, form: FormName) -> Result<(), FormFault<'a>>
+        ensures good { OnOk result (IsForList 128 form self.entry.lengths.ipv6 self.entry.sets.ipv6) }
+        ensures fault { IfErr result (IsFormFault form self.entry) }
+    {
+        let Some(length) = self.lengths.ipv6 else {
+            return Ok(());
+        };
+        match form {
+            FormName::Frr => match self.sets.ipv6 {
+                None => Err(FormFault::NoIpv6List),
+                Some(_) if length > 128 => Err(FormFault::LongIpv6),
+                Some(_) => Ok(()),
+            },
+            _ => Err(FormFault::OtherLengths),
+        }
+    }
+
+    /// Refuses a declaration of sets if the form is not nft.
+    fn check_declaration(self, form: FormName) -> Result<(), FormFault<'a>>
+        ensures good { OnOk result (self.entry.declares ≡ true → form ≡ Nft) }
+        ensures fault { IfErr result (IsFormFault form self.entry) }
+    {
+        match form {
+            FormName::Nft => Ok(()),
+            _ if self.declares => Err(FormFault::OtherDeclaration),
+            _ => Ok(()),
+        }
+    }
+
     /// The form of this name.
     fn form(self, name: FormName, most: u32, rules: ChainRules<'a>) -> AnswerForm<'a>
         ensures { IsFormOf name self.entry most rules.entry result }
     {
         let prefix = self.prefix.unwrap_or("");
         let suffix = self.suffix.unwrap_or("");
+        let ipv4 = self.lengths.ipv4.unwrap_or(0);
+        let ipv6 = self.lengths.ipv6.unwrap_or(0);
         match name {
             FormName::Plain => AnswerForm::Networks(LineTexts { prefix, suffix }),
             FormName::Ranges => AnswerForm::Ranges(LineTexts { prefix, suffix }),
             FormName::Json => AnswerForm::Json,
             FormName::Csv => AnswerForm::Csv,
+            FormName::Nft if self.declares => AnswerForm::DeclaredNft(self.sets),
             FormName::Nft => AnswerForm::Nft(self.sets),
             FormName::Ipset => AnswerForm::Ipset(self.sets, most),
-            FormName::Frr => AnswerForm::Frr(self.sets),
+            FormName::Frr => AnswerForm::Frr(self.sets, EntryLengths { ipv4, ipv6 }),
             FormName::Bird => AnswerForm::Bird(self.sets),
             FormName::Iptables => AnswerForm::Iptables(rules),
         }
@@ -455,6 +423,9 @@ impl<'a> FormOptions<'a> {
         self.check_both(name)?;
         self.check_families(name)?;
         let rules = self.rules(name)?;
+        self.check_ipv4_length(name)?;
+        self.check_ipv6_length(name)?;
+        self.check_declaration(name)?;
         Ok(FormRequest {
             form: self.form(name, most, rules),
             min_length,

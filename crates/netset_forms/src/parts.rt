@@ -7,10 +7,10 @@ ghost use Rattle.netset_forms.specs.Forms.{AreFamilyTexts, HasOne, IsAskedText, 
 ghost use Rattle.netset_forms.specs.declared.form.FormFailure.TheVariants as Failures;
 ghost use Rattle.netset_forms.specs.FormSteps.{layout_of, named_layout, IsItemsText, IsNamedText, MakesPart, MakeParts};
 ghost use Rattle.netset_forms.specs.FormSteps.{IsUnnamed, IsNamedFailure, least_in, named_item, named_items};
-ghost use Rattle.netset_forms.specs.Forms.{plain_items};
+ghost use Rattle.netset_forms.specs.Forms.{plain_items, entries_from, frr_of};
 ghost use Rattle.netset_forms.specs.Layouts.{ipset_layout};
 
-use crate::form::{AnswerForm, FormFailure, FormRequest, SetNames};
+use crate::form::{AnswerForm, EntryLengths, FormFailure, FormRequest, SetNames};
 use crate::frame;
 use crate::frame::{Commands, Frame};
 use ipnet::{IpNet, Ipv6Net};
@@ -27,8 +27,8 @@ pub(crate) enum Item {
     Row,
     /// The ranges.
     Range,
-    /// The networks, each as an entry of a prefix list with its sequence number.
-    Entry,
+    /// The networks, each as an entry of a prefix list with its sequence number and the length of its family.
+    Entry(EntryLengths),
 }
 
 /// A part of an answer: the items of a set in a frame.
@@ -53,10 +53,10 @@ const NFT: FamilyCommands = FamilyCommands {
     ipv6: Commands::Nft,
 };
 
-/// Commands of FRR.
-const FRR: FamilyCommands = FamilyCommands {
-    ipv4: Commands::FrrIpv4,
-    ipv6: Commands::FrrIpv6,
+/// Commands of nft that also add the sets.
+const DECLARED_NFT: FamilyCommands = FamilyCommands {
+    ipv4: Commands::DeclaredNftIpv4,
+    ipv6: Commands::DeclaredNftIpv6,
 };
 
 /// Definitions of BIRD.
@@ -107,8 +107,8 @@ fn item_of(commands: Commands) -> Item
     ensures { result ≡ named_item commands }
 {
     match commands {
-        Commands::FrrIpv4 => Item::Entry,
-        Commands::FrrIpv6 => Item::Entry,
+        Commands::FrrIpv4(lengths) => Item::Entry(lengths),
+        Commands::FrrIpv6(lengths) => Item::Entry(lengths),
         _ => Item::Network,
     }
 }
@@ -220,6 +220,24 @@ fn ipset_parts(
     )
 }
 
+/// The parts of an answer for FRR, whose entries permit more specific networks up to these lengths.
+fn frr_parts(
+    alloc: Global,
+    set: &IpSet,
+    names: SetNames<'_>,
+    min_length: u8,
+    lengths: EntryLengths,
+) -> Result<Parts, FormFailure>
+    requires { FitsFamilies (IsMember set.now) min_length }
+    ensures parts { IfOk result (MakeParts (AreFamilyTexts (frr_of IPv4) (frr_of IPv6) (entries_from lengths 5)
+        names.entry min_length (IsMember set.now))) }
+    ensures failure { IfErr result (IsNamedFailure names.entry (IsMember set.now)) }
+{
+    let ipv4 = Commands::FrrIpv4(lengths);
+    let ipv6 = Commands::FrrIpv6(lengths);
+    named_parts(alloc, set, names, min_length, FamilyCommands { ipv4, ipv6 })
+}
+
 /// The least prefix length of the networks of an answer; ranges have none.
 fn least_of(request: FormRequest<'_>) -> u8
     ensures { let r = request.entry in result ≡ least_in r.form r.min_length }
@@ -253,8 +271,9 @@ fn parts_of(alloc: Global, set: IpSet, request: FormRequest<'_>) -> Result<Parts
             Ok(one_part(frame, Item::Network, least, set))
         }
         AnswerForm::Nft(names) => named_parts(alloc, &set, names, least, NFT),
+        AnswerForm::DeclaredNft(names) => named_parts(alloc, &set, names, least, DECLARED_NFT),
         AnswerForm::Ipset(names, most) => ipset_parts(alloc, &set, names, least, most),
-        AnswerForm::Frr(names) => named_parts(alloc, &set, names, least, FRR),
+        AnswerForm::Frr(names, lengths) => frr_parts(alloc, &set, names, least, lengths),
         AnswerForm::Bird(names) => named_parts(alloc, &set, names, least, BIRD),
     }
 }

@@ -1,12 +1,9 @@
 -- Each form decides the layout and the items.
-use Rattle.std.proofs.Common.{sym, ap, subst, max, refl}
-use Rattle.ipnet_base.specs.Address.{IPv4, IPv6}
+use Rattle.std.proofs.Common.{sym, ap, subst, refl}
 use Rattle.ipnet_sets.specs.Members.{IsMember}
 use Rattle.netset_forms.specs.declared.parts.Item.TheVariants as Items
-use Rattle.netset_forms.specs.Forms.{IsFormText, AreFamilyTexts, ipset_kind, frr_of, names_in, plain_items}
-use Rattle.netset_forms.specs.Forms.{entries_from}
+use Rattle.netset_forms.specs.Forms.{IsFormText, names_in}
 use Rattle.netset_forms.specs.FormSteps.{IsItemsText, MakeParts}
-use Rattle.netset_forms.specs.Layouts.{nft_layout, ipset_layout, bird_layout}
 use Rattle.netset_forms.proofs.PartLaws.{one_of_form, named_of_form, named_failures}
 use Rattle.netset_forms.proofs.parts.parts_of.Goals as goal
 
@@ -39,38 +36,37 @@ returns-in_ok-frame-in-Iptables-clause-parts c =
 
 pub returns-in-Nft-clause-parts : goal.returns-in-Nft-clause-parts
 returns-in-Nft-clause-parts c =
-    named_of_form _ _ _ _ _
-    (λ m. AreFamilyTexts nft_layout nft_layout plain_items c.in-Nft.names m (IsMember c.args.set))
-    _ c.in-Nft.is c.least_of-least.ensures refl refl c.named_parts.ensures.parts
+    named_of_form _ _ _ _ _ _ c.in-Nft.is c.least_of-least.ensures refl c.named_parts.ensures.parts
 
 pub returns-in-Nft-clause-failure : goal.returns-in-Nft-clause-failure
 returns-in-Nft-clause-failure c = named_failures _ _ _ _ _ (ap names_in c.in-Nft.is) c.named_parts.ensures.failure
 
+pub returns-in-DeclaredNft-clause-parts : goal.returns-in-DeclaredNft-clause-parts
+returns-in-DeclaredNft-clause-parts c =
+    named_of_form _ _ _ _ _ _ c.in-DeclaredNft.is c.least_of-least.ensures refl
+    c.named_parts-in-DeclaredNft.ensures.parts
+
+pub returns-in-DeclaredNft-clause-failure : goal.returns-in-DeclaredNft-clause-failure
+returns-in-DeclaredNft-clause-failure c =
+    named_failures _ _ _ _ _ (ap names_in c.in-DeclaredNft.is) c.named_parts-in-DeclaredNft.ensures.failure
+
 pub returns-in-Ipset-clause-parts : goal.returns-in-Ipset-clause-parts
 returns-in-Ipset-clause-parts c =
-    named_of_form _ _ _ _ _
-    (λ m. AreFamilyTexts (ipset_layout (ipset_kind c.in-Ipset.most IPv4))
-    (ipset_layout (ipset_kind c.in-Ipset.most IPv6)) plain_items c.in-Ipset.names (max m 1) (IsMember c.args.set))
-    _ c.in-Ipset.is c.least_of-least.ensures refl refl c.ipset_parts.ensures.parts
+    named_of_form _ _ _ _ _ _ c.in-Ipset.is c.least_of-least.ensures refl c.ipset_parts.ensures.parts
 
 pub returns-in-Ipset-clause-failure : goal.returns-in-Ipset-clause-failure
 returns-in-Ipset-clause-failure c = named_failures _ _ _ _ _ (ap names_in c.in-Ipset.is) c.ipset_parts.ensures.failure
 
 pub returns-in-Frr-clause-parts : goal.returns-in-Frr-clause-parts
 returns-in-Frr-clause-parts c =
-    named_of_form _ _ _ _ _
-    (λ m. AreFamilyTexts (frr_of IPv4) (frr_of IPv6) (entries_from 5) c.in-Frr.names m (IsMember c.args.set))
-    _ c.in-Frr.is c.least_of-least.ensures refl refl c.named_parts-in-Frr.ensures.parts
+    named_of_form _ _ _ _ _ _ c.in-Frr.is c.least_of-least.ensures refl c.frr_parts.ensures.parts
 
 pub returns-in-Frr-clause-failure : goal.returns-in-Frr-clause-failure
-returns-in-Frr-clause-failure c =
-    named_failures _ _ _ _ _ (ap names_in c.in-Frr.is) c.named_parts-in-Frr.ensures.failure
+returns-in-Frr-clause-failure c = named_failures _ _ _ _ _ (ap names_in c.in-Frr.is) c.frr_parts.ensures.failure
 
 pub returns-in-Bird-clause-parts : goal.returns-in-Bird-clause-parts
 returns-in-Bird-clause-parts c =
-    named_of_form _ _ _ _ _
-    (λ m. AreFamilyTexts bird_layout bird_layout plain_items c.in-Bird.names m (IsMember c.args.set))
-    _ c.in-Bird.is c.least_of-least.ensures refl refl c.named_parts-in-Bird.ensures.parts
+    named_of_form _ _ _ _ _ _ c.in-Bird.is c.least_of-least.ensures refl c.named_parts-in-Bird.ensures.parts
 
 pub returns-in-Bird-clause-failure : goal.returns-in-Bird-clause-failure
 returns-in-Bird-clause-failure c =

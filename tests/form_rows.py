@@ -1,0 +1,166 @@
+"""Options for the forms of an answer with the text that is printed of a list, and with the report that refuses them. A
+module of tests/netset_forms, not a script.
+"""
+LAST_IPV6 = "ffff:ffff:ffff:ffff:ffff:ffff:ffff:ffff"
+IPSET = """create {0} hash:net family {1} maxelem 4294967295 -exist
+create {0}.new hash:net family {1} maxelem 4294967295 -exist
+flush {0}.new
+{2}swap {0}.new {0}
+destroy {0}.new
+"""
+# options, a list, what is printed
+ROWS = [
+    ("--format plain", "10.0.0.0-10.0.0.2\n", "10.0.0.0/31\n10.0.0.2/32\n"),
+    ("--format plain", "", ""),
+    ("--prefix x", "10.0.0.0-10.0.0.2\n", "x10.0.0.0/31\nx10.0.0.2/32\n"),
+    ("--prefix x", "", ""),
+    ("--format ranges", "10.0.0.0-10.0.0.2\n::1\n", "10.0.0.0-10.0.0.2\n::1-::1\n"),
+    ("--ranges --prefix -", "10.0.0.1\n", "-10.0.0.1-10.0.0.1\n"),
+    ("--format json", "", "[]\n"),
+    ("--format json", "10.0.0.1\n", '[\n  "10.0.0.1/32"\n]\n'),
+    ("--format json", "10.0.0.1\n::ffff:1.2.3.4\n", '[\n  "10.0.0.1/32",\n  "::ffff:1.2.3.4/128"\n]\n'),
+    ("--format csv", "", "network,first,last\n"),
+    ("--format csv", "10.0.0.0/8\n", "network,first,last\n10.0.0.0/8,10.0.0.0,10.255.255.255\n"),
+    ("--format csv", "::/0\n", "network,first,last\n::/0,::," + LAST_IPV6 + "\n"),
+    ("--min-length 32", "10.0.0.0/31\n", "10.0.0.0/32\n10.0.0.1/32\n"),
+    ("--min-length 31", "10.0.0.0/31\n10.0.0.2\n", "10.0.0.0/31\n10.0.0.2/32\n"),
+    ("--min-length 1", "0.0.0.0/0\n::/0\n", "0.0.0.0/1\n128.0.0.0/1\n::/1\n8000::/1\n"),
+    ("--min-length 0", "0.0.0.0/0\n", "0.0.0.0/0\n"),
+    ("--min-length /128", "::2-::3\n", "::2/128\n::3/128\n"),
+    ("--format csv --min-length 2", "0.0.0.0/1\n",
+     "network,first,last\n0.0.0.0/2,0.0.0.0,63.255.255.255\n64.0.0.0/2,64.0.0.0,127.255.255.255\n"),
+    ("--format nft --ipv4-set inet+filter+a", "", "flush set inet filter a\n"),
+    ("--format nft --ipv6-set ip6+f+a", "::/127\n::2\n",
+     "flush set ip6 f a\nadd element ip6 f a {\n    ::/127,\n    ::2/128\n}\n"),
+    ("--format nft --ipv4-set inet+filter+a --ipv6-set inet+filter+b", "::1\n",
+     "flush set inet filter a\nflush set inet filter b\nadd element inet filter b {\n    ::1/128\n}\n"),
+    ("--format ipset --ipv4-set a", "10.0.0.1\n", IPSET.format("a", "inet", "add a.new 10.0.0.1/32\n")),
+    ("--format ipset --ipv6-set a", "", IPSET.format("a", "inet6", "")),
+    ("--format ipset --ipv4-set a --ipv6-set b", "0.0.0.0/0\n::/0\n",
+     IPSET.format("a", "inet", "add a.new 0.0.0.0/1\nadd a.new 128.0.0.0/1\n")
+     + IPSET.format("b", "inet6", "add b.new ::/1\nadd b.new 8000::/1\n")),
+    ("--format ipset --maxelem 65536 --ipv4-set a", "10.0.0.1\n",
+     IPSET.format("a", "inet", "add a.new 10.0.0.1/32\n").replace("4294967295", "65536")),
+    ("--format ipset --maxelem 1 --ipv6-set a", "", IPSET.format("a", "inet6", "").replace("4294967295", "1")),
+    ("--format ipset --maxelem 4294967295 --ipv4-set a --ipv6-set a.b", "",
+     IPSET.format("a", "inet", "") + IPSET.format("a.b", "inet6", "")),
+    ("--format nft --ipv4-set ip+f+a --ipv6-set ip6+f+a", "", "flush set ip f a\nflush set ip6 f a\n"),
+    ("--format ipset --min-length 32 --ipv4-set a", "10.0.0.0/31\n",
+     IPSET.format("a", "inet", "add a.new 10.0.0.0/32\nadd a.new 10.0.0.1/32\n")),
+    ("--suffix ;", "10.0.0.0-10.0.0.2\n", "10.0.0.0/31;\n10.0.0.2/32;\n"),
+    ("--suffix ;", "", ""),
+    ("--prefix allow+ --suffix ;", "10.0.0.1\n::1\n", "allow 10.0.0.1/32;\nallow ::1/128;\n"),
+    ("--ranges --suffix -", "10.0.0.1\n", "10.0.0.1-10.0.0.1-\n"),
+    ("-4", "10.0.0.1\n::1\n", "10.0.0.1/32\n"),
+    ("-6", "10.0.0.1\n::1\n", "::1/128\n"),
+    ("-4 -6", "10.0.0.1\n::1\n", "10.0.0.1/32\n::1/128\n"),
+    ("-64 --ranges", "10.0.0.1\n::1\n", "10.0.0.1-10.0.0.1\n::1-::1\n"),
+    ("--ipv4-only --format json", "::1\n", "[]\n"),
+    ("--ipv6-only --min-length 128", "10.0.0.1\n::1\n", "::1/128\n"),
+    ("-6 --format nft --ipv6-set ip6+f+a", "10.0.0.1\n::1\n",
+     "flush set ip6 f a\nadd element ip6 f a {\n    ::1/128\n}\n"),
+    ("--format frr --ipv4-set a --ipv6-set a", "10.0.0.0-10.0.0.2\n",
+     "no ip prefix-list a\nip prefix-list a seq 5 permit 10.0.0.0/31\nip prefix-list a seq 10 permit 10.0.0.2/32\n"
+     "no ipv6 prefix-list a\nipv6 prefix-list a seq 5 deny ::/0 le 128\n"),
+    ("--format frr --ipv4-set a", "", "no ip prefix-list a\nip prefix-list a seq 5 deny 0.0.0.0/0 le 32\n"),
+    ("--format frr --ipv6-set b -6", "10.0.0.1\n::/0\n",
+     "no ipv6 prefix-list b\nipv6 prefix-list b seq 5 permit ::/0\n"),
+    ("--format frr --ipv4-set a --ipv4-le 24", "10.0.0.0/8\n192.0.2.0/24\n192.0.3.0/25\n",
+     "no ip prefix-list a\nip prefix-list a seq 5 permit 10.0.0.0/8 le 24\n"
+     "ip prefix-list a seq 10 permit 192.0.2.0/24\nip prefix-list a seq 15 permit 192.0.3.0/25\n"),
+    ("--format frr --ipv4-set a --ipv6-set b --ipv4-le 32 --ipv6-le /48", "10.0.0.0-10.0.0.2\n2001:db8::/32\n",
+     "no ip prefix-list a\nip prefix-list a seq 5 permit 10.0.0.0/31 le 32\n"
+     "ip prefix-list a seq 10 permit 10.0.0.2/32\n"
+     "no ipv6 prefix-list b\nipv6 prefix-list b seq 5 permit 2001:db8::/32 le 48\n"),
+    ("--format frr --ipv6-set b --ipv6-le 128", "",
+     "no ipv6 prefix-list b\nipv6 prefix-list b seq 5 deny ::/0 le 128\n"),
+    ("--format frr --ipv4-set a --ipv4-le 0", "0.0.0.0/0\n",
+     "no ip prefix-list a\nip prefix-list a seq 5 permit 0.0.0.0/0\n"),
+    ("--format frr --ipv4-set a --ipv4-le 8 --min-length 8", "10.0.0.0/7\n",
+     "no ip prefix-list a\nip prefix-list a seq 5 permit 10.0.0.0/8\nip prefix-list a seq 10 permit 11.0.0.0/8\n"),
+    ("--format nft --declare --ipv4-set inet+filter+a", "10.0.0.0/8\n",
+     "add table inet filter\nadd set inet filter a { type ipv4_addr; flags interval; }\n"
+     "flush set inet filter a\nadd element inet filter a {\n    10.0.0.0/8\n}\n"),
+    ("--format nft --declare --ipv4-set ip+f+a --ipv6-set ip6+g+b", "",
+     "add table ip f\nadd set ip f a { type ipv4_addr; flags interval; }\nflush set ip f a\n"
+     "add table ip6 g\nadd set ip6 g b { type ipv6_addr; flags interval; }\nflush set ip6 g b\n"),
+    ("--format bird --ipv4-set A --ipv6-set B", "10.0.0.0-10.0.0.2\n",
+     "define A = [\n    10.0.0.0/31,\n    10.0.0.2/32\n];\ndefine B = [];\n"),
+    ("--format iptables -4 --chain c --target DROP", "10.0.0.0-10.0.0.2\n::1\n",
+     "*filter\n:c - [0:0]\n-F c\n-A c -s 10.0.0.0/31 -j DROP\n-A c -s 10.0.0.2/32 -j DROP\nCOMMIT\n"),
+    ("--format iptables -6 --chain c --target other", "10.0.0.1\n::1\n",
+     "*filter\n:c - [0:0]\n-F c\n-A c -s ::1/128 -j other\nCOMMIT\n"),
+    ("--format iptables -6 --chain c --target DROP", "10.0.0.1\n", "*filter\n:c - [0:0]\n-F c\nCOMMIT\n"),
+]
+LONG = "a" * 27
+NFT_LONG = "a" * 255
+NFT_FAMILIES = ["ip", "ip6", "inet", "arp", "bridge", "netdev"]
+OTHER_SET = "--ipv4-set and --ipv6-set are for the formats nft, ipset, frr and bird"
+ONE_SET = "--ipv4-set and --ipv6-set name one set"
+OTHER_FAMILY = "-4 leaves --ipv6-set empty, and -6 --ipv4-set: name only the set of that family"
+OTHER_LENGTHS = "--ipv4-le and --ipv6-le are for the format frr"
+OTHER_DECLARATION = "--declare is for the format nft; ipset creates its sets without it"
+NEW_SET = "one of --ipv4-set and --ipv6-set is the other with .new, the name of its new set"
+# options, a list, the report
+REFUSED = [
+    ("--min-length 33", "10.0.0.1\n", "/33: the prefix length is above 32"),
+    ("--format json --min-length 128", "10.0.0.1\n::1\n", "/128: the prefix length is above 32"),
+    ("--min-length 129", "::1\n", "not a prefix length: 129"),
+    ("--min-length 01", "::1\n", "not a prefix length: 01"),
+    ("--format json --prefix x", "", "--prefix is for the formats plain and ranges"),
+    ("--ranges --min-length 8", "", "--min-length is not for ranges, which have no prefix length"),
+    ("--format csv --suffix x", "", "--suffix is for the formats plain and ranges"),
+    ("--format frr --suffix x --ipv4-set a", "", "--suffix is for the formats plain and ranges"),
+    ("--format iptables --prefix x -4 --chain c --target DROP", "", "--prefix is for the formats plain and ranges"),
+    ("-6 --min-length 129", "::1\n", "not a prefix length: 129"),
+    ("-4 --min-length 33", "10.0.0.1\n::1\n", "/33: the prefix length is above 32"),
+    ("--format json --ipv4-set a", "", OTHER_SET),
+    ("--ipv6-set a", "", OTHER_SET),
+    ("--format iptables -4 --ipv4-set a --chain c --target DROP", "", OTHER_SET),
+    ("--format frr", "", "name a set by --ipv4-set or --ipv6-set"),
+    ("--format bird --ipv4-set A --ipv6-set A", "", ONE_SET),
+    ("--format nft -4 --ipv4-set inet+f+a --ipv6-set inet+f+b", "10.0.0.1\n::1\n", OTHER_FAMILY),
+    ("--format ipset -6 --ipv4-set a", "", OTHER_FAMILY),
+    ("--format frr -4 --ipv6-set a", "10.0.0.1\n", OTHER_FAMILY),
+    ("--format bird -6 --ipv4-set A --ipv6-set B", "::1\n", OTHER_FAMILY),
+    ("--format frr --ipv4-set a", "::1\n", "the result has IPv6 addresses: name a set for them by --ipv6-set"),
+    ("--format iptables -4", "", "the format iptables needs --chain and --target"),
+    ("--format iptables -4 --chain c", "", "the format iptables needs --chain and --target"),
+    ("--format iptables -4 --target DROP", "", "the format iptables needs --chain and --target"),
+    ("--format iptables --chain c --target DROP", "", "the format iptables needs either -4 or -6"),
+    ("--format iptables -4 -6 --chain c --target DROP", "", "the format iptables needs either -4 or -6"),
+    ("--format iptables -4 --chain c --target c", "", "--target is the chain itself"),
+    ("--format nft --chain c --ipv4-set inet+f+a", "", "--chain and --target are for the format iptables"),
+    ("--target DROP", "", "--chain and --target are for the format iptables"),
+    ("--format nft", "", "name a set by --ipv4-set or --ipv6-set"),
+    ("--format ipset --ipv4-set a", "::1\n", "the result has IPv6 addresses: name a set for them by --ipv6-set"),
+    ("--format nft --ipv6-set ip6+f+a", "10.0.0.1\n",
+     "the result has IPv4 addresses: name a set for them by --ipv4-set"),
+    ("--format nft --ipv4-set inet+filter+x --ipv6-set inet+filter+x", "10.0.0.0/8\n", ONE_SET),
+    ("--format ipset --ipv4-set x --ipv6-set x", "10.0.0.0/8\n", ONE_SET),
+    ("--format ipset --ipv4-set x --ipv6-set x.new", "10.0.0.0/8\n", NEW_SET),
+    ("--format ipset --ipv4-set x.new --ipv6-set x", "10.0.0.0/8\n", NEW_SET),
+    ("--maxelem 5", "", "--maxelem is for the format ipset"),
+    ("--format nft --maxelem 5 --ipv4-set inet+f+a", "", "--maxelem is for the format ipset"),
+    ("--ipv4-le 24", "", OTHER_LENGTHS),
+    ("--format bird --ipv6-le 48 --ipv6-set A", "", OTHER_LENGTHS),
+    ("--format frr --ipv4-le 24 --ipv6-set a", "", "--ipv4-le is for the list that --ipv4-set names"),
+    ("--format frr --ipv6-le 24 --ipv4-set a", "", "--ipv6-le is for the list that --ipv6-set names"),
+    ("--format frr --ipv4-le 33 --ipv4-set a", "", "--ipv4-le is above 32"),
+    ("--format frr --ipv6-le 129 --ipv6-set a", "", "not a prefix length: 129"),
+    ("--format frr --ipv4-le 024 --ipv4-set a", "", "not a prefix length: 024"),
+    ("--format frr --ipv6-le x --ipv6-set a", "", "not a prefix length: x"),
+    ("--format frr --ipv6-le \x07 --ipv6-set a", "", "not a prefix length: \\x07"),
+    ("--declare", "", OTHER_DECLARATION),
+    ("--format ipset --declare --ipv4-set a", "", OTHER_DECLARATION),
+    ("--format nft --declare", "", "name a set by --ipv4-set or --ipv6-set"),
+    ("--format ipset --maxelem 0 --ipv4-set a", "", "not a number from 1 to 4294967295: 0"),
+    ("--format ipset --maxelem 4294967296 --ipv4-set a", "", "not a number from 1 to 4294967295: 4294967296"),
+    ("--format ipset --maxelem 01 --ipv4-set a", "", "not a number from 1 to 4294967295: 01"),
+    ("--format ipset --maxelem x --ipv4-set a", "", "not a number from 1 to 4294967295: x"),
+    ("--min-length \x1b[31m", "", "not a prefix length: \\x1b[31m"),
+    ("--format nft --ipv4-set inet+f+a\x07", "",
+     "not a family, a table and a set of nft, such as inet filter allowed: inet f a\\x07"),
+    ("--format ipset --ipv4-set a\x07", "",
+     "not a name of a set of ipset, such as allowed, or longer than 27 bytes: a\\x07"),
+]
