@@ -21,9 +21,9 @@ LONG_FOOT = (
     "10.0.0.0/8", "10.20.0.0/20 # lab\n10.30.1.1\n192.0.2.1\n2001:db8::/64\n",
     "10.20.0.0/18 Berlin\n10.20.77.1 printer\n172.16.0.0/12 guests\n", [
         "Reads like text: left to right, then down. A square is a /16. The smallest dot is a /28.",
-        "Networks of entries without a title: 4. Named networks without an outline: 2.",
-        "Free blocks without an outline: 4.",
-        "Not shown: 1 address of IPv4, 18,446,744,073,709,551,616 addresses of IPv6.",
+        "Networks of entries without a text under the mouse (too small, too many or outside): 4.",
+        "Named networks without an outline: 2. Free blocks without an outline: 4.",
+        "Not shown: 1 address of IPv4, 1 /64 of IPv6.",
     ],
 )
 # bytes that are not UTF-8

@@ -38,12 +38,13 @@ SHARES = ("sparse", "below a quarter", "from a quarter", "all")
 WORDS_OF = {
     "s1": "less than one of 256 addresses of a dot is in the list", "s2": "less than a quarter of a dot is in the list",
     "s3": "a quarter of a dot or more is in the list, but not all", "s4": "all of a dot is in the list",
-    "old": "removed: addresses that only the first list has", "new": "added: addresses that only the second list has",
     "mix": "both: some addresses of a dot are removed, and others are added",
     "bothp": "no change: a part of a dot is in both lists", "both": "no change: all of a dot is in both lists",
     "ov": "two lists or more have the same address",
     "sev": "two lists or more have addresses of a dot, and none in common",
 }
+# what the legend says of rings, if there are any
+WORDS_OF_RINGS = "ring: a dot inside is too small to see"
 CHANGES = ("removed", "added", "mixed", "kept", "kept part")
 LISTS = tuple("list {}".format(number) for number in range(1, 7)) + ("shared",)
 # the colours of one class differ by at most this in each part
@@ -92,6 +93,8 @@ def words_of(name, lists):
     """The words of the legend for this class, of lists with these names."""
     if name in WORDS_OF:
         return WORDS_OF[name]
+    if name in ("old", "new"):
+        return "removed: only in " + lists[0] if name == "old" else "added: only in " + lists[1]
     start = "a part of a dot is in " if name.endswith(" pale") else "all of a dot is in "
     return start + lists[int(name.split()[0][1:])]
 
@@ -261,15 +264,25 @@ class Picture:
         """The layer of each class that has cells."""
         return [one for one in self.all_layers(theme) if any(one.data())]
 
+    def circles(self):
+        """The circles on the map, in order."""
+        return [one for one in self.shapes(LIGHT_THEME)
+                if one.element.tag == SVG + "circle" and one.element not in list(self.root)]
+
     def rings(self):
-        """The middle of each circle, in pixels, and the colour of its line."""
-        return [(one.at("cx", "cy"), one.line) for one in self.shapes(LIGHT_THEME) if one.element.tag == SVG + "circle"]
+        """The middle of each circle on the map, in pixels, and the colour of its line."""
+        return [(one.at("cx", "cy"), one.line) for one in self.circles()]
 
     def legend(self):
-        """The rows of the legend: the class of each, and its words."""
+        """The rows of the legend: the class of each sign, and its words. The class of a ring begins with `ring`."""
         parts = list(self.root)
         return [(one.get("class"), words.text) for one, words in zip(parts, parts[1:])
-                if one.tag == SVG + "rect" and one.get("class") != "page" and words.tag == SVG + "text"]
+                if one.tag in (SVG + "rect", SVG + "circle") and words.tag == SVG + "text"
+                and one.get("class") != "page"]
+
+    def row_of_rings(self):
+        """The row of the legend that is wanted for the circles on the map: in the colour of the first, if any."""
+        return [(one.element.get("class"), WORDS_OF_RINGS) for one in self.circles()[:1]]
 
     def without_words(self):
         """The SVG without texts, titles, and elements that paint nothing inside: outlines, rings and hidden ones."""

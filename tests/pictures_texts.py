@@ -48,6 +48,20 @@ def check_comments(maps):
         maps.checks.check("the comment " + comment, comment in picture.texts() if picture else None, True)
 
 
+def check_parts(maps):
+    """A comment is written without a network in a part of an entry: in a block of a range, and in the part of a network
+    that is left beside a labelled one in another colour."""
+    rows = [("a range", [], ["10.20.12.1-10.20.12.254 # laboratory"], "laboratory", ".12.64/26", False),
+            ("a range that is a network", [], ["10.20.16.0-10.20.31.255 # office"], "office", ".16.0/20", True),
+            ("half of a network", ["--compare"], ["10.20.128.0/18 # archive", "10.20.128.0/17 # archive"], "archive",
+             ".128.0/17", False)]
+    for label, words, lists, comment, network, is_named in rows:
+        files_of = [(name, line.encode() + b"\n") for name, line in zip("ab", lists)]
+        picture = maps.picture(label, words + ["--in", "10.20.0.0/16"], files_of, len(lists) - 1)
+        found = picture.texts() if picture else []
+        maps.checks.check(label + ": its comment and its network", (comment in found, network in found), (True, is_named))
+
+
 def check_hostile_names(maps):
     """Titles of networks with names, whatever these contain. A name ends before a comment, is cut at 100 bytes, and has
     a blank for each tab."""

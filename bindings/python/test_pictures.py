@@ -87,6 +87,9 @@ class AsTheProgram(unittest.TestCase):
                 wanted = printed(["map", "--compare"] + words, old.to_text(), new.to_text())
                 # the program begins the title of an entry with the name of its list
                 wanted = wanted.replace(">old: ", ">").replace(">new: ", ">")
+                # and names the lists in the legend
+                for name, unnamed in (("old", "the first list"), ("new", "the second list")):
+                    wanted = wanted.replace(": only in %s<" % name, ": only in %s<" % unnamed)
                 self.assertEqual(old.compare_map(new, **options), wanted)
 
     def test_bars(self):

@@ -25,7 +25,8 @@ use Rattle.ipnet_bars.specs.declared.share.Level.{Level}
 use Rattle.ipnet_bars.specs.declared.share.Level.TheVariants.{Nothing, BelowThird, FromThird, FromTwoThirds, Whole}
 use Rattle.ipnet_sets.specs.Parts.{IsInPart}
 use Rattle.ipnet_bars.specs.Parts.{HasNone, HasAll, IsLevelOf, block_size, counted}
-use Rattle.ipnet_bars.specs.Shares.{IsShare, tenths}
+use Rattle.ipnet_bars.specs.Shares.{IsShare, share_of}
+use Rattle.ipnet_bars.specs.declared.share.Share.TheVariants.{Tenths}
 
 -- two sets with the same addresses have the same count
 pub same_count : (A B : Address → Type 0) (n : ℕ) → ((x : Address) → A x ↔ B x) → IsCountOf A n → IsCountOf B n
@@ -207,14 +208,14 @@ pub whole_size : (InSet : Address → Type 0) (n : Network) → IsCountOf (IsInP
 whole_size InSet n h = omega (arith, part_fits InSet n (2 ^ 128) h, most_addresses n)
 
 -- and its share is all
-pub whole_tenths : (n : Network) (count : Option ℕ) → count ≡ None → counted count ≤ block_size n
-    → 1000 ≡ tenths (counted count) (block_size n)
-whole_tenths n count none le =
+pub whole_share : (n : Network) (count : Option ℕ) → count ≡ None → counted count ≤ block_size n
+    → Tenths 1000 ≡ share_of (counted count) (block_size n)
+whole_share n count none le =
     let at_none : 2 ^ 128 ≤ block_size n = subst (λ z. counted z ≤ block_size n) none le in
     let size : 2 ^ 128 ≡ block_size n = omega (arith, at_none, most_addresses n) in
-    let all : 1000 ≡ tenths (2 ^ 128) (2 ^ 128) = refl in
-    subst (λ z. 1000 ≡ tenths (counted z) (block_size n)) (sym none)
-    (subst (λ z. 1000 ≡ tenths (2 ^ 128) z) size all)
+    let all : Tenths 1000 ≡ share_of (2 ^ 128) (2 ^ 128) = refl in
+    subst (λ z. Tenths 1000 ≡ share_of (counted z) (block_size n)) (sym none)
+    (subst (λ z. Tenths 1000 ≡ share_of (2 ^ 128) z) size all)
 
 -- the lowest level is for a block without an address of the set, and the highest for a block with all
 pub nothing_shown : (InSet : Address → Type 0) (n : Network) (count : ℕ) (level : Level)

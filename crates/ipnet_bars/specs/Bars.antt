@@ -7,12 +7,13 @@ use Rattle.ipnet.specs.NetworkParts.{AreSubnetsOfLength}
 use Rattle.ipnet_sets.specs.Members.{IsCountOf}
 use Rattle.ipnet_bars.specs.declared.marks.Marks.{Marks}
 use Rattle.ipnet_bars.specs.declared.share.Level.{Level}
+use Rattle.ipnet_bars.specs.declared.share.Share.{Share}
 use Rattle.ipnet_bars.specs.declared.marks.RowWidth.{RowWidth}
-use Rattle.ipnet_bars.specs.MarkTexts.{mark_len, row_len, marks_text, percent_text}
+use Rattle.ipnet_bars.specs.MarkTexts.{mark_len, row_len, marks_text, share_words}
 use Rattle.ipnet_bars.specs.Outsides.{IsOutsideText}
 use Rattle.ipnet_sets.specs.Parts.{IsInPart}
 use Rattle.ipnet_bars.specs.Parts.{AreLevelsOf, block_size}
-use Rattle.ipnet_bars.specs.Shares.{tenths}
+use Rattle.ipnet_bars.specs.Shares.{share_of}
 use Rattle.ipnet_bars.specs.Summaries.{IsSummary}
 
 -- No text of the networks is longer than the column, and no smaller column has this property.
@@ -33,9 +34,9 @@ row_head column n = canonical_text n ++ replicate (column - length (canonical_te
 
 -- The network, blanks up to this column, the marks between bars, and the share.
 -- Example: `10.20.0.0/28 |##..| 50.0 %`.
-abbrev pub row_text : ℕ → Network → List ℕ → ℕ → List ℕ
+abbrev pub row_text : ℕ → Network → List ℕ → Share → List ℕ
 row_text column n marks share =
-    row_head column n ++ marks ++ codes "| " ++ percent_text share ++ 10 ∷ []
+    row_head column n ++ marks ++ codes "| " ++ share_words share ++ 10 ∷ []
 
 -- The row of this block: a mark for each of its subnets with the length of a mark, in order, by their levels; and the
 -- share of its addresses that are in the set.
@@ -45,7 +46,7 @@ pub record IsRow (InSet : Address → Type 0) (marks : Marks) (len column : ℕ)
     pub are_levels : AreLevelsOf InSet n len levels
     pub count : ℕ
     pub is_count : IsCountOf (IsInPart InSet n) count
-    pub spelled : text ≡ row_text column n (marks_text marks levels) (tenths count (block_size n))
+    pub spelled : text ≡ row_text column n (marks_text marks levels) (share_of count (block_size n))
 
 -- The rows of these blocks, in order. `Row n line` says that the line is the row of the block `n`.
 abbrev pub AreRows : (Network → List ℕ → Type 0) → List Network → List ℕ → Type 0

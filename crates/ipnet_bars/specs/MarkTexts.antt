@@ -8,6 +8,8 @@ use Rattle.ipnet_bars.specs.declared.marks.RowWidth.{RowWidth}
 use Rattle.ipnet_bars.specs.declared.marks.RowWidth.TheVariants.{Four, Eight, Sixteen, ThirtyTwo, SixtyFour}
 use Rattle.ipnet_bars.specs.declared.share.Level.{Level}
 use Rattle.ipnet_bars.specs.declared.share.Level.TheVariants.{Nothing, BelowThird, FromThird, FromTwoThirds, Whole}
+use Rattle.ipnet_bars.specs.declared.share.Share.{Share}
+use Rattle.ipnet_bars.specs.declared.share.Share.TheVariants.{Tenths, BelowTenth}
 
 -- A row has at most 2 to this power marks.
 abbrev pub bits_of : RowWidth → ℕ
@@ -49,3 +51,8 @@ marks_text marks (level ∷ levels) = mark_text marks level ++ marks_text marks 
 -- Tenths of a per cent as a decimal fraction. Example: 222 is `22.2 %`.
 abbrev pub percent_text : ℕ → List ℕ
 percent_text n = decimal (n / 10) ++ codes "." ++ decimal (n % 10) ++ codes " %"
+
+-- A share as text. Example: `22.2 %` for 57 of 256, and `less than 0.1 %` for 1 of 65,536.
+abbrev pub share_words : Share → List ℕ
+share_words (Tenths n) = percent_text n
+share_words BelowTenth = codes "less than 0.1 %"

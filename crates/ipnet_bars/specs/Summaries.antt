@@ -6,10 +6,10 @@ use Rattle.ipnet_base.specs.Network.{Network, InBlock, host_bits}
 use Rattle.ipnet_base.specs.Blocks.{AreMaximalBlocks}
 use Rattle.ipnet.specs.CanonicalTexts.{canonical_text}
 use Rattle.ipnet_sets.specs.Members.{IsCountOf}
-use Rattle.ipnet_bars.specs.MarkTexts.{percent_text}
+use Rattle.ipnet_bars.specs.MarkTexts.{share_words}
 use Rattle.ipnet_sets.specs.Parts.{IsInPart}
 use Rattle.ipnet_bars.specs.Parts.{block_size}
-use Rattle.ipnet_bars.specs.Shares.{tenths}
+use Rattle.ipnet_bars.specs.Shares.{share_of}
 
 -- The address is in the network, and not in the set.
 -- Example: 10.0.0.10 to 10.0.0.15 are free in 10.0.0.0/28, if the set is 10.0.0.0 to 10.0.0.9.
@@ -20,7 +20,7 @@ pub record IsFree (InSet : Address → Type 0) (n : Network) (x : Address) : Typ
 -- The line of the used addresses. Example: `used 10 of 16, 62.5 %`.
 abbrev pub used_line : ℕ → ℕ → List ℕ
 used_line count size =
-    codes "used " ++ decimal count ++ codes " of " ++ decimal size ++ codes ", " ++ percent_text (tenths count size)
+    codes "used " ++ decimal count ++ codes " of " ++ decimal size ++ codes ", " ++ share_words (share_of count size)
     ++ 10 ∷ []
 
 -- The number of the blocks that have this prefix length. Example: 10.0.0.10/31 and 10.0.0.12/30 have one of length 30.

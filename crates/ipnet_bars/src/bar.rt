@@ -5,15 +5,17 @@ ghost use Rattle.ipnet_base.specs.Address.{width};
 ghost use Rattle.ipnet.specs.NetworkOf.{ip_network};
 ghost use Rattle.ipnet_sets.specs.Members.{IsMember, IsCountOf};
 ghost use Rattle.ipnet_bars.specs.Bars.{IsColumnOf, AreBarRows, IsRow, AreRows, row_head, first_line, IsBar};
-ghost use Rattle.ipnet_bars.specs.MarkTexts.{mark_len, percent_text};
+ghost use Rattle.ipnet_bars.specs.MarkTexts.{mark_len, share_words};
 ghost use Rattle.ipnet_sets.specs.Parts.{IsInPart};
 ghost use Rattle.ipnet_bars.specs.Parts.{block_size, counted};
 
 use crate::marks::{
-    Marks, RowWidth, mark_len_of, push_blanks, push_marks, push_number, push_percent, row_len_of,
+    Marks, RowWidth, mark_len_of, push_blanks, push_marks, push_number, push_share_words,
+    row_len_of,
 };
 use crate::outside::push_outside;
 use crate::part::{count_in, levels_in, share_of, subnets_of};
+use crate::share::Share;
 use crate::summary::push_summary;
 use ipnet::IpNet;
 use ipnet_sets::IpSet;
@@ -54,12 +56,12 @@ pub(crate) fn push_head(text: &mut String, network: &IpNet, column: usize) -> Re
 }
 
 /// Appends the end of a row.
-fn push_tail(text: &mut String, share: u16) -> Result<(), AllocError>
+fn push_tail(text: &mut String, share: Share) -> Result<(), AllocError>
     ensures { OnOk result (string_bytes text.new
-        ≡ string_bytes text.old ++ (codes "| " ++ percent_text share ++ 10 ∷ [])) }
+        ≡ string_bytes text.old ++ (codes "| " ++ share_words share ++ 10 ∷ [])) }
 {
     text.push_str("| ")?;
-    push_percent(text, share)?;
+    push_share_words(text, share)?;
     text.push_str("\n")
 }
 

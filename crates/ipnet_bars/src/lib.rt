@@ -16,11 +16,11 @@ pub use bar::{BarForm, bar_text};
 pub use change::{Change, change_in, changes_in};
 pub use comparison_bar::comparison_bar_text;
 pub use frame::{Frame, frame_in, frame_of};
-pub use marks::{Marks, RowWidth, mark_len_of, push_percent, row_len_of};
+pub use marks::{Marks, RowWidth, mark_len_of, push_percent, push_share_words, row_len_of};
 pub use outside::outside_of;
 pub use part::{
     count_in, host_bits_of, last_place, level_in, levels_in, share_of, size_of, subnets_of,
 };
-pub use share::{Level, level_of, tenths_of};
+pub use share::{Level, Share, level_of, rounded_share, share_of_count, tenths_of};
 pub use short::shorten;
 pub use summary::{free_in, largest_of, push_count};

@@ -3,8 +3,9 @@ ghost use Rattle.std.specs.Prelude.{◌≡◌, ◌+◌, ◌++◌, ◌≤◌, OnO
 ghost use Rattle.ipnet_base.specs.Address.{width};
 ghost use Rattle.ipnet.specs.NetworkOf.{ip_network};
 ghost use Rattle.ipnet_bars.specs.MarkTexts.{mark_len, row_len, mark_text, marks_text, percent_text};
+ghost use Rattle.ipnet_bars.specs.MarkTexts.{share_words};
 
-use crate::share::Level;
+use crate::share::{Level, Share};
 use ipnet::IpNet;
 use std::alloc::AllocError;
 
@@ -144,4 +145,18 @@ pub fn push_percent(text: &mut String, tenths: u16) -> Result<(), AllocError>
     let whole = tenths / 10;
     let rest = tenths % 10;
     write!(text, "{whole}.{rest} %")
+}
+
+/// Appends the share. Fails only if memory runs out.
+///
+/// ```text
+/// Tenths(222) appends "22.2 %"; BelowTenth appends "less than 0.1 %"
+/// ```
+pub fn push_share_words(text: &mut String, share: Share) -> Result<(), AllocError>
+    ensures { OnOk result (string_bytes text.new ≡ string_bytes text.old ++ share_words share) }
+{
+    match share {
+        Share::Tenths(tenths) => push_percent(text, tenths),
+        Share::BelowTenth => text.push_str("less than 0.1 %"),
+    }
 }

@@ -9,10 +9,10 @@ ghost use Rattle.ipnet.specs.SubnetsLeft.{ip_subnets_left};
 ghost use Rattle.ipnet_sets.specs.Members.{IsMember, IsMemberOf, IsCountOf};
 ghost use Rattle.ipnet_sets.specs.Parts.{IsInPart};
 ghost use Rattle.ipnet_bars.specs.Parts.{HasNone, HasAll, IsLevelOf, AreLevelsOf, block_size, counted};
-ghost use Rattle.ipnet_bars.specs.Shares.{tenths};
+ghost use Rattle.ipnet_bars.specs.Shares.{share_of};
 ghost use Rattle.ipnet_bars.specs.declared.share.Level.TheVariants.{Nothing, Whole};
 
-use crate::share::{Level, level_of, tenths_of};
+use crate::share::{Level, Share, level_of, share_of_count};
 use ipnet::{IpNet, IpSubnets};
 use ipnet_sets::IpSet;
 use std::alloc::{AllocError, Global};
@@ -52,19 +52,18 @@ pub fn host_bits_of(network: &IpNet) -> u8
     network.max_prefix_len() - network.prefix_len()
 }
 
-/// Returns the share of the network's block that the count is, in tenths of a per cent, as in `tenths_of`; `None` is
-/// 2^128, as in `count_in`.
+/// Returns the share of the network's block that the count is; `None` is 2^128, as in `count_in`.
 ///
 /// ```text
-/// of Some(57) in 10.0.0.0/24: 222; of None in ::/0: 1000
+/// of Some(57) in 10.0.0.0/24: Tenths(222); of Some(1) in 10.0.0.0/16: BelowTenth; of None in ::/0: Tenths(1000)
 /// ```
-pub fn share_of(count: Option<u128>, network: &IpNet) -> u16
+pub fn share_of(count: Option<u128>, network: &IpNet) -> Share
     requires { counted count ≤ block_size (ip_network network.now) }
-    ensures { result ≡ tenths (counted count) (block_size (ip_network network.now)) }
+    ensures { result ≡ share_of (counted count) (block_size (ip_network network.now)) }
 {
     match count {
-        Some(count) => tenths_of(count, host_bits_of(network)),
-        None => 1000,
+        Some(count) => share_of_count(count, host_bits_of(network)),
+        None => Share::Tenths(1000),
     }
 }
 

@@ -1,6 +1,6 @@
 //! How much of a block is covered, as one of five levels and in tenths of a per cent.
 ghost use Rattle.std.specs.Prelude.{◌≡◌, ◌≤◌, ◌+◌, ◌*◌, ◌/◌, ◌^◌};
-ghost use Rattle.ipnet_bars.specs.Shares.{IsShare, tenths};
+ghost use Rattle.ipnet_bars.specs.Shares.{IsShare, tenths, rounded_share, share_of};
 
 /// How much of a block is covered.
 ///
@@ -19,6 +19,19 @@ pub enum Level {
     FromTwoThirds,
     /// All addresses.
     Whole,
+}
+
+/// How much of a block is covered, for a text.
+///
+/// ```text
+/// of 65,536 addresses: 0 are Tenths(0), 1 to 65 are BelowTenth, 66 are Tenths(1), 65,536 are Tenths(1000)
+/// ```
+#[derive(Clone, Copy, Debug, PartialEq, Eq)]
+pub enum Share {
+    /// Tenths of a per cent, rounded down: 0 only if no address is covered, and 1000 only if all are.
+    Tenths(u16),
+    /// Some, and less than a tenth of a per cent.
+    BelowTenth,
 }
 
 /// Returns the level of a block with `last + 1` addresses, of which `count` are covered.
@@ -63,6 +76,36 @@ pub fn tenths_of(count: u128, host_bits: u8) -> u16
     }
     let share = thousandths_of(count, host_bits);
     if share == 0 { 1 } else { share }
+}
+
+/// Returns the share of `count` addresses, if `tenths` is their number of tenths of a per cent, rounded down.
+///
+/// ```text
+/// rounded_share(57, 222) is Tenths(222); rounded_share(1, 0) is BelowTenth; rounded_share(0, 0) is Tenths(0)
+/// ```
+pub fn rounded_share(count: u128, tenths: u16) -> Share
+    ensures { result ≡ rounded_share count tenths }
+{
+    if count == 0 {
+        return Share::Tenths(0);
+    }
+    if tenths == 0 {
+        return Share::BelowTenth;
+    }
+    Share::Tenths(tenths)
+}
+
+/// Returns which share of the 2^`host_bits` addresses `count` are.
+///
+/// ```text
+/// share_of_count(57, 8) is Tenths(222); share_of_count(1, 32) is BelowTenth; share_of_count(256, 8) is Tenths(1000)
+/// ```
+pub fn share_of_count(count: u128, host_bits: u8) -> Share
+    requires bits { host_bits ≤ 128 }
+    requires part { count ≤ 2 ^ host_bits }
+    ensures { result ≡ share_of count (2 ^ host_bits) }
+{
+    rounded_share(count, thousandths_of(count, host_bits))
 }
 
 /// The thousand times the count, divided by 2^`host_bits` and rounded down.

@@ -9,7 +9,7 @@ ghost use Rattle.ipnet_bars.specs.Parts.{block_size, counted};
 ghost use Rattle.ipnet_bars.specs.Summaries.{IsFree, used_line, count_with_len, length_text, lengths_text};
 ghost use Rattle.ipnet_bars.specs.Summaries.{free_line, IsLargest, IsLargerOf, largest_line, IsSummary};
 
-use crate::marks::{push_number, push_percent};
+use crate::marks::{push_number, push_share_words};
 use crate::part::{count_in, share_of, size_of};
 use ipnet::IpNet;
 use ipnet_sets::IpSet;
@@ -43,7 +43,7 @@ fn push_used(text: &mut String, count: Option<u128>, network: &IpNet) -> Result<
     text.push_str(" of ")?;
     push_count(text, size_of(network))?;
     text.push_str(", ")?;
-    push_percent(text, share_of(count, network))?;
+    push_share_words(text, share_of(count, network))?;
     text.push_str("\n")
 }
 

@@ -243,6 +243,7 @@ fn draw_change(
         before,
         after,
         request: with_entries(request, &entries),
+        names,
     };
     Ok(run_text(command, names, &mut writers.answer, &mut writers.faults))
 }

@@ -3,8 +3,8 @@ use Rattle.std.specs.Prelude.{◌≡◌, ◌≢◌, ◌<◌, ℕ, List, [], ◌�
 use Rattle.ipnet_base.specs.Address.{Address}
 use Rattle.ipnet_base.specs.Ranges.{AddressRange, address_count}
 use Rattle.ipnet.specs.declared.parser.Grammar.{Grammar}
-use Rattle.ipnet_bars.specs.MarkTexts.{percent_text}
-use Rattle.ipnet_bars.specs.Shares.{tenths}
+use Rattle.ipnet_bars.specs.MarkTexts.{share_words}
+use Rattle.ipnet_bars.specs.Shares.{share_of}
 use Rattle.ipnet_lists.specs.Lists.{Refusal}
 use Rattle.ipnet_lists.specs.RefusedLines.{AreRefused}
 use Rattle.ipnet_lists.specs.declared.cause.NotEntry.{NotEntry}
@@ -21,10 +21,10 @@ abbrev pub IsInEntry : (Address → Type 0) → AddressRange → Address → Typ
 IsInEntry InSet range x = IsInRange range x × InSet x
 
 -- The count, the size and the share of the size that the count is, with a tab (9) before each, and "\n" (10).
--- Example: 10, 16 and `62.5 %`; the share is rounded down, but is `0.1 %` in place of 0 for a count that is not 0.
+-- Example: 10, 16 and `62.5 %`; and 1, 65536 and `less than 0.1 %`.
 abbrev pub share_text : ℕ → ℕ → List ℕ
 share_text count size =
-    9 ∷ [] ++ decimal count ++ 9 ∷ [] ++ decimal size ++ 9 ∷ [] ++ percent_text (tenths count size) ++ 10 ∷ []
+    9 ∷ [] ++ decimal count ++ 9 ∷ [] ++ decimal size ++ 9 ∷ [] ++ share_words (share_of count size) ++ 10 ∷ []
 
 -- The line of an entry: the entry as written, the number of its addresses that the set has, the number of its
 -- addresses, and the share. Example: `10.0.0.0/28`, 10, 16 and `62.5 %` if the set is 10.0.0.0 to 10.0.0.9.

@@ -2,7 +2,7 @@
 ghost use Rattle.std.specs.Prelude.{◌≡◌, ◌↔◌, ◌<◌, ◌≤◌, ◌+◌, ◌-◌, ◌*◌, ◌/◌, ◌++◌, ℕ, List, map, IfOk, OnOk};
 ghost use Rattle.std.specs.Prelude.{string_bytes};
 ghost use Rattle.ipnet_bars.specs.Parts.{counted};
-ghost use Rattle.ipnet_bars.specs.Shares.{tenths};
+ghost use Rattle.ipnet_bars.specs.Shares.{share_of};
 ghost use Rattle.ipnet_base.specs.Address.{Address};
 ghost use Rattle.ipnet_base.specs.Ranges.{address_count};
 ghost use Rattle.ipnet_lists.specs.EntryOf.{entry_range};
@@ -12,7 +12,7 @@ ghost use Rattle.netset_entries.specs.Shares.{AreShareLines, IsInEntry, IsShareL
 
 use crate::entry_list::EntryLine;
 use ipnet::{IpAddr, IpNet};
-use ipnet_bars::{push_count, push_percent, tenths_of};
+use ipnet_bars::{Share, push_count, push_share_words, rounded_share, share_of_count};
 use ipnet_lists::Entry;
 use ipnet_sets::IpSet;
 use std::alloc::{AllocError, Global};
@@ -131,27 +131,26 @@ fn thousandths_in(count: u128, size: u128) -> u16
     }
 }
 
-/// The share of the size that the count is, in tenths of a per cent, as `tenths_of` returns it for a network.
-fn tenths_in(count: u128, size: u128) -> u16
+/// The share of the size that the count is, as `share_of_count` returns it for a network.
+fn share_of_part(count: u128, size: u128) -> Share
     requires { count ≤ size }
-    ensures { result ≡ tenths count size }
+    ensures { result ≡ share_of count size }
 {
     if count == 0 {
-        return 0;
+        return Share::Tenths(0);
     }
-    let share = thousandths_in(count, size);
-    if share == 0 { 1 } else { share }
+    rounded_share(count, thousandths_in(count, size))
 }
 
-/// The share of the size that the count is, in tenths of a per cent; `None` is 2^128.
-fn share_in(count: Option<u128>, size: Option<u128>) -> u16
+/// The share of the size that the count is; `None` is 2^128.
+fn share_in(count: Option<u128>, size: Option<u128>) -> Share
     requires { counted count ≤ counted size }
-    ensures { result ≡ tenths (counted count) (counted size) }
+    ensures { result ≡ share_of (counted count) (counted size) }
 {
     match (count, size) {
-        (Some(count), Some(size)) => tenths_in(count, size),
-        (Some(count), None) => tenths_of(count, 128),
-        (None, _) => 1000,
+        (Some(count), Some(size)) => share_of_part(count, size),
+        (Some(count), None) => share_of_count(count, 128),
+        (None, _) => Share::Tenths(1000),
     }
 }
 
@@ -166,7 +165,7 @@ fn share_text(alloc: Global, count: Option<u128>, size: Option<u128>) -> Result<
     text.push_str("\t")?;
     push_count(&mut text, size)?;
     text.push_str("\t")?;
-    push_percent(&mut text, share_in(count, size))?;
+    push_share_words(&mut text, share_in(count, size))?;
     text.push_str("\n")?;
     Ok(text)
 }

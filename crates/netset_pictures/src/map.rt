@@ -12,7 +12,7 @@ use crate::bar::PictureFailure;
 use ipnet_bars::{Frame, frame_of};
 use ipnet_sets::IpSet;
 use std::alloc::Global;
-use svg_maps::{Look, Theme, change_map_text, set_map_text, sets_map_text};
+use svg_maps::{Look, NamedChange, Theme, named_change_map_text, set_map_text, sets_map_text};
 
 /// The network that a map shows, and how it looks.
 #[derive(Clone, Copy)]
@@ -84,25 +84,25 @@ pub fn framed_sets_map_text(
 }
 
 /// Returns the map of the change from one set to the other, in the frame of all their addresses, as a document of SVG.
-/// The error is `NoFrame` if no network is named and neither set has an address of the family, and otherwise `Memory`,
-/// only if memory runs out.
+/// The legend has the names of the sets. The error is `NoFrame` if no network is named and neither set has an address
+/// of the family, and otherwise `Memory`, only if memory runs out.
 ///
 /// ```text
 /// from 10.0.0.0-10.0.0.3 to 10.0.0.8, without a named network: the map of 10.0.0.0/28
 /// ```
 pub fn framed_change_map_text(
     alloc: Global,
-    before: &IpSet,
-    after: &IpSet,
+    change: NamedChange<'_>,
     request: MapRequest<'_>,
 ) -> Result<String, PictureFailure>
-    ensures map { IfOk result (λ text. IsFramedChangeMap before.now after.now request.entry (string_bytes text)) }
-    ensures none { result ≡ Err NoFrame
-        → ((all : IpSet) × IsUnion all before.now after.now × HasNoFrame request.entry.frame (IsMember all)) }
+    ensures map { let c = change.entry in IfOk result (λ text. IsFramedChangeMap c.before.now c.after.now
+        (map (λ name. name.now) c.names.now) request.entry (string_bytes text)) }
+    ensures none { let c = change.entry in result ≡ Err NoFrame
+        → ((all : IpSet) × IsUnion all c.before.now c.after.now × HasNoFrame request.entry.frame (IsMember all)) }
 {
-    let all = before.union(alloc, after)?;
+    let all = change.before.union(alloc, change.after)?;
     let Some(network) = frame_of(alloc, &all, request.frame)? else {
         return Err(PictureFailure::NoFrame);
     };
-    Ok(change_map_text(alloc, &network, before, after, request.look)?)
+    Ok(named_change_map_text(alloc, &network, change, request.look)?)
 }

@@ -13,6 +13,7 @@ use crate::map::{MapRequest, framed_change_map_text, framed_map_text, framed_set
 use ipnet_sets::IpSet;
 use netset_lib::TextCommand;
 use std::alloc::Global;
+use svg_maps::NamedChange;
 
 /// The map of the set, as `framed_map_text` makes it.
 ///
@@ -123,6 +124,8 @@ pub struct ChangeMapCommand<'a> {
     pub after: IpSet,
     /// The network and the look of the map.
     pub request: MapRequest<'a>,
+    /// The names of the two sets, for the legend.
+    pub names: &'a [&'a str],
 }
 
 impl<'a> TextCommand for ChangeMapCommand<'a> {
@@ -130,7 +133,7 @@ impl<'a> TextCommand for ChangeMapCommand<'a> {
 
     type Failure = PictureFailure;
 
-    ghost is_answer = { λ c. IsFramedChangeMap c.before c.after c.request };
+    ghost is_answer = { λ c. IsFramedChangeMap c.before c.after (map (λ name. name.now) c.names.now) c.request };
 
     ghost is_outcome = { λ c same. IsTrue same ↔ HaveSame (IsMember c.before) (IsMember c.after) };
 
@@ -142,8 +145,14 @@ impl<'a> TextCommand for ChangeMapCommand<'a> {
             before,
             after,
             request,
+            names,
         } = self;
-        match framed_change_map_text(alloc, &before, &after, request) {
+        let change = NamedChange {
+            before: &before,
+            after: &after,
+            names,
+        };
+        match framed_change_map_text(alloc, change, request) {
             Ok(text) => Ok((text, before == after)),
             Err(failure) => Err(failure),
         }

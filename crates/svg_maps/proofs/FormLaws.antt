@@ -8,7 +8,12 @@ use Rattle.svg_text.specs.Grammar.{are_distinct, are_well_formed}
 use Rattle.svg_maps.specs.Pages.{nodes_of, label_nodes, swatch_nodes, layer_nodes, square_nodes, chart_nodes, PageView}
 use Rattle.svg_maps.specs.Pages.{cells_marks, small_marks, content_nodes, page_nodes, placed_nodes, area_marks}
 use Rattle.svg_maps.specs.Pages.{outline_text, area_nodes, outline_nodes, pixel_rectangle, ring_nodes}
+use Rattle.svg_maps.specs.Pages.{sign_element, sign_marks}
+use Rattle.svg_maps.specs.declared.label.Label.{Label}
+use Rattle.svg_maps.specs.declared.label.Sign.{Sign}
+use Rattle.svg_maps.specs.declared.label.Sign.TheVariants as Signs
 use Rattle.svg_maps.specs.declared.outline.Outline.{Outline}
+use Rattle.ipnet_maps.specs.declared.layout.Place.{Place}
 use Rattle.ipnet_maps.specs.declared.layout.Rectangle.{Rectangle}
 
 abbrev names_differ : List Mark → Bool
@@ -39,6 +44,11 @@ area_formed : (class : List ℕ) (r : Rectangle) (title : Option (String Global)
     → are_well_formed (area_nodes (area_marks class r) title) ≡ true
 area_formed class r None = refl
 area_formed class r (Some title) = refl
+
+row_formed : (sign : Sign) (place : Place) (l : Label)
+    → are_well_formed (empty (sign_element sign) (sign_marks sign place) (label_nodes l)) ≡ true
+row_formed (Signs.Area class) place l = refl
+row_formed (Signs.Ring class) place l = refl
 
 outline_formed : (scale : ℕ) (o : Outline) → are_well_formed (outline_nodes scale o) ≡ true
 outline_formed scale o = area_formed (outline_text o.class) (pixel_rectangle scale o.rectangle) o.title
@@ -73,7 +83,8 @@ rest_formed v =
     let heads = joined (nodes_of label_nodes v.heads) swatches in
     joined_formed (nodes_of label_nodes v.captions) heads (all_formed label_nodes (λ l. refl) v.captions)
     (joined_formed (nodes_of label_nodes v.heads) swatches (all_formed label_nodes (λ l. refl) v.heads)
-    (joined_formed (nodes_of swatch_nodes v.swatches) placed (all_formed swatch_nodes (λ s. refl) v.swatches)
+    (joined_formed (nodes_of swatch_nodes v.swatches) placed
+    (all_formed swatch_nodes (λ s. row_formed s.sign s.place s.label) v.swatches)
     (placed_formed v)))
 
 pub page_formed : (v : PageView) → are_well_formed (page_nodes v) ≡ true

@@ -1,9 +1,9 @@
 -- Numbers with commas.
-use Rattle.std.proofs.Common.{◌≡◌, ◌<◌, ◌≤◌, ◌-◌, ◌^◌, ◌/◌, ℕ, zero, suc, List, ◌++◌, codes, decimal, cond, Bool}
-use Rattle.std.proofs.Common.{true, false, nat_eq, nat_le, nat_lt, refl, ap, ◌∙◌, arith, append_assoc}
+use Rattle.std.proofs.Common.{◌≡◌, ◌<◌, ◌≤◌, ◌-◌, ◌^◌, ◌/◌, ℕ, zero, suc, List, ◌++◌, codes, decimal, cond}
+use Rattle.std.proofs.Common.{Bool, true, false, nat_eq, nat_lt, refl, ap, ◌∙◌, arith, append_assoc}
 use Rattle.std.proofs.lemmas.Bool.Decides.{nat_tests}
 use Rattle.std.specs.Fmt.{digits}
-use Rattle.svg_maps.specs.Counts.{three_digits, grouped, number_text, quantity_text}
+use Rattle.svg_maps.specs.Counts.{three_digits, grouped, number_text, subnets_text, quantity_text}
 
 is_below : (n m : ℕ) → n < m → nat_lt n m ≡ true
 is_below n m l = grind (arith, nat_tests, l)
@@ -45,28 +45,22 @@ is_same n m e = grind (arith, nat_tests, e)
 not_same : (n m : ℕ) → ¬ (n ≡ m) → nat_eq n m ≡ false
 not_same n m ne = grind (arith, nat_tests, ne)
 
-at_most : (n m : ℕ) → n ≤ m → nat_le n m ≡ true
-at_most n m l = grind (arith, nat_tests, l)
-
-above : (n m : ℕ) → m < n → nat_le n m ≡ false
-above n m l = grind (arith, nat_tests, l)
-
 module _ (n : ℕ) where
   abbrev more : Bool → List ℕ
-  more b = cond b (number_text n ++ codes " addresses") (number_text (n / 2 ^ 64) ++ codes " /64s")
+  more b = cond b (number_text n ++ codes " addresses") (subnets_text n)
 
   pub one_quantity : n ≡ 1 → quantity_text n ≡ codes "1 address"
-  one_quantity e = ap (λ b. cond b (codes "1 address") (more (nat_le n (2 ^ 64)))) (is_same n 1 e)
+  one_quantity e = ap (λ b. cond b (codes "1 address") (more (nat_lt n (2 ^ 64)))) (is_same n 1 e)
 
-  pub small_quantity : ¬ (n ≡ 1) → n ≤ 2 ^ 64 → quantity_text n ≡ number_text n ++ codes " addresses"
+  pub small_quantity : ¬ (n ≡ 1) → n < 2 ^ 64 → quantity_text n ≡ number_text n ++ codes " addresses"
   small_quantity ne l =
-      ap (λ b. cond b (codes "1 address") (more (nat_le n (2 ^ 64)))) (not_same n 1 ne)
-      ∙ ap more (at_most n (2 ^ 64) l)
+      ap (λ b. cond b (codes "1 address") (more (nat_lt n (2 ^ 64)))) (not_same n 1 ne)
+      ∙ ap more (is_below n (2 ^ 64) l)
 
-  pub large_quantity : ¬ (n ≡ 1) → 2 ^ 64 < n → quantity_text n ≡ number_text (n / 2 ^ 64) ++ codes " /64s"
+  pub large_quantity : ¬ (n ≡ 1) → 2 ^ 64 ≤ n → quantity_text n ≡ subnets_text n
   large_quantity ne l =
-      ap (λ b. cond b (codes "1 address") (more (nat_le n (2 ^ 64)))) (not_same n 1 ne)
-      ∙ ap more (above n (2 ^ 64) l)
+      ap (λ b. cond b (codes "1 address") (more (nat_lt n (2 ^ 64)))) (not_same n 1 ne)
+      ∙ ap more (not_below n (2 ^ 64) l)
 
 -- three texts, one after the other
 pub three_texts : (old a b d t1 t2 t3 : List ℕ) → t1 ≡ old ++ a → t2 ≡ t1 ++ b → t3 ≡ t2 ++ d

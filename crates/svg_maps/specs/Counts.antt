@@ -1,5 +1,6 @@
--- Counts of addresses as readers like them: with commas, large ones in networks of length 64, and shares in per cent.
-use Rattle.std.specs.Prelude.{ℕ, zero, suc, ◌^◌, ◌/◌, ◌%◌, cond, nat_eq, nat_le, nat_lt, List, ◌++◌, codes, decimal}
+-- Counts of addresses as readers like them: with commas, and large ones in networks of length 64.
+use Rattle.std.specs.Prelude.{ℕ, zero, suc, ◌^◌, ◌/◌, ◌%◌, cond, if◌then◌else◌, nat_eq, nat_lt, List, [], ◌++◌, codes}
+use Rattle.std.specs.Prelude.{decimal}
 
 -- The last three digits of the number. Example: `007` of 1007.
 abbrev pub three_digits : ℕ → List ℕ
@@ -15,9 +16,22 @@ grouped (suc k) n = cond (nat_lt n 1000) (decimal n) (grouped k (n / 1000) ++ co
 unfoldable pub number_text : ℕ → List ℕ
 number_text n = grouped 12 n
 
--- This many addresses, or, if they are more than one network of length 64 has, how many such networks have as many,
--- rounded down. Example: `1 address`, `57 addresses`, and `4,294,967,296 /64s` for 2001:db8::/32.
+-- The unit after this many networks of length 64.
+abbrev pub subnets_unit : ℕ → List ℕ
+subnets_unit n = if nat_eq n 1 then codes " /64" else codes " /64s"
+
+-- The words before a count that leaves out this many addresses.
+abbrev pub rest_words : ℕ → List ℕ
+rest_words rest = if nat_eq rest 0 then [] else codes "more than "
+
+-- This many addresses, in networks of length 64. Example: `1 /64` for 2^64, and `more than 1 /64` for one more.
+abbrev pub subnets_text : ℕ → List ℕ
+subnets_text n = rest_words (n % 2 ^ 64) ++ number_text (n / 2 ^ 64) ++ subnets_unit (n / 2 ^ 64)
+
+-- This many addresses; in networks of length 64 if one of these does not have more.
+-- Example: `1 address`, `57 addresses`, `1 /64` for 2^64 addresses, `more than 1 /64` for one more, and
+-- `4,294,967,296 /64s` for 2001:db8::/32.
 abbrev pub quantity_text : ℕ → List ℕ
 quantity_text n =
-    cond (nat_eq n 1) (codes "1 address") (cond (nat_le n (2 ^ 64)) (number_text n ++ codes " addresses")
-    (number_text (n / 2 ^ 64) ++ codes " /64s"))
+    cond (nat_eq n 1) (codes "1 address") (cond (nat_lt n (2 ^ 64)) (number_text n ++ codes " addresses")
+    (subnets_text n))

@@ -21,7 +21,7 @@ use Rattle.svg_maps.specs.Squares.{AreSquaresOf, IsTitle}
 -- The text is the document of a page that shows the drawing in this frame. The page has a path for each layer, whose
 -- rectangles are the layer's, and all squares, whose titles say how many addresses each set has in them. A cell has as
 -- many pixels as its share of the width of the map allows, and the whole map is on the page. The legend has a row for
--- each class with cells, in its words, and the foot has the note.
+-- each class with cells, in its words, and one for rings if there are any; and the foot has the note.
 -- Example: for 10.20.0.0/16 with 16 bits, the map is 256 cells wide and high, and a cell has 4 pixels.
 pub record IsMapText (frame : Network) (counted : List Counted) (d : Drawing) (names : List (List ℕ)) (note : List ℕ)
     (text : List ℕ) : Type 0 where
@@ -31,7 +31,7 @@ pub record IsMapText (frame : Network) (counted : List Counted) (d : Drawing) (n
   pub height : view.sides.height ≡ 2 ^ rows_in (square_cuts frame.prefix_len d.depth)
   pub scale : view.scale ≡ cell_pixels view.sides.width
   pub fits : FitsPage view.chart_place view.scale view.sides.width view.sides.height view.area
-  pub legend : map row_of view.swatches ≡ legend_rows names d.layers.items
+  pub legend : map row_of view.swatches ≡ legend_rows names d.layers.items view.rings
   pub foot : HasLine note view.captions
   pub squares : AreSquaresOf frame d.depth counted view.squares
   pub summary : IsTitle frame counted view.summary
@@ -52,29 +52,30 @@ pub record IsSetMap (set : IpSet) (frame : Network) (text : List ℕ) : Type 0 w
 
 -- The text is a map of the change from one set to the other in the frame: the drawing of the changes, and squares that
 -- count the addresses that only the first has, that only the second has, and that both have. The foot has how many
--- changed addresses are outside the frame.
+-- changed addresses are outside the frame. The legend has the names of the two sets, if there are names.
 -- Example: the title of a square is
 -- `10.20.5.0/24, 256 addresses, 3 addresses only in the first (1.1 %), 0 addresses only in the second (0.0 %), 57
 -- addresses in both (22.2 %)`.
-pub record IsChangeMap (before after : IpSet) (frame : Network) (text : List ℕ) : Type 0 where
-  pub drawing : Drawing
-  pub drawn : IsDrawingOf (IsInEither (IsMember before) (IsMember after))
-      (HasChangeClass (IsMember before) (IsMember after)) change_classes frame drawing
-  pub removed : IpSet
-  pub is_removed : IsDifference removed before after
-  pub added : IpSet
-  pub is_added : IsDifference added after before
-  pub kept : IpSet
-  pub is_kept : IsIntersection kept before after
-  pub counted : List Counted
-  pub sets : map (λ c. c.set.now) counted ≡ removed ∷ added ∷ kept ∷ []
-  pub words : map (λ c. c.words.now) counted
-      ≡ codes "only in the first" ∷ codes "only in the second" ∷ codes "in both" ∷ []
-  pub changed : IpSet
-  pub is_changed : IsUnion changed removed added
-  pub note : List ℕ
-  pub outside : IsOutsideNote (IsMember changed) frame note
-  pub page : IsMapText frame counted drawing [] note text
+pub record IsNamedChangeMap (before after : IpSet) (names : List (List ℕ)) (frame : Network) (text : List ℕ) : Type 0
+  where
+    pub drawing : Drawing
+    pub drawn : IsDrawingOf (IsInEither (IsMember before) (IsMember after))
+        (HasChangeClass (IsMember before) (IsMember after)) change_classes frame drawing
+    pub removed : IpSet
+    pub is_removed : IsDifference removed before after
+    pub added : IpSet
+    pub is_added : IsDifference added after before
+    pub kept : IpSet
+    pub is_kept : IsIntersection kept before after
+    pub counted : List Counted
+    pub sets : map (λ c. c.set.now) counted ≡ removed ∷ added ∷ kept ∷ []
+    pub words : map (λ c. c.words.now) counted
+        ≡ codes "only in the first" ∷ codes "only in the second" ∷ codes "in both" ∷ []
+    pub changed : IpSet
+    pub is_changed : IsUnion changed removed added
+    pub note : List ℕ
+    pub outside : IsOutsideNote (IsMember changed) frame note
+    pub page : IsMapText frame counted drawing names note text
 
 -- The words after the number of addresses of the list with this name. Example: `in office.txt`.
 abbrev pub list_words : List ℕ → List ℕ

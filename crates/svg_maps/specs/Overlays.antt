@@ -1,5 +1,5 @@
 -- Maps with outlines: what is drawn over the cells.
-use Rattle.std.specs.Prelude.{◌≡◌, ℕ, List, ◌++◌}
+use Rattle.std.specs.Prelude.{◌≡◌, ℕ, List, [], ◌++◌}
 use Rattle.ipnet_base.specs.Address.{Address}
 use Rattle.ipnet_base.specs.Blocks.{IsInEither}
 use Rattle.ipnet_base.specs.Network.{Network}
@@ -14,7 +14,7 @@ use Rattle.svg_maps.specs.declared.square.Counted.{Counted}
 use Rattle.svg_maps.specs.EntryOutlines.{AreEntryOutlines}
 use Rattle.svg_maps.specs.FreeOutlines.{AreOutlinesOf}
 use Rattle.svg_maps.specs.NamedOutlines.{AreNamedOutlines}
-use Rattle.svg_maps.specs.Maps.{IsMapText, IsSetMap, IsChangeMap, IsSetsMap}
+use Rattle.svg_maps.specs.Maps.{IsMapText, IsSetMap, IsNamedChangeMap, IsSetsMap}
 use Rattle.svg_maps.specs.Pages.{PageView}
 use Rattle.svg_maps.specs.Styles.{style_text}
 
@@ -53,10 +53,16 @@ abbrev pub IsOutlinedSetMap : Look → IpSet → Network → List ℕ → Type 0
 IsOutlinedSetMap look set frame text = (m : IsSetMap set frame text)
     × HasLook look m.counted (IsMember set) frame m.drawing.depth m.page.view
 
--- The text is a map of the change with this look. A block is free if neither set has an address of it.
-abbrev pub IsOutlinedChangeMap : Look → (before after : IpSet) → Network → List ℕ → Type 0
-IsOutlinedChangeMap look before after frame text = (m : IsChangeMap before after frame text)
+-- The text is a map of the change between two sets, which have these names, with this look. A block is free if neither
+-- set has an address of it.
+abbrev pub IsOutlinedNamedChangeMap : Look → (before after : IpSet) → (names : List (List ℕ)) → Network → List ℕ
+    → Type 0
+IsOutlinedNamedChangeMap look before after names frame text = (m : IsNamedChangeMap before after names frame text)
     × HasLook look m.counted (IsInEither (IsMember before) (IsMember after)) frame m.drawing.depth m.page.view
+
+-- The text is such a map of two sets without names.
+abbrev pub IsOutlinedChangeMap : Look → (before after : IpSet) → Network → List ℕ → Type 0
+IsOutlinedChangeMap look before after = IsOutlinedNamedChangeMap look before after []
 
 -- The text is a map of the sets, which have these names, with this look. A block is free if no set has an address of
 -- it.

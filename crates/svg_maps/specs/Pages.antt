@@ -2,12 +2,14 @@
 use Rattle.std.specs.Prelude.{◌≤◌, ℕ, ◌+◌, ◌*◌, ◌/◌, min, max, List, [], ◌∷◌, ◌++◌, map, filter, codes, decimal}
 use Rattle.std.specs.Prelude.{Option, Some, None, String, string_bytes}
 use Rattle.std.specs.Global.{Global}
+use Rattle.ipnet_maps.specs.declared.class.Class.{Class}
 use Rattle.ipnet_maps.specs.declared.layers.Layer.{Layer}
 use Rattle.ipnet_maps.specs.declared.layout.Place.{Place}
 use Rattle.ipnet_maps.specs.declared.layout.Sides.{Sides}
 use Rattle.ipnet_maps.specs.declared.layout.Rectangle.{Rectangle}
 use Rattle.ipnet_maps.specs.Paths.{corner, is_row, is_tall, path_of, rows_path}
 use Rattle.svg_text.specs.declared.name.AttributeName.{AttributeName}
+use Rattle.svg_text.specs.declared.name.ElementName.{ElementName}
 use Rattle.svg_text.specs.declared.name.ElementName.TheVariants as Elements
 use Rattle.svg_text.specs.declared.name.AttributeName.TheVariants as Attributes
 use Rattle.svg_text.specs.declared.tag.Value.TheVariants as Values
@@ -17,6 +19,8 @@ use Rattle.svg_maps.specs.declared.label.Anchor.TheVariants as Anchors
 use Rattle.svg_maps.specs.declared.label.Ink.{Ink}
 use Rattle.svg_maps.specs.declared.label.Ink.TheVariants as Inks
 use Rattle.svg_maps.specs.declared.label.Label.{Label}
+use Rattle.svg_maps.specs.declared.label.Sign.{Sign}
+use Rattle.svg_maps.specs.declared.label.Sign.TheVariants as Signs
 use Rattle.svg_maps.specs.declared.label.Swatch.{Swatch}
 use Rattle.svg_maps.specs.declared.chart.Square.{Square}
 use Rattle.svg_maps.specs.declared.outline.OutlineClass.{OutlineClass}
@@ -67,13 +71,31 @@ label_nodes l =
     ∷ number_mark Attributes.X l.place.column ∷ number_mark Attributes.Y l.place.row ∷ [])
     (words (string_bytes l.words) end) end
 
--- A row of the legend: a rectangle in the colour of a class, and words.
+-- The attributes of a ring in the colour of a class, with this middle and this radius.
+abbrev pub circle_marks : Class → Place → ℕ → List Mark
+circle_marks class middle radius =
+    text_mark Attributes.Class (codes "ring " ++ class_text class) ∷ number_mark Attributes.Cx middle.column
+    ∷ number_mark Attributes.Cy middle.row ∷ number_mark Attributes.R radius ∷ []
+
+-- The attributes of a small rectangle in the colour of a class.
+abbrev pub swatch_marks : Class → Place → List Mark
+swatch_marks class place =
+    text_mark Attributes.Class (class_text class) ∷ number_mark Attributes.X place.column
+    ∷ number_mark Attributes.Y place.row ∷ number_mark Attributes.Width 14 ∷ number_mark Attributes.Height 11 ∷ []
+
+-- The element of a sign of the legend.
+abbrev pub sign_element : Sign → ElementName
+sign_element (Signs.Area class) = Elements.Rect
+sign_element (Signs.Ring class) = Elements.Circle
+
+-- The attributes of a sign of the legend, at this place or around it.
+abbrev pub sign_marks : Sign → Place → List Mark
+sign_marks (Signs.Area class) place = swatch_marks class place
+sign_marks (Signs.Ring class) place = circle_marks class place 5
+
+-- A row of the legend: a sign, and words. Example: `<circle class="ring new" cx="23" cy="91" r="5"/>`, and a label.
 abbrev pub swatch_nodes : Swatch → Nodes
-swatch_nodes s =
-    empty Elements.Rect
-    (text_mark Attributes.Class (class_text s.class) ∷ number_mark Attributes.X s.place.column
-    ∷ number_mark Attributes.Y s.place.row ∷ number_mark Attributes.Width 14 ∷ number_mark Attributes.Height 11 ∷ [])
-    (label_nodes s.label)
+swatch_nodes s = empty (sign_element s.sign) (sign_marks s.sign s.place) (label_nodes s.label)
 
 -- The attributes of a path of this class.
 abbrev pub path_marks : (class : List ℕ) → (path : List ℕ) → List Mark
@@ -149,10 +171,7 @@ outline_nodes scale o = area_nodes (area_marks (outline_text o.class) (pixel_rec
 
 -- A ring in the colour of its class. Example: `<circle class="ring old" cx="24" cy="8" r="9"/>`.
 abbrev pub ring_nodes : Ring → Nodes
-ring_nodes r =
-    empty Elements.Circle
-    (text_mark Attributes.Class (codes "ring " ++ class_text r.class) ∷ number_mark Attributes.Cx r.middle.column
-    ∷ number_mark Attributes.Cy r.middle.row ∷ number_mark Attributes.R 9 ∷ []) end
+ring_nodes r = empty Elements.Circle (circle_marks r.class r.middle 9) end
 
 -- The lines around the squares, in pixels.
 abbrev pub grid_rectangles : ℕ → List Square → List Rectangle

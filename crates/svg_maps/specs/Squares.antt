@@ -7,9 +7,9 @@ use Rattle.ipnet.specs.CanonicalTexts.{canonical_text}
 use Rattle.ipnet.specs.NetworkParts.{AreSubnetsOfLength}
 use Rattle.ipnet_sets.specs.Members.{IsMember, IsCountOf}
 use Rattle.ipnet_sets.specs.Parts.{IsInPart}
-use Rattle.ipnet_bars.specs.MarkTexts.{percent_text}
+use Rattle.ipnet_bars.specs.MarkTexts.{share_words}
 use Rattle.ipnet_bars.specs.Parts.{block_size}
-use Rattle.ipnet_bars.specs.Shares.{tenths}
+use Rattle.ipnet_bars.specs.Shares.{share_of}
 use Rattle.ipnet_maps.specs.Places.{IsRectangleIn}
 use Rattle.svg_maps.specs.Counts.{quantity_text}
 use Rattle.svg_maps.specs.declared.square.Counted.{Counted}
@@ -21,7 +21,7 @@ pub record IsCountText (n : Network) (c : Counted) (text : List ℕ) : Type 0 wh
   pub count : ℕ
   pub is_count : IsCountOf (IsInPart (IsMember c.set.now) n) count
   pub spelled : text ≡ codes ", " ++ quantity_text count ++ codes " " ++ c.words.now ++ codes " ("
-      ++ percent_text (tenths count (block_size n)) ++ codes ")"
+      ++ share_words (share_of count (block_size n)) ++ codes ")"
 
 -- The text says how many addresses each of the sets has in the network.
 -- Example: `, 3 addresses removed (1.1 %), 0 addresses added (0.0 %)`.

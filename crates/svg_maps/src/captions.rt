@@ -11,6 +11,7 @@ use crate::form::MapForm;
 use crate::label::{Ink, Label, Swatch, label_at};
 use crate::legend::{EDGE, LINE, legend_of};
 use crate::lines::lines_of;
+use crate::ring::Rings;
 use crate::sheet::{Sheet, row_after, sheet_of, sides_of};
 use crate::square::first_bits_of;
 use ipnet::IpNet;
@@ -28,8 +29,8 @@ const LEGEND: u32 = 44;
 pub(crate) struct MapFacts<'a> {
     /// The sentence about the network.
     pub(crate) summary: &'a str,
-    /// How many small parts have no ring.
-    pub(crate) without_ring: usize,
+    /// The rings on the map.
+    pub(crate) rings: &'a Rings,
 }
 
 /// The texts of a page, and its sizes.
@@ -127,7 +128,8 @@ pub(crate) fn captions_of(
     ensures fits { let cuts = square_cuts (ip_network frame.now).prefix_len drawing.now.depth in IfOk result (λ texts.
         FitsPage texts.sheet.chart_place texts.sheet.scale (2 ^ columns_in cuts) (2 ^ rows_in cuts) texts.sheet.area) }
     ensures legend { IfOk result (λ texts. map row_of texts.swatches.items
-        ≡ legend_rows (map (λ n. n.now) form.entry.names.now) drawing.now.layers.items) }
+        ≡ legend_rows (map (λ n. n.now) form.entry.names.now) drawing.now.layers.items
+        facts.entry.rings.now.list.items) }
     ensures foot { IfOk result (λ texts. HasLine form.entry.note.now texts.captions.items) }
 {
     let depth = drawing.depth;
@@ -138,14 +140,15 @@ pub(crate) fn captions_of(
     push_lines(&mut captions, Ink::Plain, summary.as_slice(), SUMMARY)?;
     let legend_row = row_after(LEGEND, summary.len());
     let layers = drawing.layers.as_slice();
-    let swatches = legend_of(alloc, layers, form.names, legend_row)?;
+    let rings = facts.rings.list.as_slice();
+    let swatches = legend_of(alloc, layers, rings, form.names, legend_row)?;
     let lines = form.overlay.lines.as_slice();
     let row = row_after(legend_row, swatches.len());
     let baseline = row.saturating_add(10);
     push_lines(&mut captions, Ink::Plain, lines, baseline)?;
     let top = row_after(row, lines.len()).saturating_add(8);
     let heads = has_heads(frame.prefix_len(), depth);
-    let foot = foot_of(alloc, frame, depth, form, facts.without_ring)?;
+    let foot = foot_of(alloc, frame, depth, form, facts.rings.left_out)?;
     let note_lines = usize::from(!form.note.is_empty());
     let count = foot.len().saturating_add(note_lines);
     let sheet = sheet_of(sides_of(frame, depth), heads, top, count);

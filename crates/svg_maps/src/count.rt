@@ -1,13 +1,9 @@
-//! Counts of addresses as readers like them: with commas, large ones in networks of length 64, and shares in per cent.
-ghost use Rattle.std.specs.Prelude.{◌≡◌, ◌++◌, ◌≤◌, OnOk, codes, string_bytes};
-ghost use Rattle.ipnet.specs.NetworkOf.{ip_network};
-ghost use Rattle.ipnet_bars.specs.MarkTexts.{percent_text};
-ghost use Rattle.ipnet_bars.specs.Parts.{counted, block_size};
-ghost use Rattle.ipnet_bars.specs.Shares.{tenths};
-ghost use Rattle.svg_maps.specs.Counts.{three_digits, grouped, number_text, quantity_text};
+//! Counts of addresses as readers like them: with commas, and large ones in networks of length 64.
+ghost use Rattle.std.specs.Prelude.{◌≡◌, ◌++◌, OnOk, codes, string_bytes};
+ghost use Rattle.ipnet_bars.specs.Parts.{counted};
+ghost use Rattle.svg_maps.specs.Counts.{three_digits, grouped, number_text, subnets_unit, rest_words, subnets_text};
+ghost use Rattle.svg_maps.specs.Counts.{quantity_text};
 
-use ipnet::IpNet;
-use ipnet_bars::share_of;
 use std::alloc::AllocError;
 
 /// How many addresses a network of length 64 has.
@@ -55,6 +51,30 @@ fn push_number(text: &mut String, number: u128, unit: &str) -> Result<(), AllocE
     Ok(())
 }
 
+/// The unit after this many networks of length 64.
+fn subnets_unit(count: u128) -> &'static str
+    ensures { result.now ≡ subnets_unit count }
+{
+    if count == 1 { " /64" } else { " /64s" }
+}
+
+/// The words before a count that leaves out this many addresses.
+fn rest_words(rest: u128) -> &'static str
+    ensures { result.now ≡ rest_words rest }
+{
+    if rest == 0 { "" } else { "more than " }
+}
+
+/// Appends this many addresses, in networks of length 64.
+fn push_subnets(text: &mut String, count: u128) -> Result<(), AllocError>
+    ensures { OnOk result (string_bytes text.new ≡ string_bytes text.old ++ subnets_text count) }
+{
+    let subnets = count / SUBNET;
+    text.push_str(rest_words(count % SUBNET))?;
+    push_number(text, subnets, subnets_unit(subnets))?;
+    Ok(())
+}
+
 /// Appends this many addresses, as `push_quantity` does.
 fn push_word_quantity(text: &mut String, count: u128) -> Result<(), AllocError>
     ensures { OnOk result (string_bytes text.new ≡ string_bytes text.old ++ quantity_text count) }
@@ -64,21 +84,21 @@ fn push_word_quantity(text: &mut String, count: u128) -> Result<(), AllocError>
         text.push_str("1 address")?;
         return Ok(());
     }
-    let is_small = count <= SUBNET;
+    let is_small = count < SUBNET;
     if is_small {
         push_number(text, count, " addresses")?;
         return Ok(());
     }
-    push_number(text, count / SUBNET, " /64s")?;
+    push_subnets(text, count)?;
     Ok(())
 }
 
-/// Appends this many addresses; if they are more than one network of length 64 has, how many such networks have as
-/// many, rounded down. `None` is 2^128, as in `count_in`.
+/// Appends this many addresses; in networks of length 64 if one of these does not have more. `None` is 2^128, as in
+/// `count_in`.
 ///
 /// ```text
 /// Some(1) appends "1 address", Some(16777216) appends "16,777,216 addresses", and None appends
-/// "18,446,744,073,709,551,616 /64s"
+/// "18,446,744,073,709,551,616 /64s"; 2^64 is "1 /64", and 2^64 + 1 "more than 1 /64"
 /// ```
 pub(crate) fn push_quantity(text: &mut String, count: Option<u128>) -> Result<(), AllocError>
     ensures { OnOk result (string_bytes text.new ≡ string_bytes text.old ++ quantity_text (counted count)) }
@@ -90,20 +110,4 @@ pub(crate) fn push_quantity(text: &mut String, count: Option<u128>) -> Result<()
             Ok(())
         }
     }
-}
-
-/// Appends the share of the network that the count is, in per cent.
-pub(crate) fn push_share(
-    text: &mut String,
-    count: Option<u128>,
-    network: &IpNet,
-) -> Result<(), AllocError>
-    requires { counted count ≤ block_size (ip_network network.now) }
-    ensures { OnOk result (string_bytes text.new
-        ≡ string_bytes text.old ++ percent_text (tenths (counted count) (block_size (ip_network network.now)))) }
-{
-    let share = share_of(count, network);
-    let whole = share / 10;
-    let rest = share % 10;
-    write!(text, "{whole}.{rest} %")
 }

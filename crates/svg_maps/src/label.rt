@@ -1,12 +1,17 @@
 //! Labels and rows of the legend.
 ghost use Rattle.std.specs.Prelude.{◌≡◌, ◌++◌, OnOk, flat_map, string_bytes};
-ghost use Rattle.svg_text.specs.Documents.{nodes_text, mark_of};
+ghost use Rattle.svg_text.specs.Documents.{nodes_text, mark_of, empty_text};
+ghost use Rattle.svg_text.specs.declared.name.ElementName.TheVariants as Elements;
 ghost use Rattle.svg_maps.specs.Pages.{ink_text, anchor_text, label_nodes, swatch_nodes, text_mark, number_mark};
+ghost use Rattle.svg_maps.specs.Pages.{circle_marks, swatch_marks, sign_element, sign_marks};
 
 use crate::class::class_name;
 use ipnet_maps::{Class, Place};
 use std::alloc::{AllocError, Global};
 use svg_text::{Attribute, AttributeName, ElementName, Value, push_empty, push_leaf};
+
+/// The radius of a ring in the legend, in pixels.
+const SIGN_RADIUS: u32 = 5;
 
 /// The look of a label.
 #[derive(Clone, Copy, Debug, PartialEq, Eq)]
@@ -55,12 +60,21 @@ pub struct Label {
     pub words: String,
 }
 
-/// A row of the legend: a rectangle in the colour of a class, and its label.
+/// The sign of a row of the legend.
+#[derive(Clone, Copy, Debug, PartialEq, Eq)]
+pub enum Sign {
+    /// A rectangle in the colour of the class.
+    Area(Class),
+    /// A ring in the colour of the class.
+    Ring(Class),
+}
+
+/// A row of the legend: a sign, and its label.
 #[derive(Debug, Drop)]
 pub struct Swatch {
-    /// The class.
-    pub class: Class,
-    /// The place of the rectangle, in pixels.
+    /// The sign.
+    pub sign: Sign,
+    /// The place of the rectangle, or of the middle of the ring, in pixels.
     pub place: Place,
     /// The label.
     pub label: Label,
@@ -150,19 +164,66 @@ pub(crate) fn push_labels(text: &mut String, labels: &[Label]) -> Result<(), All
     Ok(())
 }
 
+/// Appends a ring in the colour of the class, with this middle and this radius.
+pub(crate) fn push_circle(
+    alloc: Global,
+    text: &mut String,
+    class: Class,
+    middle: Place,
+    radius: u32,
+) -> Result<(), AllocError>
+    ensures { OnOk result (string_bytes text.new
+        ≡ string_bytes text.old ++ empty_text Elements.Circle (circle_marks class middle radius)) }
+{
+    let mut name = String::from_str(alloc, "ring ")?;
+    let class = class_name(alloc, class)?;
+    name.push_str(class.as_str())?;
+    let attributes = [
+        text_attribute(AttributeName::Class, name.as_str()),
+        number_attribute(AttributeName::Cx, middle.column),
+        number_attribute(AttributeName::Cy, middle.row),
+        number_attribute(AttributeName::R, radius),
+    ];
+    push_empty(text, ElementName::Circle, &attributes)
+}
+
+/// Appends a small rectangle in the colour of the class.
+fn push_rectangle(
+    alloc: Global,
+    text: &mut String,
+    class: Class,
+    place: Place,
+) -> Result<(), AllocError>
+    ensures { OnOk result (string_bytes text.new
+        ≡ string_bytes text.old ++ empty_text Elements.Rect (swatch_marks class place)) }
+{
+    let name = class_name(alloc, class)?;
+    let attributes = [
+        text_attribute(AttributeName::Class, name.as_str()),
+        number_attribute(AttributeName::X, place.column),
+        number_attribute(AttributeName::Y, place.row),
+        number_attribute(AttributeName::Width, 14),
+        number_attribute(AttributeName::Height, 11),
+    ];
+    push_empty(text, ElementName::Rect, &attributes)
+}
+
+/// Appends the sign of a row of the legend.
+fn push_sign(alloc: Global, text: &mut String, sign: Sign, place: Place) -> Result<(), AllocError>
+    ensures { OnOk result (string_bytes text.new
+        ≡ string_bytes text.old ++ empty_text (sign_element sign) (sign_marks sign place)) }
+{
+    match sign {
+        Sign::Area(class) => push_rectangle(alloc, text, class, place),
+        Sign::Ring(class) => push_circle(alloc, text, class, place, SIGN_RADIUS),
+    }
+}
+
 /// Appends the row of the legend.
 fn push_swatch(alloc: Global, text: &mut String, swatch: &Swatch) -> Result<(), AllocError>
     ensures { OnOk result (string_bytes text.new ≡ string_bytes text.old ++ nodes_text (swatch_nodes swatch.now)) }
 {
-    let name = class_name(alloc, swatch.class)?;
-    let attributes = [
-        text_attribute(AttributeName::Class, name.as_str()),
-        number_attribute(AttributeName::X, swatch.place.column),
-        number_attribute(AttributeName::Y, swatch.place.row),
-        number_attribute(AttributeName::Width, 14),
-        number_attribute(AttributeName::Height, 11),
-    ];
-    push_empty(text, ElementName::Rect, &attributes)?;
+    push_sign(alloc, text, swatch.sign, swatch.place)?;
     push_label(text, &swatch.label)
 }
 

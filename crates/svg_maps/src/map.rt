@@ -47,7 +47,7 @@ pub fn map_text(
     let rings = rings_of(alloc, layers, sides, scale_of(sides))?;
     let facts = MapFacts {
         summary: summary.as_str(),
-        without_ring: rings.left_out,
+        rings: &rings,
     };
     let texts = captions_of(alloc, frame, drawing, form, facts)?;
     let outlines = form.overlay.outlines.as_slice();

@@ -261,17 +261,62 @@ fn entry_text(outline: &Outline) -> &str {
     }
 }
 
-/// For each outline, whether it is of the same entry as one before it.
-fn repeated(alloc: Global, outlines: &[Outline]) -> Result<Vec<bool>, AllocError> {
+/// Which area of its entry an outline has.
+#[derive(Clone, Copy, PartialEq, Eq)]
+enum Part {
+    /// The only one.
+    Whole,
+    /// The first of several, which is the largest if the largest come first.
+    First,
+    /// Another one of several.
+    Other,
+}
+
+/// The place of the first of the texts that is this one.
+fn place_of(texts: &[&str], text: &str) -> Option<usize> {
+    for place in 0..texts.len() {
+        if texts[place] == text {
+            return Some(place);
+        }
+    }
+    None
+}
+
+/// For each outline, which area of its entry it has. An outline of another class is whole.
+fn parts_of(alloc: Global, outlines: &[Outline]) -> Result<Vec<Part>, AllocError> {
     let mut texts = Vec::new(alloc);
-    let mut list = Vec::new(alloc);
+    let mut parts = Vec::new(alloc);
     for outline in outlines {
         let text = entry_text(outline);
-        let is_there = outline.class == OutlineClass::Entry && texts.as_slice().contains(&text);
-        list.push(is_there)?;
+        let mut part = Part::Whole;
+        if outline.class == OutlineClass::Entry {
+            if let Some(first) = place_of(texts.as_slice(), text) {
+                if first < parts.len() {
+                    parts[first] = Part::First;
+                }
+                part = Part::Other;
+            }
+        }
         texts.push(text)?;
+        parts.push(part)?;
     }
-    Ok(list)
+    Ok(parts)
+}
+
+/// Whether the label of the outline has its network. An area of several colours with a label in it, as of a part that
+/// is not new, would give the network to the rest only. A network beside a comment would be read as the whole entry.
+fn names_network(
+    placed: &Placed,
+    area: Rectangle,
+    outline: &Outline,
+    part: Part,
+    under: &Under,
+) -> bool {
+    if outline.class != OutlineClass::Entry {
+        return true;
+    }
+    let is_divided = meets_one(area, placed.areas.as_slice()) && ink_in(under, area) == Ink::Halo;
+    !is_divided && (part == Part::Whole || outline.comment.is_empty())
 }
 
 /// Adds the label of the outline, if there is room: its comment and its text, or one of them. Returns whether there is.
@@ -279,6 +324,7 @@ fn push_label_of(
     placed: &mut Placed,
     scale: u32,
     outline: &Outline,
+    part: Part,
     under: &Under,
 ) -> Result<bool, AllocError> {
     let class = outline.class;
@@ -289,7 +335,7 @@ fn push_label_of(
     if !comment.is_empty() {
         lines.push(comment)?;
     }
-    if !outline.label.is_empty() {
+    if !outline.label.is_empty() && names_network(placed, area, outline, part, under) {
         lines.push(outline.label.clone()?)?;
     }
     let lines = lines.as_slice();
@@ -313,14 +359,14 @@ pub(crate) fn push_labels_of(
     class: OutlineClass,
     under: &Under,
 ) -> Result<(), AllocError> {
-    let repeated = repeated(placed.alloc, outlines)?;
+    let parts = parts_of(placed.alloc, outlines)?;
     for index in (0..outlines.len()).rev() {
         let outline = &outlines[index];
-        let is_repeated = repeated.get(index).copied().unwrap_or(false);
+        let part = parts.get(index).copied().unwrap_or(Part::Whole);
         let is_left_out = outline.class != class
-            || is_repeated
+            || part == Part::Other
             || placed.labelled.as_slice().contains(&outline.rectangle);
-        if !is_left_out && push_label_of(placed, scale, outline, under)? {
+        if !is_left_out && push_label_of(placed, scale, outline, part, under)? {
             placed.labelled.push(outline.rectangle)?;
             if class == OutlineClass::Entry || class == OutlineClass::LargestFree {
                 placed

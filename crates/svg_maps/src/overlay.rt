@@ -24,6 +24,10 @@ use ipnet_routes::RouteTable;
 use ipnet_sets::IpSet;
 use std::alloc::{AllocError, Global};
 
+/// The words of the foot before the number of networks of entries without a title.
+const WITHOUT_TITLE: &str =
+    "Networks of entries without a text under the mouse (too small, too many or outside)";
+
 /// How a map looks, which networks on it have names, and which are entries of its lists.
 #[derive(Clone, Copy)]
 pub struct Look<'a> {
@@ -176,7 +180,7 @@ fn entry_overlay(
     let lines = entry_lines(alloc, frame, entries.titled)?;
     let shown = outlines.len().saturating_add(lines.len());
     let left_out = entries.count.saturating_sub(shown);
-    let note = left_out_note(alloc, "Networks of entries without a title", left_out)?;
+    let note = left_out_note(alloc, WITHOUT_TITLE, left_out)?;
     Ok(Overlay {
         outlines,
         lines,

@@ -3,13 +3,11 @@ ghost use Rattle.std.specs.Prelude.{◌≡◌, ◌++◌, ◌≤◌, IfOk, OnOk, 
 ghost use Rattle.svg_text.specs.Documents.{nodes_text};
 ghost use Rattle.svg_maps.specs.Pages.{ring_nodes};
 
-use crate::class::class_name;
-use crate::label::{number_attribute, text_attribute};
+use crate::label::push_circle;
 use crate::sheet::pixels_of;
 use crate::tiles::{Tiles, index_of, range_of, tiles_of};
 use ipnet_maps::{Class, Layer, Place, Rectangle, Sides};
 use std::alloc::{AllocError, Global};
-use svg_text::{AttributeName, ElementName, push_empty};
 
 /// The width and height of a tile, in pixels.
 const TILE: u32 = 16;
@@ -234,16 +232,7 @@ pub(crate) fn rings_of(
 fn push_ring(alloc: Global, text: &mut String, ring: &Ring) -> Result<(), AllocError>
     ensures { OnOk result (string_bytes text.new ≡ string_bytes text.old ++ nodes_text (ring_nodes ring.now)) }
 {
-    let mut name = String::from_str(alloc, "ring ")?;
-    let class = class_name(alloc, ring.class)?;
-    name.push_str(class.as_str())?;
-    let attributes = [
-        text_attribute(AttributeName::Class, name.as_str()),
-        number_attribute(AttributeName::Cx, ring.middle.column),
-        number_attribute(AttributeName::Cy, ring.middle.row),
-        number_attribute(AttributeName::R, RADIUS),
-    ];
-    push_empty(text, ElementName::Circle, &attributes)
+    push_circle(alloc, text, ring.class, ring.middle, RADIUS)
 }
 
 /// Appends the rings.

@@ -5,7 +5,8 @@ ghost use Rattle.ipnet_sets.specs.Members.{IsMember};
 ghost use Rattle.ipnet.specs.NetworkOf.{ip_network};
 ghost use Rattle.svg_maps.specs.Legends.{outside_line, outside_note, IsOutsideNote};
 ghost use Rattle.svg_maps.specs.Maps.{list_words};
-ghost use Rattle.svg_maps.specs.Overlays.{IsOutlinedSetMap, IsOutlinedChangeMap, IsOutlinedSetsMap};
+ghost use Rattle.svg_maps.specs.Overlays.{IsOutlinedSetMap, IsOutlinedChangeMap, IsOutlinedNamedChangeMap};
+ghost use Rattle.svg_maps.specs.Overlays.{IsOutlinedSetsMap};
 
 use crate::count::push_quantity;
 use crate::form::MapForm;
@@ -101,8 +102,19 @@ pub fn set_map_text(
     map_text(alloc, frame, &drawing, &counted, form)
 }
 
-/// Returns the map of the change in the frame, if `before` becomes `after`, as a document of SVG. Fails only if memory
-/// runs out.
+/// Two sets that are compared, and their names.
+#[derive(Clone, Copy)]
+pub struct NamedChange<'a> {
+    /// The first set.
+    pub before: &'a IpSet,
+    /// The second set.
+    pub after: &'a IpSet,
+    /// The names of the two sets, for the legend; a set without a name is the first or the second list there.
+    pub names: &'a [&'a str],
+}
+
+/// Returns the map of the change in the frame, if `before` becomes `after`, as a document of SVG. The legend does not
+/// name the sets; `named_change_map_text` makes such a map with names. Fails only if memory runs out.
 ///
 /// A change is never hidden, however small it is. The title of a square says how many of its addresses are only in the
 /// first set, only in the second, and in both. The entries of the look have titles. The networks with names are
@@ -121,6 +133,34 @@ pub fn change_map_text(
     ensures { IfOk result (λ text.
         IsOutlinedChangeMap look.entry before.now after.now (ip_network frame.now) (string_bytes text)) }
 {
+    let change = NamedChange {
+        before,
+        after,
+        names: &[],
+    };
+    named_change_map_text(alloc, frame, change, look)
+}
+
+/// Returns the map of the change as `change_map_text` does, with the names of the sets in the legend. Fails only if
+/// memory runs out.
+///
+/// ```text
+/// from 10.20.0.0/24 in old.txt to 10.20.0.0/25 in new.txt: the legend has "removed: only in old.txt"
+/// ```
+pub fn named_change_map_text(
+    alloc: Global,
+    frame: &IpNet,
+    change: NamedChange<'_>,
+    look: Look<'_>,
+) -> Result<String, AllocError>
+    ensures { let c = change.entry in IfOk result (λ text. IsOutlinedNamedChangeMap look.entry c.before.now c.after.now
+        (map (λ name. name.now) c.names.now) (ip_network frame.now) (string_bytes text)) }
+{
+    let NamedChange {
+        before,
+        after,
+        names,
+    } = change;
     let drawing = draw_change(alloc, frame, before, after)?;
     let removed = before.difference(alloc, after)?;
     let added = after.difference(alloc, before)?;
@@ -148,7 +188,7 @@ pub fn change_map_text(
     let form = MapForm {
         style: style.as_str(),
         heading: "Changes in",
-        names: &[],
+        names,
         note: note.as_str(),
         overlay: &overlay,
     };

@@ -10,11 +10,11 @@ ghost use Rattle.svg_maps.specs.Squares.{IsCountText, AreCountTexts, title_start
 ghost use Rattle.svg_maps.specs.Squares.{AreSquaresOf, first_bits, square_bits};
 
 use crate::chart::Square;
-use crate::count::{push_quantity, push_share};
+use crate::count::push_quantity;
 use crate::extent::extent_of;
 use crate::name::short_name;
 use ipnet::IpNet;
-use ipnet_bars::{count_in, size_of, subnets_of};
+use ipnet_bars::{count_in, push_share_words, share_of, size_of, subnets_of};
 use ipnet_maps::rectangle_in;
 use ipnet_sets::IpSet;
 use std::alloc::{AllocError, Global};
@@ -44,7 +44,7 @@ fn push_counted(
     text.push_str(" ")?;
     text.push_str(counted.words)?;
     text.push_str(" (")?;
-    push_share(text, count, network)?;
+    push_share_words(text, share_of(count, network))?;
     text.push_str(")")?;
     Ok(())
 }

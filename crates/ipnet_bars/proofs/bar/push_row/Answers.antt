@@ -1,9 +1,9 @@
 use Rattle.std.proofs.Common.{◌++◌, ◌∷◌, [], ◌∙◌, codes, ap, refl, string_bytes}
 use Rattle.ipnet.specs.NetworkOf.{ip_network}
 use Rattle.ipnet_bars.specs.Bars.{row_head, row_text}
-use Rattle.ipnet_bars.specs.MarkTexts.{marks_text, percent_text}
+use Rattle.ipnet_bars.specs.MarkTexts.{marks_text, share_words}
 use Rattle.ipnet_bars.specs.Parts.{block_size, counted}
-use Rattle.ipnet_bars.specs.Shares.{tenths}
+use Rattle.ipnet_bars.specs.Shares.{share_of}
 use Rattle.ipnet_bars.proofs.BarLaws.{row_joined}
 use Rattle.ipnet_bars.proofs.bar.push_row.Goals as goal
 
@@ -12,7 +12,7 @@ returns c =
     let n = ip_network c.args.row.now in
     let column = c.args.form.column in
     let levels = c.in_ok-levels.levels.items in
-    let share = tenths (counted c.in_ok-count.count) (block_size n) in (
+    let share = share_of (counted c.in_ok-count.count) (block_size n) in (
       row_text column n (marks_text c.args.form.marks levels) share,
       record {
         levels = levels;
@@ -24,10 +24,10 @@ returns c =
       row_joined (string_bytes c.args.text.now) (string_bytes c.push_head.new.text)
           (string_bytes c.push_marks.new.text) (string_bytes c.push_tail.new.text)
           (row_head column n)
-          (marks_text c.args.form.marks levels) (codes "| ") (percent_text share) (10 ∷ []) c.in_ok-push_head.ensures
+          (marks_text c.args.form.marks levels) (codes "| ") (share_words share) (10 ∷ []) c.in_ok-push_head.ensures
           (c.in_ok-push_marks.ensures
           ∙ ap (λ z. string_bytes c.push_head.new.text ++ marks_text c.args.form.marks z) c.as_slice.ensures.value)
           (c.in_ok-push_tail.ensures
-          ∙ ap (λ z. string_bytes c.push_marks.new.text ++ (codes "| " ++ percent_text z ++ 10 ∷ []))
+          ∙ ap (λ z. string_bytes c.push_marks.new.text ++ (codes "| " ++ share_words z ++ 10 ∷ []))
           c.share_of.ensures),
     )

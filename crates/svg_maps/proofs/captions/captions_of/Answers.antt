@@ -1,4 +1,4 @@
-use Rattle.std.proofs.Common.{◌^◌, ap, ◌∙◌, map, subst}
+use Rattle.std.proofs.Common.{◌^◌, ap, ap₂, ◌∙◌, map, subst}
 use Rattle.ipnet.specs.NetworkOf.{ip_network}
 use Rattle.ipnet_maps.specs.Cuts.{columns_in}
 use Rattle.ipnet_maps.specs.Squares.{square_cuts}
@@ -19,5 +19,6 @@ returns-clause-fits c =
 
 pub returns-clause-legend : goal.returns-clause-legend
 returns-clause-legend c =
+    let names = map (λ n. n.now) c.args.form.names.now in
     c.in_ok-swatches.ensures
-    ∙ ap (legend_rows (map (λ n. n.now) c.args.form.names.now)) c.as_slice-layers.ensures.value
+    ∙ ap₂ (legend_rows names) c.as_slice-layers.ensures.value c.as_slice-rings.ensures.value

@@ -5,7 +5,7 @@ use Rattle.svg_text.specs.Documents.{nodes_text}
 use Rattle.svg_maps.specs.Overlays.{IsOutlinedMap}
 use Rattle.ipnet_maps.specs.Cuts.{columns_in}
 use Rattle.ipnet_maps.specs.Squares.{square_cuts}
-use Rattle.svg_maps.specs.Legends.{HasLine, row_of}
+use Rattle.svg_maps.specs.Legends.{HasLine, row_of, legend_rows}
 use Rattle.svg_maps.specs.Pages.{PageView, FitsPage, cell_pixels, page_nodes}
 use Rattle.svg_maps.specs.Squares.{AreSquaresOf, IsTitle}
 use Rattle.svg_maps.proofs.map.map_text.Goals as goal
@@ -47,7 +47,8 @@ returns c =
             (sym c.sides_of-sides.ensures.width)
             (subst (λ z. FitsPage sheet.chart_place sheet.scale (2 ^ columns_in cuts) z sheet.area)
             (sym c.sides_of-sides.ensures.height) c.in_ok-texts.ensures.fits);
-        legend = ap (map row_of) c.as_slice-7.ensures.value ∙ c.in_ok-texts.ensures.legend;
+        legend = ap (map row_of) c.as_slice-7.ensures.value ∙ c.in_ok-texts.ensures.legend
+            ∙ ap (legend_rows (map (λ k. k.now) c.args.form.names.now) d.layers.items) (sym c.as_slice-9.ensures.value);
         foot = subst (HasLine c.args.form.note.now) (sym c.as_slice-5.ensures.value) c.in_ok-texts.ensures.foot;
         squares = subst (AreSquaresOf n d.depth counted) (sym c.as_slice-8.ensures.value) c.in_ok-squares.ensures;
         summary = subst (IsTitle n counted) (sym c.as_str-3.ensures.value) c.in_ok-summary.ensures;

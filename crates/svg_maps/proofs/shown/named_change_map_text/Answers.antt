@@ -1,24 +1,26 @@
-use Rattle.std.proofs.Common.{◌∙◌, [], refl, subst, sym, string_bytes}
+use Rattle.std.proofs.Common.{◌∙◌, map, refl, subst, sym, string_bytes}
 use Rattle.std.proofs.lemmas.Result.{IfOk-weaker}
 use Rattle.ipnet.specs.NetworkOf.{ip_network}
 use Rattle.ipnet_base.specs.Blocks.{IsInEither}
 use Rattle.ipnet_sets.specs.Members.{IsMember}
 use Rattle.svg_maps.specs.Legends.{IsOutsideNote}
-use Rattle.svg_maps.specs.Overlays.{AreOutlinesOver, IsOutlinedMap, IsOutlinedChangeMap}
+use Rattle.svg_maps.specs.Overlays.{AreOutlinesOver, IsOutlinedMap, IsOutlinedNamedChangeMap}
 use Rattle.svg_maps.proofs.NamedLaws.{over_same}
-use Rattle.svg_maps.proofs.shown.change_map_text.Goals as goal
+use Rattle.svg_maps.proofs.shown.named_change_map_text.Goals as goal
 
 pub returns : goal.returns
 returns c =
     let n = ip_network c.args.frame.now in
     let d = c.in_ok-drawing.drawing in
     let look = c.args.look in
-    let before = c.args.before.now in
-    let after = c.args.after.now in
+    let before = c.args.change.before.now in
+    let after = c.args.change.after.now in
+    let names = map (λ name. name.now) c.args.change.names.now in
     let outlines = c.in_ok-overlay.overlay.outlines.items in
     let note = c.as_str-2.result.now in
-    IfOk-weaker c.map_text.result (λ text. IsOutlinedMap n _ d [] note c.as_str.result.now outlines (string_bytes text))
-    (λ text. IsOutlinedChangeMap look before after n (string_bytes text)) (λ text m. (
+    IfOk-weaker c.map_text.result
+    (λ text. IsOutlinedMap n _ d names note c.as_str.result.now outlines (string_bytes text))
+    (λ text. IsOutlinedNamedChangeMap look before after names n (string_bytes text)) (λ text m. (
       record {
         drawing = d;
         drawn = c.in_ok-drawing.ensures;
