@@ -13,6 +13,16 @@ NAME = "[A-Za-z][A-Za-z0-9+._-]*"
 PATH = "[^0-9A-Za-z]*([A-Za-z].*)?|[0-9/]+[A-Za-z].*"
 
 
+def after_words(text):
+    """The words of a command line for entries after a text."""
+    return [] if text is None else ["--after", text]
+
+
+def part_after(text, line):
+    """What follows the first occurrence of the text in the line, or nothing; without a text, the line."""
+    return line if text is None else line.partition(text)[2]
+
+
 def words_of(line):
     """The words of the line, as triples of the bytes before a word, the word, and the bytes between it and the next."""
     parts = re.split("([" + re.escape(CUTS) + "]+)", line)

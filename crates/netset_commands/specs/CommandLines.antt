@@ -47,7 +47,7 @@ count_names = codes "count" ∷ codes "compare" ∷ codes "changes" ∷ codes "a
 
 -- The commands that ask about the entries of a text or a list, in the order in which help lists them.
 abbrev pub search_names : List (List ℕ)
-search_names = codes "extract" ∷ codes "filter" ∷ codes "route" ∷ []
+search_names = codes "extract" ∷ codes "filter" ∷ codes "tally" ∷ codes "route" ∷ []
 
 -- The commands about free space, and pictures, in the order in which help lists them.
 abbrev pub space_names : List (List ℕ)

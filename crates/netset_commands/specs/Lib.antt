@@ -1,4 +1,5 @@
 -- The definitions that the contracts of this crate use.
+pub mod AfterTexts
 pub mod Arguments
 pub mod BadLines
 pub mod Calls
@@ -11,4 +12,5 @@ pub mod Words
 pub mod InfoWords
 pub mod FindOptions
 pub mod SelectOptions
+pub mod TallyOptions
 pub mod Without

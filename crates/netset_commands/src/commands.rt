@@ -31,6 +31,7 @@ use crate::rules::{PERMITTED_COMMAND, UNREACHED_COMMAND};
 use crate::select::SELECT_COMMAND;
 use crate::shorten::SHORTEN_COMMAND;
 use crate::table::{ARGUMENT, Argument, Form, Subcommand, command_of};
+use crate::tally::TALLY_COMMAND;
 use crate::texts::{ALL, ALL_FLAG, TEXT, TEXT_FLAG};
 use crate::whole_lines::{LINE_FLAGS, LINES};
 use clap::{ArgMatches, Command, Error};
@@ -220,6 +221,7 @@ const SEARCHES: &[Subcommand] = &[
         about: "The entries of FILE that lie entirely inside SET, as written; status 1 if there are none",
         arguments: &[SHARED, LINE_FLAGS, FILTER_ARGUMENTS],
     },
+    TALLY_COMMAND,
     Subcommand {
         name: ROUTE,
         about: "For each entry of FILE, the most specific network of TABLE that contains it, or - and status 1",

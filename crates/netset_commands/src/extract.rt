@@ -5,6 +5,7 @@ ghost use Rattle.netset_commands.specs.Calls.{AreFlags};
 ghost use Rattle.netset_lib.specs.Commands.{grammar_of};
 ghost use Rattle.netset_lib.specs.declared.command.Flags.{Flags};
 
+use crate::after::{AFTER_OPTION, after_or_report};
 use crate::arguments::{
     ANY_LISTS, ArgumentFailure, FIRST, MAPPED, SHARED, flags_of, is_set, report_argument_failure,
 };
@@ -50,34 +51,37 @@ pub const EXTRACT_COMMAND: Subcommand = Subcommand {
                 help: "Print an IPv4-mapped address, as ::ffff:10.0.0.1, as the IPv4 address",
                 ..ARGUMENT
             },
+            AFTER_OPTION,
             ANY_LISTS,
         ],
     ],
 };
 
-/// Which entries the flags ask for.
-fn request_of(matches: &ArgMatches) -> ExtractRequest
+/// Which entries the flags ask for, after this text.
+fn request_of<'a>(matches: &ArgMatches, after: &'a [u8]) -> ExtractRequest<'a>
     ensures grammar { (flags : Flags) × AreFlags matches.now flags × (result.grammar ≡ grammar_of flags.legacy) }
     ensures first { IsFlag matches.now (codes "first-entry") result.first }
     ensures ranges { IsFlag matches.now (codes "ranges") result.ranges }
     ensures mapped { IsFlag matches.now (codes "mapped") result.mapped }
+    ensures after { result.after.now ≡ after.now }
 {
     ExtractRequest {
         grammar: flags_of(matches).grammar(),
         first: is_set(matches, FIRST_ENTRY),
         ranges: is_set(matches, RANGES),
         mapped: is_set(matches, MAPPED),
+        after,
     }
 }
 
 /// Reads the texts of these names, and returns whether they may be as they are. If that fails, it is reported, and the
 /// error is the exit status.
-fn read_texts(
+fn read_texts<'a>(
     rt: &HostRuntime,
-    extraction: Extraction,
+    extraction: Extraction<'a>,
     names: &[&str],
     reports: Reports,
-) -> Result<(Extraction, bool), u8>
+) -> Result<(Extraction<'a>, bool), u8>
     ensures { IfErr result (λ status. status ≡ 2) }
 {
     let mut lists = Lists::new(extraction, reports);
@@ -97,7 +101,11 @@ pub fn extract_entries(rt: &HostRuntime, matches: &ArgMatches, writers: &mut Wri
     if reads_input_twice(names) {
         return report_argument_failure(rt, ArgumentFailure::InputTwice);
     }
-    let Ok(extraction) = Extraction::new(rt.alloc(), request_of(matches)) else {
+    let request = match after_or_report(rt, matches) {
+        Ok(after) => request_of(matches, after),
+        Err(status) => return status,
+    };
+    let Ok(extraction) = Extraction::new(rt.alloc(), request) else {
         return report_argument_failure(rt, ArgumentFailure::Memory);
     };
     match read_texts(rt, extraction, names, writers.reports) {

@@ -77,7 +77,7 @@ fn report_number(rt: &HostRuntime, word: &str) -> u8
 
 /// Reads the number of the option, or `None` if it is omitted. If the word is not a number, it is reported, and the
 /// error is the exit status.
-fn number_of(rt: &HostRuntime, matches: &ArgMatches, id: &str) -> Result<Option<u32>, u8>
+pub fn number_of(rt: &HostRuntime, matches: &ArgMatches, id: &str) -> Result<Option<u32>, u8>
     ensures number { IfOk result (IsNumberGiven matches.now id.now) }
     ensures failed { IfErr result (λ status. status ≡ 2) }
 {

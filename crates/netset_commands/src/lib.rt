@@ -1,6 +1,7 @@
 //! The commands of the program `netset`: what arguments mean, and the run of each command.
 #![tactic(auto)]
 
+mod after;
 mod apply;
 mod arguments;
 mod bar;
@@ -28,6 +29,7 @@ mod rules;
 mod select;
 mod shorten;
 mod table;
+mod tally;
 mod texts;
 mod whole_lines;
 mod without;

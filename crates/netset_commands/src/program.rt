@@ -88,6 +88,8 @@ use crate::select::SELECT;
 use crate::select::select_entries;
 use crate::shorten::SHORTEN;
 use crate::shorten::shorten_table;
+use crate::tally::TALLY;
+use crate::tally::tally_log;
 use crate::texts::has_all_flag;
 use crate::texts::has_text_flag;
 use crate::texts::route_all;
@@ -209,6 +211,7 @@ fn run_command(rt: &HostRuntime, name: &str, matches: &ArgMatches, writers: &mut
         APPLY => apply_changes(rt, matches, writers),
         EXTRACT => extract_entries(rt, matches, writers),
         FILTER => run_filter(rt, matches, writers),
+        TALLY => tally_log(rt, matches, writers),
         ROUTE => run_route(rt, matches, writers),
         PLAN => plan_networks(rt, matches, writers),
         BAR => draw_bar(rt, matches, writers),

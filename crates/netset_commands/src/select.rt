@@ -160,7 +160,7 @@ pub fn length_of(rt: &HostRuntime, matches: &ArgMatches, id: &str) -> Result<Opt
 }
 
 /// Refuses a prefix length above the greatest of its family. It is reported, and the error is the exit status.
-fn check_length(rt: &HostRuntime, length: Option<u8>, greatest: u8) -> Result<(), u8>
+pub fn check_length(rt: &HostRuntime, length: Option<u8>, greatest: u8) -> Result<(), u8>
     ensures within { IsOk result ↔ IsAtMost greatest length }
     ensures failed { IfErr result (λ status. status ≡ 2) }
 {

@@ -8,6 +8,7 @@ ghost use Rattle.netset_lib.specs.Commands.{grammar_of, side_of};
 ghost use Rattle.netset_lib.specs.Reports.{named_line};
 ghost use Rattle.netset_lib.specs.declared.command.Flags.{Flags};
 
+use crate::after::{AFTER_OPTION, after_or_report};
 use crate::arguments::{FIRST, MAPPED, OTHERS, flags_of, is_set};
 use crate::except::EXCEPT;
 use crate::named_lists::{last_name, name_of_list};
@@ -63,15 +64,21 @@ pub const LINE_FLAGS: &[Argument] = &[
         needs: &[LINES],
         ..ARGUMENT
     },
+    Argument {
+        help: "With --lines: read only what follows the first TEXT in a line; without TEXT, a line has no entry",
+        needs: &[LINES],
+        ..AFTER_OPTION
+    },
 ];
 
-/// Which lines the flags choose.
-fn lines_request(matches: &ArgMatches) -> LinesRequest
+/// Which lines the flags choose. The entries after this text count.
+fn lines_request<'a>(matches: &ArgMatches, after: &'a [u8]) -> LinesRequest<'a>
     ensures flags { (flags : Flags) × AreFlags matches.now flags
         × (result.grammar ≡ grammar_of flags.legacy) × (result.side ≡ side_of flags.outside) }
     ensures any { IsFlag matches.now (codes "any") result.any }
     ensures others { IsFlag matches.now (codes "other-lines") result.others }
     ensures mapped { IsFlag matches.now (codes "mapped") result.mapped }
+    ensures after { result.after.now ≡ after.now }
 {
     let flags = flags_of(matches);
     LinesRequest {
@@ -80,6 +87,7 @@ fn lines_request(matches: &ArgMatches) -> LinesRequest
         any: is_set(matches, ANY),
         others: is_set(matches, OTHER_LINES),
         mapped: is_set(matches, MAPPED),
+        after,
     }
 }
 
@@ -106,7 +114,10 @@ fn read_kept_set<'a>(
 pub fn filter_lines(rt: &HostRuntime, matches: &ArgMatches, writers: &mut Writers<'_>) -> u8
     ensures { result ≤ 2 }
 {
-    let how = lines_request(matches);
+    let how = match after_or_report(rt, matches) {
+        Ok(after) => lines_request(matches, after),
+        Err(status) => return status,
+    };
     let (set, names) = match read_kept_set(rt, matches, writers) {
         Ok(read) => read,
         Err(status) => return status,
@@ -137,7 +148,7 @@ fn end_log<X: Write>(is_utf16: bool, log: &str, status: u8, faults: &mut Watched
 /// Opens the log of this name, prints its lines, and returns the exit status. A text of UTF-16 is refused.
 fn filter_named(
     rt: &HostRuntime,
-    filter: LineFilter,
+    filter: LineFilter<'_>,
     names: &[&str],
     log: &str,
     writers: &mut Writers<'_>,

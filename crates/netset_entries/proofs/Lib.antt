@@ -27,3 +27,4 @@ pub mod ReadingLaws
 pub mod LengthLaws
 pub mod PairLineLaws
 pub mod ShareLineLaws
+pub mod NumberLaws

@@ -23,3 +23,4 @@ pub mod Choices
 pub mod Selections
 pub mod SelectSteps
 pub mod Shares
+pub mod EntryNumbers

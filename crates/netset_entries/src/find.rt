@@ -88,7 +88,7 @@ fn ends_within(entry: Entry, other: Entry) -> bool
 }
 
 /// Returns whether all addresses of the entry are addresses of the other. An entry without an address is inside each.
-fn is_inside(entry: Entry, other: Entry) -> bool
+pub(crate) fn is_inside(entry: Entry, other: Entry) -> bool
     ensures { IsTrue result
         ↔ ((x : Address) → IsInRange (entry_range entry) x → IsInRange (entry_range other) x) }
 {

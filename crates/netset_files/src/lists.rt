@@ -71,7 +71,7 @@ impl ListReader for SetReader {
     }
 }
 
-impl ListReader for Extraction {
+impl<'a> ListReader for Extraction<'a> {
     type List = ();
 
     ghost use Rattle.netset_files.specs.ListReads.{ExtractsNext};
@@ -83,7 +83,7 @@ impl ListReader for Extraction {
 
     ghost reads = { λ left left_after old _ new. ExtractsNext left left_after old new };
 
-    fn read<R: Read>(self, input: &mut R) -> Result<(Extraction, ()), ReadFailure> {
+    fn read<R: Read>(self, input: &mut R) -> Result<(Extraction<'a>, ()), ReadFailure> {
         let mut extraction = self;
         Extraction::read(&mut extraction, input)?;
         Ok((extraction, ()))

@@ -20,6 +20,7 @@ use Rattle.netset_words.specs.declared.word_reader.WordReader.{WordReader}
 use Rattle.netset_words.specs.Extracts.{WordRefusal, AreLineExtracts, IsExtract, AreExtracts}
 use Rattle.netset_words.specs.Extracts.{text_of_texts, IsExtractAnswer, HasNul, mask_refusals}
 use Rattle.netset_words.specs.Items.{Item, AreItems, entry_texts, mask_texts, wanted}
+use Rattle.netset_words.specs.Parts.{IsPartAfter}
 use Rattle.netset_words.specs.Words.{words_of}
 use Rattle.netset_words.specs.ExtractSteps.{ReadsWords, IsAtFirstLine}
 use Rattle.netset_words.specs.ExtractSteps.{TakesBytes, IsLineUpTo}
@@ -274,13 +275,13 @@ some_wanted true (e ∷ es) = refl
 some_wanted false es = refl
 
 -- another line, whose items were read
-pub word_line : (old new : WordReader) (line : List ℕ) (items : List Item) (state : LineState) → IsNextLine old new
-    → ¬ (HasNul line) → AreItems old.request (words_of line) items
+pub word_line : (old new : WordReader) (line part : List ℕ) (items : List Item) (state : LineState) → IsNextLine old new
+    → ¬ (HasNul line) → IsPartAfter old.request.after.now line part → AreItems old.request (words_of part) items
     → IsLineUpTo old.request old.answer.items items new.answer.items state
     → new.has_entry ≡ (old.has_entry || state.has_entry)
     → HasMore old.refused new.refused (mask_refusals old.list (old.line + 1) (mask_texts items))
     → ReadsWords old new (line ∷ [])
-word_line old new line items state at no_nul are up_to noted added =
+word_line old new line part items state at no_nul is_part are up_to noted added =
     let first = old.request.first in
     let found = wanted first (entry_texts items) in
     let masks = mask_refusals old.list (old.line + 1) (mask_texts items) in
@@ -294,7 +295,15 @@ word_line old new line items state at no_nul are up_to noted added =
         [],
         masks,
         [],
-        inr (record { no_nul = no_nul; items = items; are = are; found = refl; refused = refl }),
+        inr (record {
+          no_nul = no_nul;
+          part = part;
+          read = is_part;
+          items = items;
+          are = are;
+          found = refl;
+          refused = refl;
+        }),
         (refl, refl),
         sym (append-nil found),
         sym (append-nil masks),

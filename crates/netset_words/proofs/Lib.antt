@@ -1,6 +1,7 @@
 -- Lemmas of this crate.
 pub mod Cases
 pub mod WordLaws
+pub mod PartLaws
 pub mod MappedLaws
 pub mod PlaceLaws
 pub mod PlaceBytes
@@ -20,3 +21,7 @@ pub mod LogBytes
 pub mod LogReading
 pub mod LogParts
 pub mod LogRuns
+pub mod TallyLaws
+pub mod TallyReading
+pub mod TallyTexts
+pub mod TallyNetworks

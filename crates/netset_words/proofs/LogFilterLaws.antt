@@ -19,11 +19,11 @@ use Rattle.netset_words.specs.declared.log_line.Verdict.TheVariants as Verdicts
 use Rattle.netset_words.specs.declared.refused_word.WordCause.TheVariants as Causes
 use Rattle.ipnet_lists.specs.RefusedLines.{HasMore, AreRefused}
 use Rattle.netset_words.specs.LogLines.{LogResult, no_result, joined, IsShortLine, IsLogLine, AreLogLines}
-use Rattle.netset_words.specs.LogLines.{IsVerdict, treated, treated_front, is_printed, report_of, result_of, front_of}
-use Rattle.netset_words.specs.LogLines.{has_none}
+use Rattle.netset_words.specs.LogLines.{IsLineVerdict, treated, treated_front, is_printed, report_of, result_of}
+use Rattle.netset_words.specs.LogLines.{front_of, has_none}
 use Rattle.netset_words.specs.LogSteps.{AddsResult, rest_of, after_front}
 use Rattle.netset_words.specs.FilterSteps.{IsFilterUpTo}
-use Rattle.netset_words.specs.Words.{cuts, words_of}
+use Rattle.netset_words.specs.Words.{cuts}
 use Rattle.ipnet_lists.proofs.RefusalLaws.{more_refused}
 
 -- ---- results
@@ -107,7 +107,7 @@ same_report number line cur Treatments.Undecided is =
 
 -- a whole line was read
 pub line_read : (how : LinesRequest) (InSet : Address → Type 0) (old new : LineAnswers) (line : List ℕ) (v : Verdict)
-    (t : Treatment) (printed : Bool) → length line ≤ 1048576 → IsVerdict how InSet (words_of line) v
+    (t : Treatment) (printed : Bool) → length line ≤ 1048576 → IsLineVerdict how InSet line v
     → t ≡ treated how.others v
     → new.text.items ≡ old.text.items ++ (if is_printed t then line ++ 10 ∷ [] else []) → printed ≡ is_printed t
     → new.printed ≡ (old.printed || printed) → new.nones ≡ old.nones + has_none v → (number : ℕ)
@@ -192,7 +192,8 @@ module _ (how : LinesRequest) (chosen : IpSet) (written : List ℕ) (least : ℕ
                 long = omega (arith, d.long, length-append cur piece);
                 none = front ∙ d.none;
                 verdict = d.verdict;
-                right = rw (same_front cur piece (omega (arith, d.long))) d.right;
+                right = subst (λ z. IsLineVerdict how (IsMember chosen) z d.verdict)
+                    (sym (same_front cur piece (omega (arith, d.long)))) d.right;
                 rest_is = rest ∙ d.rest_is;
                 is = refl;
               });
@@ -216,8 +217,8 @@ module _ (how : LinesRequest) (chosen : IpSet) (written : List ℕ) (least : ℕ
   -- a line gets longer than 1 MiB
   pub front_passed : (last more : List ℕ) (verdict : Verdict) → IsSameFilter old new → piece ≡ last ++ more
       → length (old.front.items ++ last) ≡ 1048576 → 0 < length more
-      → IsVerdict how (IsMember chosen) (words_of (take (length (old.front.items ++ last)
-      - suffix_len (λ b. not (cuts b)) (old.front.items ++ last)) (old.front.items ++ last))) verdict
+      → IsLineVerdict how (IsMember chosen) (take (length (old.front.items ++ last)
+      - suffix_len (λ b. not (cuts b)) (old.front.items ++ last)) (old.front.items ++ last)) verdict
       → new.answers.text.items ≡ old.answers.text.items
       ++ (if is_printed (treated_front how.any how.others verdict) then (old.front.items ++ last) ++ more else [])
       → new.answers.printed ≡ (old.answers.printed || is_printed (treated_front how.any how.others verdict))
@@ -254,8 +255,8 @@ module _ (how : LinesRequest) (chosen : IpSet) (written : List ℕ) (least : ℕ
                 long = long;
                 none = front;
                 verdict = verdict;
-                right = subst (λ z. IsVerdict how (IsMember chosen)
-                    (words_of (take (length z - suffix_len (λ b. not (cuts b)) z) z)) verdict)
+                right = subst (λ z. IsLineVerdict how (IsMember chosen)
+                    (take (length z - suffix_len (λ b. not (cuts b)) z) z) verdict)
                     (sym front_is) right;
                 rest_is = rest;
                 is = refl;
@@ -410,7 +411,7 @@ pub front_read : (how : LinesRequest) (chosen : IpSet) (written : List ℕ) (lea
     → IsSameFilter old new → last ≡ take k piece → more ≡ drop k piece → k + length old.front.items ≡ 1048576
     → 1048576 < length old.front.items + length piece → front ≡ old.front.items ++ last
     → n ≡ length front - suffix_len (λ b. not (cuts b)) front
-    → IsVerdict old.request (IsMember old.set) (words_of (take n front)) verdict
+    → IsLineVerdict old.request (IsMember old.set) (take n front) verdict
     → t ≡ treated_front old.request.any old.request.others verdict
     → new.answers.text.items ≡ old.answers.text.items ++ (if is_printed t then front ++ more else [])
     → printed ≡ is_printed t → new.answers.printed ≡ (old.answers.printed || printed)
@@ -428,11 +429,11 @@ front_read how chosen written least lines cur piece old new h last more front k 
     front_passed how chosen written least lines cur piece old new h last more verdict same
     (sym (take-append-drop k piece) ∙ ap (λ z. z ++ drop k piece) (sym last_is) ∙ ap (λ z. last ++ z) (sym more_is))
     (length-append old.front.items last ∙ omega (arith, room, last_len)) (omega (arith, room, long, more_len))
-    (subst (λ z. IsVerdict how (IsMember chosen)
-    (words_of (take (length z - suffix_len (λ b. not (cuts b)) z) z)) verdict) front_is
-    (subst (λ m. IsVerdict how (IsMember chosen) (words_of (take m front)) verdict) n_is
-    (subst (λ q. IsVerdict q (IsMember chosen) (words_of (take n front)) verdict) h.same_request
-    (subst (λ q. IsVerdict old.request (IsMember q) (words_of (take n front)) verdict) h.same_set right))))
+    (subst (λ z. IsLineVerdict how (IsMember chosen)
+    (take (length z - suffix_len (λ b. not (cuts b)) z) z) verdict) front_is
+    (subst (λ m. IsLineVerdict how (IsMember chosen) (take m front) verdict) n_is
+    (subst (λ q. IsLineVerdict q (IsMember chosen) (take n front) verdict) h.same_request
+    (subst (λ q. IsLineVerdict old.request (IsMember q) (take n front) verdict) h.same_set right))))
     (text ∙ ap (λ z. old.answers.text.items ++ (if is_printed z then front ++ more else [])) t_is
     ∙ ap (λ z. old.answers.text.items ++ (if is_printed treatment then z ++ more else [])) front_is)
     (any ∙ ap (λ z. old.answers.printed || z) (shown ∙ ap is_printed t_is)) nones

@@ -7,7 +7,7 @@ use Rattle.netset_words.specs.declared.log_line.Verdict.{Verdict}
 use Rattle.netset_words.specs.declared.log_line.Verdict.TheVariants as Verdicts
 use Rattle.netset_words.specs.LogEntries.{IsNoEntryWord}
 use Rattle.netset_words.specs.LogLines.{IsInsideWord, IsOutsideWord, IsOfFirst, IsOfOne, AreChosen, AreNotChosen}
-use Rattle.netset_words.specs.LogLines.{IsVerdict, IsLogLine, AreLogLines, LogResult}
+use Rattle.netset_words.specs.LogLines.{IsVerdict, IsLineVerdict, IsLogLine, AreLogLines, LogResult}
 use Rattle.netset_words.specs.Words.{Word}
 
 module _ (how : LinesRequest) (P Q : Address → Type 0) (same : (x : Address) → IsAddress x → P x ↔ Q x) where
@@ -52,11 +52,14 @@ module _ (how : LinesRequest) (P Q : Address → Type 0) (same : (x : Address) �
   verdict words Verdicts.Other h = not_chosen how.any words h
   verdict words Verdicts.NoEntry h = h
 
+  line_verdict : (line : List ℕ) (v : Verdict) → IsLineVerdict how P line v → IsLineVerdict how Q line v
+  line_verdict line v (part, read, right) = (part, read, verdict _ v right)
+
   one_line : (n : ℕ) (line : List ℕ) (r : LogResult) → IsLogLine how P n line r → IsLogLine how Q n line r
   one_line n line r (inl h) =
-      inl record { short = h.short; verdict = h.verdict; right = verdict _ h.verdict h.right; is = h.is }
+      inl record { short = h.short; verdict = h.verdict; right = line_verdict _ h.verdict h.right; is = h.is }
   one_line n line r (inr h) =
-      inr record { long = h.long; verdict = h.verdict; right = verdict _ h.verdict h.right; is = h.is }
+      inr record { long = h.long; verdict = h.verdict; right = line_verdict _ h.verdict h.right; is = h.is }
 
   pub same_lines : (n : ℕ) (lines : List (List ℕ)) (r : LogResult) → AreLogLines how P n lines r
       → AreLogLines how Q n lines r

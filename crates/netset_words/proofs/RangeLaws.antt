@@ -1,5 +1,5 @@
 -- Ranges with blanks.
-use Rattle.std.proofs.Common.{◌≡◌, ℕ, Bool, not, true, false, List, ◌∷◌, refl}
+use Rattle.std.proofs.Common.{◌≡◌, ℕ, true, List, ◌∷◌, refl}
 use Rattle.std.proofs.Common.{sym, ap, ◌∙◌, subst, codes}
 use Rattle.ipnet_lists.specs.Entries.{IsNoEntry}
 use Rattle.netset_words.specs.declared.item.ExtractRequest.{ExtractRequest}
@@ -14,10 +14,6 @@ pub no_range : (how : ExtractRequest) (first dash last : Word) (words others mor
 no_range how first dash last words others more is next none h =
     let all : words ≡ dash ∷ last ∷ more = is ∙ ap (λ z. dash ∷ z) next in
     let (ranges, same, (range, entry)) = subst (BeginsRange how first) all h in none range entry
-
-pub is_wanted : (flag : Bool) → not flag ≡ false → flag ≡ true
-is_wanted true e = refl
-is_wanted false e = absurd cc
 
 -- they are
 pub range_item : (how : ExtractRequest) (first dash last : Word) (words others more : List Word) (text : List ℕ)

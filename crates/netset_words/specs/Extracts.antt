@@ -7,6 +7,7 @@ use Rattle.netset_words.specs.declared.item.ExtractRequest.{ExtractRequest}
 use Rattle.netset_words.specs.declared.refused_word.WordCause.{WordCause}
 use Rattle.netset_words.specs.declared.refused_word.WordCause.TheVariants.{NulByte, Netmask}
 use Rattle.netset_words.specs.Items.{Item, AreItems, entry_texts, mask_texts, wanted}
+use Rattle.netset_words.specs.Parts.{IsPartAfter}
 use Rattle.netset_words.specs.Words.{words_of}
 
 -- A refused line: the index of its text from 0, its line number from 1, the part of it that is refused, and why.
@@ -29,13 +30,17 @@ abbrev pub mask_refusals : (list number : ℕ) → List (List ℕ) → List Word
 mask_refusals list number [] = []
 mask_refusals list number (mask ∷ masks) = record { list = list; number = number; text = mask; cause = Netmask } ∷ []
 
--- The line with this number has no NUL byte. Its wanted entries are these, and it is refused if it has a netmask.
--- Example: `10.0.0.0/8 10.1.0.0/16` has two entries; `ip route 10.0.0.0 255.0.0.0` is refused for `255.0.0.0`.
+-- The line with this number has no NUL byte. The wanted entries of the part that is read are these, and the line is
+-- refused if that part has a netmask.
+-- Example: `10.0.0.0/8 10.1.0.0/16` has two entries, and one after `8`; `ip route 10.0.0.0 255.0.0.0` is refused for
+-- `255.0.0.0`.
 pub record IsWordLine (how : ExtractRequest) (list number : ℕ) (line : List ℕ) (entries : List (List ℕ))
     (refusals : List WordRefusal) : Type 0 where
   pub no_nul : ¬ (HasNul line)
+  pub part : List ℕ
+  pub read : IsPartAfter how.after.now line part
   pub items : List Item
-  pub are : AreItems how (words_of line) items
+  pub are : AreItems how (words_of part) items
   pub found : entries ≡ wanted how.first (entry_texts items)
   pub refused : refusals ≡ mask_refusals list number (mask_texts items)
 

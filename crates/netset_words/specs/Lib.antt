@@ -1,5 +1,6 @@
 -- The definitions that the contracts of this crate use.
 pub mod Words
+pub mod Parts
 pub mod Places
 pub mod Items
 pub mod Extracts
@@ -14,3 +15,5 @@ pub mod FilterSteps
 pub mod Logs
 pub mod WordReports
 pub mod LogReports
+pub mod Tallies
+pub mod TallySteps

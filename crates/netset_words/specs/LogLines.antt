@@ -16,6 +16,7 @@ use Rattle.netset_words.specs.declared.log_line.Treatment.TheVariants as Treatme
 use Rattle.netset_words.specs.declared.refused_word.WordCause.TheVariants as Causes
 use Rattle.netset_words.specs.Extracts.{WordRefusal}
 use Rattle.netset_words.specs.LogEntries.{IsLogEntry, IsNoEntryWord}
+use Rattle.netset_words.specs.Parts.{IsPartAfter}
 use Rattle.netset_words.specs.Words.{Word, cuts, words_of}
 
 -- Every address of the range is in the set.
@@ -64,6 +65,13 @@ abbrev pub IsVerdict : LinesRequest → (Address → Type 0) → List Word → V
 IsVerdict how InSet words Verdicts.Chosen = AreChosen how.any how InSet words
 IsVerdict how InSet words Verdicts.Other = AreNotChosen how.any how InSet words
 IsVerdict how InSet words Verdicts.NoEntry = All (IsNoEntryWord how.grammar) words
+
+-- The verdict on a line: on the words of the part that is read.
+-- Example: with the set 10.0.0.0/8 and after `DST=`, `SRC=10.0.0.1 DST=::1` is not chosen, and `10.0.0.1` has no
+-- entry.
+abbrev pub IsLineVerdict : LinesRequest → (Address → Type 0) → List ℕ → Verdict → Type 0
+IsLineVerdict how InSet line verdict =
+    (part : List ℕ) × IsPartAfter how.after.now line part × IsVerdict how InSet (words_of part) verdict
 
 -- At most this number of bytes of a line are kept: 1 MiB.
 abbrev pub most_front : ℕ
@@ -140,20 +148,20 @@ result_of number nones line text t = record {
   undecided = report_of number line t;
 }
 
--- A line of at most 1 MiB, which is decided by all of its words.
+-- A line of at most 1 MiB, which is decided as a whole.
 pub record IsShortLine (how : LinesRequest) (InSet : Address → Type 0) (number : ℕ) (line : List ℕ)
     (result : LogResult) : Type 0 where
   pub short : length line ≤ most_front
   pub verdict : Verdict
-  pub right : IsVerdict how InSet (words_of line) verdict
+  pub right : IsLineVerdict how InSet line verdict
   pub is : result ≡ result_of number (has_none verdict) line (line ++ 10 ∷ []) (treated how.others verdict)
 
--- A longer line, which is decided by the words of its front.
+-- A longer line, which is decided by its front.
 pub record IsLongLine (how : LinesRequest) (InSet : Address → Type 0) (number : ℕ) (line : List ℕ)
     (result : LogResult) : Type 0 where
   pub long : most_front < length line
   pub verdict : Verdict
-  pub right : IsVerdict how InSet (words_of (front_of line)) verdict
+  pub right : IsLineVerdict how InSet (front_of line) verdict
   pub is : result ≡ result_of number 0 line (line ++ 10 ∷ []) (treated_front how.any how.others verdict)
 
 -- The result of the line with this number.

@@ -12,7 +12,7 @@ use Rattle.netset_words.specs.declared.log_line.Treatment.{Treatment}
 use Rattle.netset_words.specs.declared.log_line.Treatment.TheVariants as Treatments
 use Rattle.netset_words.specs.declared.log_line.Verdict.{Verdict}
 use Rattle.netset_words.specs.LogEntries.{IsLogEntry, IsNoEntryWord}
-use Rattle.netset_words.specs.LogLines.{IsVerdict, LogResult, most_front, front_of, result_of, no_result}
+use Rattle.netset_words.specs.LogLines.{IsLineVerdict, LogResult, most_front, front_of, result_of, no_result}
 use Rattle.netset_words.specs.LogLines.{treated_front}
 use Rattle.netset_words.specs.Words.{Word, words_of}
 
@@ -49,7 +49,7 @@ pub record IsDecidedLine (how : LinesRequest) (InSet : Address → Type 0) (numb
   pub long : most_front < length cur
   pub none : front ≡ []
   pub verdict : Verdict
-  pub right : IsVerdict how InSet (words_of (front_of cur)) verdict
+  pub right : IsLineVerdict how InSet (front_of cur) verdict
   pub rest_is : rest ≡ rest_of (treated_front how.any how.others verdict)
   pub is : partial ≡ result_of number 0 cur cur (treated_front how.any how.others verdict)
 

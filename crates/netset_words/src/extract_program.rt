@@ -22,7 +22,7 @@ use crate::extraction::Extraction;
 use crate::refused_word::RefusedWords;
 use netset_lib::TextCommand;
 
-impl TextCommand for Extraction {
+impl<'a> TextCommand for Extraction<'a> {
     type Text = Vec<u8>;
 
     type Failure = RefusedWords;

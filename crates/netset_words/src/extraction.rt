@@ -21,11 +21,11 @@ use std::io::Read;
 /// new(the first of each line), read("allow 10.0.0.0/9;\n"), read("::1 ::2"): the answer is "10.0.0.0/9\n::1\n"
 /// ```
 #[derive(Drop)]
-pub struct Extraction {
+pub struct Extraction<'a> {
     window: Window,
     /// The front of a line that is not complete.
     carry: Vec<u8>,
-    pub(crate) words: WordReader,
+    pub(crate) words: WordReader<'a>,
     /// Whether a text could not be read.
     pub(crate) is_broken: bool,
 }
@@ -33,7 +33,7 @@ pub struct Extraction {
 /// Reads the lines of the bytes in `carry` and of complete lines that follow, and empties `carry`. If no line follows,
 /// and more bytes may come, it does nothing.
 fn read_front(
-    words: &mut WordReader,
+    words: &mut WordReader<'_>,
     carry: &mut Vec<u8>,
     front: &[u8],
     more: bool,
@@ -53,13 +53,13 @@ fn read_front(
     Ok(())
 }
 
-impl Extraction {
+impl<'a> Extraction<'a> {
     ghost use Rattle.netset_words.specs.ExtractSteps.{TakesBytes, IsAtFirstLine};
     ghost use Rattle.netset_words.specs.Extractions.{WereExtracted, IsBroken, IsNoted, has_entry, refused_count};
 
     /// Returns an extraction that has read no text. Fails if memory runs out.
-    pub fn new(alloc: Global, request: ExtractRequest) -> Result<Extraction, AllocError>
-        ensures { IfOk result (WereExtracted request []) }
+    pub fn new(alloc: Global, request: ExtractRequest<'a>) -> Result<Extraction<'a>, AllocError>
+        ensures { IfOk result (WereExtracted request.entry []) }
     {
         Ok(Extraction {
             window: Window::new(alloc)?,
@@ -134,9 +134,9 @@ impl Extraction {
     ///
     /// A byte order mark at the start is skipped. Words are cut at spaces, tabs, line ends, vertical tabs, form feeds,
     /// and at `"`, `#`, `%`, `&`, `'`, `(`, `)`, `,`, `;`, `<`, `=`, `>`, `?`, `[`, a backslash, `]`, a backquote, `{`,
-    /// `|` and `}`. The entry in a word counts; `specs/Places` says what may be before and after it. An IPv4 netmask of
-    /// length 1 to 31 is refused with its line. So is a line with a NUL byte. A refused line is not an error here: the
-    /// command `extract` reports it.
+    /// `|` and `}`. With a text `after`, only what follows its first occurrence in a line is read. The entry in a word
+    /// counts; `specs/Places` says what may be before and after it. An IPv4 netmask of length 1 to 31 is refused with
+    /// its line. So is a line with a NUL byte. A refused line is not an error here: the command `extract` reports it.
     ///
     /// The error is `Unreadable` if a read fails, now or in a call before, and `Memory` if memory runs out.
     pub fn read<R: Read>(&mut self, input: &mut R) -> Result<(), ReadFailure>

@@ -17,7 +17,7 @@ use ipnet_lists::{Entry, is_netmask, read_text};
 
 /// The entries to extract from texts.
 #[derive(Clone, Copy, Debug, PartialEq, Eq)]
-pub struct ExtractRequest {
+pub struct ExtractRequest<'a> {
     /// The grammar of the entries.
     pub grammar: Grammar,
     /// Whether only the first entry of each line is wanted.
@@ -26,6 +26,8 @@ pub struct ExtractRequest {
     pub ranges: bool,
     /// Whether an IPv4-mapped address is the IPv4 address.
     pub mapped: bool,
+    /// The text after which the entries of a line count. If it is empty, all of them count.
+    pub after: &'a [u8],
 }
 
 /// The kind of a part of a line.
@@ -73,9 +75,9 @@ fn is_mask_entry(entry: Entry) -> bool
 }
 
 /// Returns the item that a place is.
-fn place_item<'a>(place: Place<'a>, request: ExtractRequest, after: &'a [u8]) -> LineItem<'a>
-    ensures item { (w : Word) → IsFound request.grammar (IsPlace request.grammar w) place.entry
-        → IsItemOf request w (item_of result).kind (item_of result).text }
+fn place_item<'a>(place: Place<'a>, request: ExtractRequest<'_>, after: &'a [u8]) -> LineItem<'a>
+    ensures item { (w : Word) → IsFound request.entry.grammar (IsPlace request.entry.grammar w) place.entry
+        → IsItemOf request.entry w (item_of result).kind (item_of result).text }
     ensures after { result.after.now ≡ after.now }
 {
     if is_mask_entry(place.entry) {
@@ -95,8 +97,8 @@ fn place_item<'a>(place: Place<'a>, request: ExtractRequest, after: &'a [u8]) ->
 }
 
 /// Returns the item that the word is.
-fn word_item<'a>(word: NextWord<'a>, request: ExtractRequest) -> LineItem<'a>
-    ensures item { IsItemOf request (word_of word.entry) (item_of result).kind (item_of result).text }
+fn word_item<'a>(word: NextWord<'a>, request: ExtractRequest<'_>) -> LineItem<'a>
+    ensures item { IsItemOf request.entry (word_of word.entry) (item_of result).kind (item_of result).text }
     ensures after { result.after.now ≡ word.entry.after.now }
 {
     match read_place(word, request.grammar) {
@@ -114,12 +116,12 @@ fn word_item<'a>(word: NextWord<'a>, request: ExtractRequest) -> LineItem<'a>
 fn range_at<'a>(
     bytes: &'a [u8],
     first: NextWord<'a>,
-    request: ExtractRequest,
+    request: ExtractRequest<'_>,
 ) -> Option<LineItem<'a>>
     requires { bytes.now ≡ first.before.now ++ (first.text.now ++ first.after.now) }
     ensures item { MatchOption result
-        (¬ (BeginsRange request (word_of first.entry) (words_of first.entry.after.now)))
-        (λ item. IsRangeItem request (word_of first.entry) (words_of first.entry.after.now) (item_of item)
+        (¬ (BeginsRange request.entry (word_of first.entry) (words_of first.entry.after.now)))
+        (λ item. IsRangeItem request.entry (word_of first.entry) (words_of first.entry.after.now) (item_of item)
         (words_of item.after.now)) }
     ensures shorter { IfSome result (λ item. length item.after.now < length first.entry.after.now) }
 {
@@ -151,9 +153,9 @@ fn range_at<'a>(
 }
 
 /// Returns the first item of the bytes, or `None` if they have no word.
-pub(crate) fn next_item<'a>(bytes: &'a [u8], request: ExtractRequest) -> Option<LineItem<'a>>
+pub(crate) fn next_item<'a>(bytes: &'a [u8], request: ExtractRequest<'_>) -> Option<LineItem<'a>>
     ensures item { MatchOption result (words_of bytes.now ≡ [])
-        (λ item. IsNextItem request (words_of bytes.now) (item_of item) (words_of item.after.now)) }
+        (λ item. IsNextItem request.entry (words_of bytes.now) (item_of item) (words_of item.after.now)) }
     ensures shorter { IfSome result (λ item. length item.after.now < length bytes.now) }
 {
     let Some(first) = next_word(bytes) else {

@@ -14,7 +14,7 @@ ghost use Rattle.netset_words.specs.LogSteps.{AddsResult, rest_of, after_front};
 ghost use Rattle.netset_words.specs.Words.{cuts};
 
 use crate::lines_request::LinesRequest;
-use crate::log_line::{Treatment, Verdict, front_treatment, verdict_on, whole_treatment};
+use crate::log_line::{Treatment, Verdict, front_treatment, line_verdict, whole_treatment};
 use crate::refused_word::{RefusedWords, WordCause};
 use crate::word::is_cut;
 use ipnet_lists::{RefusedPart, next_number};
@@ -117,15 +117,15 @@ impl LineAnswers {
     fn read_line(
         &mut self,
         set: &IpSet,
-        request: LinesRequest,
+        request: LinesRequest<'_>,
         line: &[u8],
     ) -> Result<(), AllocError>
         requires { length line.now ≤ 1048576 }
         ensures { OnOk result ((number : ℕ)
-            → ((r : LogResult) × IsShortLine request (IsMember set.now) number line.now r × (r.undecided ≡ [])
+            → ((r : LogResult) × IsShortLine request.entry (IsMember set.now) number line.now r × (r.undecided ≡ [])
             × AddsResult self.old self.new r)) }
     {
-        let verdict = verdict_on(set, request, line);
+        let verdict = line_verdict(set, request, line);
         self.nones = count_none(self.nones, verdict)?;
         let treatment = whole_treatment(request.others, verdict);
         let printed = print_line(&mut self.text, line, treatment)?;
@@ -196,13 +196,13 @@ fn report_front(
 /// Reads the lines of a log, and chooses those to print.
 ///
 /// A line is chosen if its first entry lies entirely inside a set, or entirely outside; with `any`, if any of its
-/// entries does. With `others`, the lines that are not chosen are printed. Entries are found as by `Extraction`. Here a
-/// netmask is an address. A line longer than 1 MiB is decided by the whole words of
-/// its first MiB.
+/// entries does. With `others`, the lines that are not chosen are printed. With a text `after`, only the entries after
+/// its first occurrence count. Entries are found as by `Extraction`. Here a netmask is an address. A line longer than
+/// 1 MiB is decided by the whole words of its first MiB.
 #[derive(Drop)]
-pub struct LineFilter {
+pub struct LineFilter<'a> {
     pub(crate) alloc: Global,
-    request: LinesRequest,
+    request: LinesRequest<'a>,
     set: IpSet,
     pub(crate) answers: LineAnswers,
     /// The front of a line, while it is kept.
@@ -214,7 +214,7 @@ pub struct LineFilter {
     ghost short: { length front.items ≤ 1048576 },
 }
 
-impl LineFilter {
+impl<'a> LineFilter<'a> {
     ghost use Rattle.ipnet_lists.specs.RefusedLines.{AreRefused};
     ghost use Rattle.netset_words.specs.Logs.{IsFilterFor};
     ghost use Rattle.netset_words.specs.FilterSteps.{IsFilterUpTo, IsLogUpTo, ReadsUpTo, GoesOn, EndsLine, ReadsEnd};
@@ -225,16 +225,20 @@ impl LineFilter {
     /// ```text
     /// by 10.0.0.0/8, with Side::Outside: entries that lie outside 10.0.0.0/8 choose a line
     /// ```
-    pub fn from_set(alloc: Global, set: IpSet, how: LinesRequest) -> Result<LineFilter, AllocError>
-        ensures { IfOk result (IsFilterFor how set) }
+    pub fn from_set(
+        alloc: Global,
+        set: IpSet,
+        how: LinesRequest<'a>,
+    ) -> Result<LineFilter<'a>, AllocError>
+        ensures { IfOk result (IsFilterFor how.entry set) }
     {
         let side = side_set(alloc, how.side, set)?;
         Ok(LineFilter::new(alloc, how, side))
     }
 
     /// A filter by this set that has read no line.
-    fn new(alloc: Global, request: LinesRequest, set: IpSet) -> LineFilter
-        ensures begun { IsLogUpTo request set [] 0 [] result }
+    fn new(alloc: Global, request: LinesRequest<'a>, set: IpSet) -> LineFilter<'a>
+        ensures begun { IsLogUpTo request.entry set [] 0 [] result }
         ensures set { result.set ≡ set }
         ensures undecided { AreRefused result.undecided [] }
     {
@@ -266,7 +270,7 @@ impl LineFilter {
         self.front.extend_from_slice(last)?;
         let front = self.front.as_slice();
         let whole = &front[..whole_len(front)];
-        let verdict = verdict_on(&self.set, self.request, whole);
+        let verdict = line_verdict(&self.set, self.request, whole);
         let treatment = front_treatment(self.request.any, self.request.others, verdict);
         let printed = print_front(&mut self.answers.text, front, more, treatment)?;
         self.answers.printed = self.answers.printed | printed;
@@ -382,7 +386,7 @@ impl LineFilter {
     }
 
     /// Reads the bytes up to the end of the first line, or all of them, and returns the others.
-    fn read_piece<'a>(&mut self, bytes: &'a [u8]) -> Result<&'a [u8], AllocError>
+    fn read_piece<'b>(&mut self, bytes: &'b [u8]) -> Result<&'b [u8], AllocError>
         requires { 0 < length bytes.now }
         ensures log { IfOk result (λ rest. ReadsUpTo self.old self.new bytes.now rest.now) }
         ensures shorter { IfOk result (λ rest. length rest.now < length bytes.now) }

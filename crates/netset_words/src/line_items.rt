@@ -46,13 +46,13 @@ fn push_item(answer: &mut Vec<u8>, item: LineItem<'_>) -> Result<(), AllocError>
 /// Reads an entry of a line, and appends it to the answer if it is wanted.
 fn read_entry_item<'a>(
     answer: &mut Vec<u8>,
-    request: ExtractRequest,
+    request: ExtractRequest<'_>,
     state: LineState<'a>,
     item: LineItem<'a>,
 ) -> Result<LineState<'a>, AllocError>
     ensures { IfOk result (λ after. (base : List ℕ) → (items : List Item)
-        → IsLineUpTo request base items answer.old.items state.entry
-        → IsLineUpTo request base (items ++ entry_item (shown_text item.entry.mapped item.entry.text.now) ∷ [])
+        → IsLineUpTo request.entry base items answer.old.items state.entry
+        → IsLineUpTo request.entry base (items ++ entry_item (shown_text item.entry.mapped item.entry.text.now) ∷ [])
         answer.new.items after) }
 {
     if request.first && state.has_entry {
@@ -83,13 +83,13 @@ fn read_mask_item<'a>(state: LineState<'a>, text: &'a [u8]) -> LineState<'a>
 /// Reads an item of a line: an entry is appended to the answer, if it is wanted.
 fn read_item<'a>(
     answer: &mut Vec<u8>,
-    request: ExtractRequest,
+    request: ExtractRequest<'_>,
     state: LineState<'a>,
     item: LineItem<'a>,
 ) -> Result<LineState<'a>, AllocError>
     ensures { IfOk result (λ after. (base : List ℕ) → (items : List Item)
-        → IsLineUpTo request base items answer.old.items state.entry
-        → IsLineUpTo request base (items ++ item_of item.entry ∷ []) answer.new.items after) }
+        → IsLineUpTo request.entry base items answer.old.items state.entry
+        → IsLineUpTo request.entry base (items ++ item_of item.entry ∷ []) answer.new.items after) }
 {
     match item.kind {
         Kind::Entry => read_entry_item(answer, request, state, item),
@@ -102,11 +102,11 @@ fn read_item<'a>(
 /// Fails if memory runs out.
 pub(crate) fn read_items<'a>(
     answer: &mut Vec<u8>,
-    request: ExtractRequest,
+    request: ExtractRequest<'_>,
     line: &'a [u8],
 ) -> Result<LineState<'a>, AllocError>
-    ensures { IfOk result (λ state. (items : List Item) × AreItems request (words_of line.now) items
-        × IsLineUpTo request answer.old.items items answer.new.items state) }
+    ensures { IfOk result (λ state. (items : List Item) × AreItems request.entry (words_of line.now) items
+        × IsLineUpTo request.entry answer.old.items items answer.new.items state) }
 {
     let mut state = LineState {
         has_entry: false,

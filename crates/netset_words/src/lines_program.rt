@@ -78,7 +78,7 @@ fn put<W: Write>(text: &mut Vec<u8>, out: &mut W) -> Result<(), LogFailure>
 }
 
 /// Reads bytes of a log, and its end if no more may come.
-fn take_bytes(filter: &mut LineFilter, bytes: &[u8], more: bool) -> Result<(), AllocError>
+fn take_bytes(filter: &mut LineFilter<'_>, bytes: &[u8], more: bool) -> Result<(), AllocError>
     ensures { OnOk result ((how : LinesRequest) → (set : IpSet) → (written : List ℕ) → (least : ℕ)
         → (before : List ℕ) → IsLogUpTo how set written least before filter.old
         → IsTaken more how set written least (before ++ bytes.now) filter.new) }
@@ -91,24 +91,24 @@ fn take_bytes(filter: &mut LineFilter, bytes: &[u8], more: bool) -> Result<(), A
 }
 
 /// Reads a log up to its end, and returns the filter.
-fn read_log<R: Read, W: Write, X: Write>(
-    filter: LineFilter,
+fn read_log<'a, R: Read, W: Write, X: Write>(
+    filter: LineFilter<'a>,
     names: &[&str],
     input: &mut R,
     out: &mut W,
     faults: &mut Watched<'_, X>,
-) -> Result<LineFilter, LogFailure>
+) -> Result<LineFilter<'a>, LogFailure>
     ensures whole { IfOk result (λ f. (how : LinesRequest) → (set : IpSet)
-        → IsLogUpTo how set [] 0 [] filter → IsStreamed how set (R.remaining input.old) (R.remaining input.new)
+        → IsLogUpTo how set [] 0 [] filter.entry → IsStreamed how set (R.remaining input.old) (R.remaining input.new)
         (W.contents out.old) (W.contents out.new) f) }
     ensures part { IfErr result (λ _. (how : LinesRequest) → (set : IpSet)
-        → IsLogUpTo how set [] 0 [] filter → IsFrontPrinted how (IsMember set) (R.remaining input.old)
+        → IsLogUpTo how set [] 0 [] filter.entry → IsFrontPrinted how (IsMember set) (R.remaining input.old)
         (W.contents out.old) (W.contents out.new)) }
     ensures appended { (text : List ℕ)
         × Appends (X.contents (writer_of faults.old)) (X.contents (writer_of faults.new)) text }
-    ensures told { IfOk result (λ f. ¬ (HasFailed faults.new) → AreToldSince ExplainsWord names.now filter.undecided
+    ensures told { IfOk result (λ f. ¬ (HasFailed faults.new) → AreToldSince ExplainsWord names.now filter.entry.undecided
         f.undecided (X.contents (writer_of faults.old)) (X.contents (writer_of faults.new))) }
-    ensures quiet { IfOk result (λ f. (how : LinesRequest) → (set : IpSet) → IsLogUpTo how set [] 0 [] filter
+    ensures quiet { IfOk result (λ f. (how : LinesRequest) → (set : IpSet) → IsLogUpTo how set [] 0 [] filter.entry
         → f.undecided.count ≡ 0 → Keeps (X.contents (writer_of faults.old)) (X.contents (writer_of faults.new))) }
 {
     let mut filter = filter;
@@ -139,27 +139,27 @@ fn read_log<R: Read, W: Write, X: Write>(
 /// by 10.0.0.0/8, of "10.0.0.1 GET /\n::1 GET /\nx\n": out gets "10.0.0.1 GET /\n"; printed, and one line has no entry
 /// ```
 pub fn filter_log<R: Read, W: Write, X: Write>(
-    filter: LineFilter,
+    filter: LineFilter<'_>,
     names: &[&str],
     input: &mut R,
     out: &mut W,
     faults: &mut Watched<'_, X>,
 ) -> Result<FilteredLog, LogFailure>
     ensures whole { IfOk result (λ log. (how : LinesRequest) → (set : IpSet)
-        → IsFilterFor how set filter
+        → IsFilterFor how set filter.entry
         → ((r : LogResult) × HasCounts log r × IsLogFiltered how set (R.remaining input.old)
         (R.remaining input.new) (W.contents out.old) (W.contents out.new) r)) }
     ensures part { IfErr result (λ _. (how : LinesRequest) → (set : IpSet)
-        → IsFilterFor how set filter → IsLogFilteredInPart how set (R.remaining input.old)
+        → IsFilterFor how set filter.entry → IsLogFilteredInPart how set (R.remaining input.old)
         (W.contents out.old) (W.contents out.new)) }
     ensures appended { (text : List ℕ)
         × Appends (X.contents (writer_of faults.old)) (X.contents (writer_of faults.new)) text }
     ensures told { IfOk result (λ log. (how : LinesRequest) → (set : IpSet)
-        → IsFilterFor how set filter → ¬ (HasFailed faults.new)
+        → IsFilterFor how set filter.entry → ¬ (HasFailed faults.new)
         → AreTold ExplainsWord names.now log.undecided.count
         (X.contents (writer_of faults.old)) (X.contents (writer_of faults.new))) }
     ensures quiet { IfOk result (λ log. (how : LinesRequest) → (set : IpSet)
-        → IsFilterFor how set filter → log.undecided.count ≡ 0
+        → IsFilterFor how set filter.entry → log.undecided.count ≡ 0
         → Keeps (X.contents (writer_of faults.old)) (X.contents (writer_of faults.new))) }
 {
     let LineFilter {
@@ -221,9 +221,13 @@ fn report_nones<X: Write>(faults: &mut Watched<'_, X>, name: &str, nones: usize)
     )
 }
 
-/// Reports the number of lines without an entry, if there are some. The report is whole, unless a write to `faults` has
-/// failed.
-fn end_nones<X: Write>(faults: &mut Watched<'_, X>, name: &str, nones: usize)
+/// Reports the number of lines of the log of this name that have no entry. Nothing is written if there is none. The
+/// report is whole, unless a write to `faults` has failed.
+///
+/// ```text
+/// of log, with 2: "netset: log: 2 lines without an entry\n"
+/// ```
+pub fn end_nones<X: Write>(faults: &mut Watched<'_, X>, name: &str, nones: usize)
     ensures none { nones ≡ 0 → Keeps (X.contents (writer_of faults.old)) (X.contents (writer_of faults.new)) }
     ensures reported { nones ≢ 0 → IsReportedAs (nones_line name.now nones)
         (X.contents (writer_of faults.old)) (X.contents (writer_of faults.new)) (¬ (HasFailed faults.new)) }
@@ -274,7 +278,7 @@ fn log_name<'a>(names: &[&'a str]) -> &'a str
 ///     "netset: log: 1 line without an entry\n"
 /// ```
 pub fn run_lines<R: Read, W: Write, X: Write>(
-    filter: LineFilter,
+    filter: LineFilter<'_>,
     names: &[&str],
     input: &mut R,
     out: &mut W,
@@ -282,7 +286,7 @@ pub fn run_lines<R: Read, W: Write, X: Write>(
 ) -> u8
     ensures status { result ≤ 2 }
     ensures filtered { result ≤ 1 → (how : LinesRequest) → (set : IpSet)
-        → IsFilterFor how set filter
+        → IsFilterFor how set filter.entry
         → ((r : LogResult) × (r.undecided ≡ []) × (r.printed ≡ (result == 0))
         × (r.nones ≡ 0 → Keeps (X.contents (writer_of faults.old)) (X.contents (writer_of faults.new)))
         × (r.nones ≢ 0 → IsReportedAs (nones_line (log_name names.now) r.nones)
@@ -290,12 +294,12 @@ pub fn run_lines<R: Read, W: Write, X: Write>(
         × IsLogFiltered how set (R.remaining input.old) (R.remaining input.new)
         (W.contents out.old) (W.contents out.new) r) }
     ensures cut_short { result ≡ 2 → (how : LinesRequest) → (set : IpSet)
-        → IsFilterFor how set filter
+        → IsFilterFor how set filter.entry
         → IsLogFilteredButSome how set (R.remaining input.old) (R.remaining input.new)
         (W.contents out.old) (W.contents out.new)
         ⊎ IsLogFilteredInPart how set (R.remaining input.old) (W.contents out.old) (W.contents out.new) }
     ensures reported { result ≡ 2 → (how : LinesRequest) → (set : IpSet)
-        → IsFilterFor how set filter
+        → IsFilterFor how set filter.entry
         → IsLogFilteredButSome how set (R.remaining input.old) (R.remaining input.new)
         (W.contents out.old) (W.contents out.new)
         ⊎ IsReportedLast (λ failure. IsWritten (λ t. t ≡ log_line failure names.now))

@@ -4,7 +4,7 @@ use netset_lib::Side;
 
 /// Which lines of a log are printed.
 #[derive(Clone, Copy, Debug, PartialEq, Eq)]
-pub struct LinesRequest {
+pub struct LinesRequest<'a> {
     /// The grammar of the entries.
     pub grammar: Grammar,
     /// Whether an entry has to lie inside the set or outside it.
@@ -15,4 +15,6 @@ pub struct LinesRequest {
     pub others: bool,
     /// Whether an IPv4-mapped address is the IPv4 address.
     pub mapped: bool,
+    /// The text after which the entries of a line count. If it is empty, all of them count.
+    pub after: &'a [u8],
 }

@@ -26,9 +26,9 @@ fn entry_as(mapped: bool, entry: Entry) -> Entry
 }
 
 /// Returns the entry that the word is in a log, or `None` if it is none.
-pub(crate) fn read_log_entry(word: NextWord<'_>, request: LinesRequest) -> Option<Entry>
-    ensures some { IfSome result (λ e. IsLogEntry request (word_of word.entry) (entry_range e)) }
-    ensures none { IfNone result (IsNoEntryWord request.grammar (word_of word.entry)) }
+pub(crate) fn read_log_entry(word: NextWord<'_>, request: LinesRequest<'_>) -> Option<Entry>
+    ensures some { IfSome result (λ e. IsLogEntry request.entry (word_of word.entry) (entry_range e)) }
+    ensures none { IfNone result (IsNoEntryWord request.entry.grammar (word_of word.entry)) }
 {
     match read_place(word, request.grammar) {
         Some(place) => Some(entry_as(request.mapped, place.entry)),

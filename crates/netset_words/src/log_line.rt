@@ -6,12 +6,13 @@ ghost use Rattle.netset_words.specs.declared.lines_request.LinesRequest.{LinesRe
 ghost use Rattle.ipnet_lists.specs.EntryOf.{entry_range};
 ghost use Rattle.ipnet_lists.specs.declared.entry.Entry.TheVariants as Entries;
 ghost use Rattle.netset_words.specs.LogEntries.{IsNoEntryWord};
-ghost use Rattle.netset_words.specs.LogLines.{IsVerdict, LiesIn, treated, treated_front};
+ghost use Rattle.netset_words.specs.LogLines.{IsLineVerdict, IsVerdict, LiesIn, treated, treated_front};
 ghost use Rattle.netset_words.specs.LogSteps.{IsNextLogEntry};
 ghost use Rattle.netset_words.specs.Words.{words_of};
 
 use crate::lines_request::LinesRequest;
 use crate::log_entry::read_log_entry;
+use crate::part::part_after;
 use crate::word::{is_cut, next_word};
 use ipnet::IpAddr;
 use ipnet_lists::Entry;
@@ -99,9 +100,12 @@ fn leading_address(bytes: &[u8]) -> Option<LineEntry<'_>>
 }
 
 /// Returns the first entry of the bytes, or `None` if they have none.
-pub(crate) fn next_log_entry<'a>(bytes: &'a [u8], request: LinesRequest) -> Option<LineEntry<'a>>
-    ensures entry { MatchOption result (All (IsNoEntryWord request.grammar) (words_of bytes.now))
-        (λ e. IsNextLogEntry request bytes.now (entry_range e.entry) e.after.now) }
+pub(crate) fn next_log_entry<'a>(
+    bytes: &'a [u8],
+    request: LinesRequest<'_>,
+) -> Option<LineEntry<'a>>
+    ensures entry { MatchOption result (All (IsNoEntryWord request.entry.grammar) (words_of bytes.now))
+        (λ e. IsNextLogEntry request.entry bytes.now (entry_range e.entry) e.after.now) }
     ensures shorter { IfSome result (λ e. length e.after.now < length bytes.now) }
 {
     if let Some(found) = leading_address(bytes) {
@@ -141,8 +145,8 @@ fn lies_in(set: &IpSet, entry: Entry) -> bool
 }
 
 /// Returns the verdict on a whole text.
-pub(crate) fn verdict_on(set: &IpSet, request: LinesRequest, text: &[u8]) -> Verdict
-    ensures { IsVerdict request (IsMember set.now) (words_of text.now) result }
+pub(crate) fn verdict_on(set: &IpSet, request: LinesRequest<'_>, text: &[u8]) -> Verdict
+    ensures { IsVerdict request.entry (IsMember set.now) (words_of text.now) result }
 {
     let mut rest = text;
     let mut verdict = Verdict::NoEntry;
@@ -157,4 +161,11 @@ pub(crate) fn verdict_on(set: &IpSet, request: LinesRequest, text: &[u8]) -> Ver
         rest = found.after;
     }
     verdict
+}
+
+/// Returns the verdict on a line, by the part of it that is read.
+pub(crate) fn line_verdict(set: &IpSet, request: LinesRequest<'_>, line: &[u8]) -> Verdict
+    ensures { IsLineVerdict request.entry (IsMember set.now) line.now result }
+{
+    verdict_on(set, request, part_after(line, request.after))
 }

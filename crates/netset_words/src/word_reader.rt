@@ -4,15 +4,16 @@ ghost use Rattle.ipnet.specs.Lines.{lines_of};
 
 use crate::item::ExtractRequest;
 use crate::line_items::read_items;
+use crate::part::part_after;
 use crate::refused_word::{RefusedWords, WordCause};
 use ipnet_lists::{RefusedPart, first_line_of_bytes, has_byte, next_number};
 use std::alloc::{AllocError, Global};
 
 /// Reads the lines of texts.
 #[derive(Drop)]
-pub(crate) struct WordReader {
+pub(crate) struct WordReader<'a> {
     pub(crate) alloc: Global,
-    pub(crate) request: ExtractRequest,
+    pub(crate) request: ExtractRequest<'a>,
     /// The index of the text, from 0.
     pub(crate) list: usize,
     /// The number of lines that were read of the text.
@@ -24,13 +25,13 @@ pub(crate) struct WordReader {
     pub(crate) has_entry: bool,
 }
 
-impl WordReader {
+impl<'a> WordReader<'a> {
     ghost use Rattle.ipnet_lists.specs.RefusedLines.{AreRefused};
     ghost use Rattle.netset_words.specs.ExtractSteps.{ReadsWords};
 
     /// A reader of the first text.
-    pub(crate) fn new(alloc: Global, request: ExtractRequest) -> WordReader
-        ensures request { result.request ≡ request }
+    pub(crate) fn new(alloc: Global, request: ExtractRequest<'a>) -> WordReader<'a>
+        ensures request { result.request ≡ request.entry }
         ensures first { result.list ≡ 0 }
         ensures answer { result.answer.items ≡ [] }
         ensures none { AreRefused result.refused [] }
@@ -61,7 +62,8 @@ impl WordReader {
             };
             return self.refused.push(self.alloc, part);
         }
-        let state = read_items(&mut self.answer, self.request, line)?;
+        let part = part_after(line, self.request.after);
+        let state = read_items(&mut self.answer, self.request, part)?;
         self.has_entry = self.has_entry | state.has_entry;
         match state.mask {
             Some(mask) => {

@@ -3,7 +3,7 @@ use Rattle.ipnet_lists.specs.Entries.{IsEntryText}
 use Rattle.ipnet_lists.specs.FoundEntry.{found_range}
 use Rattle.netset_words.specs.Words.{words_of}
 use Rattle.netset_words.specs.WordSteps.{word_of}
-use Rattle.netset_words.proofs.RangeLaws.{no_range, range_item, is_wanted}
+use Rattle.netset_words.proofs.RangeLaws.{no_range, range_item}
 use Rattle.netset_words.proofs.Separators.{no_entry_without}
 use Rattle.netset_words.proofs.WordLaws.{span_cut}
 use Rattle.netset_words.proofs.item.range_at.Goals as goal
@@ -19,7 +19,7 @@ returns-in-Some-read_text-clause-item c =
     let same : dash.text.now ≡ codes "-" = search rules in
     range_item c.args.request (word_of first) (word_of dash) (word_of last) (words_of first.after.now)
     (words_of dash.after.now) (words_of last.after.now) _ c.in-Some.ensures.words c.in-Some-next_word.ensures.words
-    (is_wanted c.args.request.ranges c.if-not-request.false) same is (
+    c.if-not-request.false same is (
       found_range c.in-Some-read_text.field-0,
       subst (λ z. IsEntryText c.args.request.grammar z (found_range c.in-Some-read_text.field-0)) is
           c.in-Some-read_text.ensures.reads.some,

@@ -5,7 +5,6 @@ use Rattle.netset_words.specs.LogEntries.{IsNoEntryWord}
 use Rattle.netset_words.specs.LogSteps.{IsNextLogEntry}
 use Rattle.netset_words.specs.Words.{words_of}
 use Rattle.netset_words.proofs.Cases.{match_none}
-use Rattle.netset_words.proofs.LogEntryLaws.{not_true, not_false}
 use Rattle.netset_words.proofs.LogLaws.{chosen_now, other_now, judged_more, judged_all, none_judged}
 use Rattle.netset_words.proofs.log_line.verdict_on.Goals as goal
 
@@ -33,7 +32,7 @@ returns-then-not-request c =
     other_now c.args.request (IsMember c.args.set.now) h.judged c.args.text.now rest found.after.now
     c.entries.verdict range h.cut h.so_far next
     (λ lies. let clash : true ≡ false = sym (c.lies_in.ensures.1 lies) ∙ c.if-lies_in.false in absurd cc)
-    (not_true c.args.request.any c.if-not-request.true)
+    c.if-not-request.true
 
 pub entries-preserved : goal.entries-preserved
 entries-preserved c =
@@ -44,7 +43,7 @@ entries-preserved c =
     judged_more c.args.request (IsMember c.args.set.now) c.args.text.now rest found.after.now c.entries.verdict range
     c.entries.invariant next
     (λ lies. let clash : true ≡ false = sym (c.lies_in.ensures.1 lies) ∙ c.if-lies_in.false in absurd cc)
-    (not_false c.args.request.any c.if-not-request.false)
+    c.if-not-request.false
 
 pub returns : goal.returns
 returns c =

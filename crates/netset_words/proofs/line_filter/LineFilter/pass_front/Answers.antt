@@ -75,11 +75,12 @@ returns c = λ how set written least lines cur h.
     let old = c.args.self.now in
     let size : length c.as_slice.result.now ≡ length old.front.items = ap length c.as_slice.ensures.value in
     front_read how set written least lines cur c.args.piece.now old _ h c.split_at.result.0.now c.split_at.result.1.now
-    c.as_slice-front.result.now c.room_after.result c.whole_len.result c.in_ok-number.number c.verdict_on-verdict.result
-    c.front_treatment-treatment.result c.in_ok-printed.printed (record { request = refl; set = refl; line = refl })
+    c.as_slice-front.result.now c.room_after.result c.whole_len.result c.in_ok-number.number
+    c.line_verdict-verdict.result c.front_treatment-treatment.result c.in_ok-printed.printed
+    (record { request = refl; set = refl; line = refl })
     c.split_at.ensures.front c.split_at.ensures.back
     (subst (λ m. c.room_after.result + m ≡ 1048576) size c.room_after.ensures) c.requires.long
     (c.as_slice-front.ensures.value ∙ c.in_ok-extend_from_slice.ensures.items) c.whole_len.ensures
-    c.verdict_on-verdict.ensures c.front_treatment-treatment.ensures c.in_ok-printed.ensures.text
+    c.line_verdict-verdict.ensures c.front_treatment-treatment.ensures c.in_ok-printed.ensures.text
     c.in_ok-printed.ensures.printed refl refl c.in_ok-number.ensures.next c.in_ok-report_front.ensures
     c.requires.kept c.rest_after-self.ensures c.clear.ensures.items

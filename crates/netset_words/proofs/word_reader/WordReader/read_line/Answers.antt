@@ -28,10 +28,10 @@ returns-in-Some c =
     let (more, first) = match_some c.in_ok-state.state.mask mask (mask_texts items ≡ [])
     (λ m. (more : List (List ℕ)) × (mask_texts items ≡ m.now ∷ more)) up_to.mask c.in-Some.is in
     OnOk_then c.push-in-Some.result c.push-in-Some.ensures
-    (λ added. word_line old _ c.args.line.now items c.in_ok-state.state
+    (λ added. word_line old _ c.args.line.now c.part_after-part.result.now items c.in_ok-state.state
     (record { same_request = refl; same_list = refl; next = next })
-    (λ nul. let clash : true ≡ false = sym nul ∙ sym c.has_byte.ensures ∙ c.if-has_byte.false in absurd cc) are up_to
-    refl
+    (λ nul. let clash : true ≡ false = sym nul ∙ sym c.has_byte.ensures ∙ c.if-has_byte.false in absurd cc)
+    c.part_after-part.ensures are up_to refl
     (subst (λ rs. HasMore old.refused c.push-in-Some.new.self rs)
     (sym (ap (mask_refusals old.list (old.line + 1)) first))
     (subst (λ n. HasMore old.refused c.push-in-Some.new.self
@@ -44,9 +44,9 @@ returns-in-None c =
     let none = match_none c.in_ok-state.state.mask (mask_texts items ≡ [])
     (λ m. (more : List (List ℕ)) × (mask_texts items ≡ m.now ∷ more)) up_to.mask
     (λ m e. let clash = sym e ∙ c.in-None.is in absurd cc) in
-    word_line old _ c.args.line.now items c.in_ok-state.state
+    word_line old _ c.args.line.now c.part_after-part.result.now items c.in_ok-state.state
     (record { same_request = refl; same_list = refl; next = c.in_ok-number.ensures.next })
-    (λ nul. let clash : true ≡ false = sym nul ∙ sym c.has_byte.ensures ∙ c.if-has_byte.false in absurd cc) are up_to
-    refl
+    (λ nul. let clash : true ≡ false = sym nul ∙ sym c.has_byte.ensures ∙ c.if-has_byte.false in absurd cc)
+    c.part_after-part.ensures are up_to refl
     (subst (HasMore old.refused old.refused) (sym (ap (mask_refusals old.list (old.line + 1)) none))
     (HasMore-nil old.refused old.refused.few))
