@@ -21,6 +21,12 @@ def bytes_of(text):
     return text if isinstance(text, bytes) else text.encode()
 
 
+def escaped(text):
+    """The bytes as a report shows them."""
+    signs = {9: "\\t", 13: "\\r", 34: '\\"', 39: "\\'", 92: "\\\\"}
+    return "".join(signs.get(b) or (chr(b) if 32 <= b < 127 else "\\x{:02x}".format(b)) for b in text)
+
+
 class Runs:
     """Runs that are asked for, and then made and checked together."""
 

@@ -248,12 +248,14 @@ static void try_refusals(void)
 /* Facts. Masks, hosts and numbers are from Python's ipaddress, the zones from RFC 1035. */
 static const char info_lines[] =
     "network: 10.0.0.0/24\naddress: 10.0.0.9\nnetmask: 255.255.255.0\nwildcard mask: 0.0.0.255\n"
+    "first address: 10.0.0.0\nlast address: 10.0.0.255\nbroadcast: 10.0.0.255\n"
     "first host: 10.0.0.1\nlast host: 10.0.0.254\naddresses: 256\nhosts: 254\ndecimal: 167772169\n"
     "hexadecimal: 0x0a000009\nreverse zone: 0.0.10.in-addr.arpa\n"
     "special purpose: 10.0.0.0/8 Private-Use (RFC 1918)\n";
 static const char info_json[] =
     "{\"network\":\"10.0.0.0/24\",\"address\":\"10.0.0.9\",\"netmask\":\"255.255.255.0\","
-    "\"wildcard_mask\":\"0.0.0.255\",\"first_host\":\"10.0.0.1\",\"last_host\":\"10.0.0.254\",\"addresses\":\"256\","
+    "\"wildcard_mask\":\"0.0.0.255\",\"first_address\":\"10.0.0.0\",\"last_address\":\"10.0.0.255\","
+    "\"broadcast\":\"10.0.0.255\",\"first_host\":\"10.0.0.1\",\"last_host\":\"10.0.0.254\",\"addresses\":\"256\","
     "\"hosts\":\"254\",\"decimal\":\"167772169\",\"hexadecimal\":\"0x0a000009\","
     "\"reverse_zones\":[\"0.0.10.in-addr.arpa\"],\"special_purposes\":[{\"block\":\"10.0.0.0/8\","
     "\"name\":\"Private-Use\",\"rfc\":\"RFC 1918\",\"whole\":true}]}\n";

@@ -222,11 +222,17 @@ class Facts(unittest.TestCase):
                 self.assertEqual(facts["address"], str(interface.ip))
                 self.assertEqual(ipaddress.ip_address(facts["netmask"]), network.netmask)
                 self.assertEqual(ipaddress.ip_address(facts["wildcard_mask"]), network.hostmask)
+                self.assertEqual(ipaddress.ip_address(facts["first_address"]), network[0])
+                self.assertEqual(ipaddress.ip_address(facts["last_address"]), network[-1])
+                has_broadcast = width == 32 and network.prefixlen < 31
+                self.assertEqual(facts.get("broadcast"), str(network.broadcast_address) if has_broadcast else None)
                 self.assertEqual(facts["addresses"], str(network.num_addresses))
                 self.assertEqual(facts["decimal"], str(int(interface.ip)))
                 self.assertEqual(int(facts["hexadecimal"], 16), int(interface.ip))
                 self.assertEqual(facts.get("in_full"), interface.ip.exploded if width == 128 else None)
                 bits = 8 if width == 32 else 4
+                self.assertEqual("in_reverse_zone" in facts, network.prefixlen > width - bits)
+                self.assertEqual("delegated_zone" in facts, width == 32 and 24 < network.prefixlen < 32)
                 if network.prefixlen % bits == 0 and 0 < network.prefixlen < width:
                     labels = network.network_address.reverse_pointer.split(".")
                     zone = ".".join(labels[(width - network.prefixlen) // bits:])

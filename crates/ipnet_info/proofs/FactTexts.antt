@@ -14,6 +14,10 @@ use Rattle.ipnet_info.specs.Facts.{IsAppended, counted, comma, items}
 pub then_ : {start mid end a b : List ℕ} → IsAppended start mid a → IsAppended mid end b → IsAppended start end (a ++ b)
 then_ {start} {mid} {end} {a} {b} e f = record { is = f.is ∙ ap (λ z. z ++ b) e.is ∙ append_assoc start a b }
 
+-- no piece
+pub nothing : (text : List ℕ) → IsAppended text text []
+nothing text = record { is = sym (append-nil text) }
+
 -- a piece of a value
 pub of_value : {A : Type 0} (f : A → List ℕ) {start end : List ℕ} {v w : A} → IsAppended start end (f v) → v ≡ w
     → IsAppended start end (f w)

@@ -19,7 +19,7 @@ reserved_room n reserved =
     let bits : 1 < host_bits n = omega (arith, reserved.1, ap width reserved.0) in
     omega (arith, pow_below 1 (host_bits n) bits)
 
-reserved_or_not : (n : Network) → HasReservedEnds n ⊎ ¬ (HasReservedEnds n)
+pub reserved_or_not : (n : Network) → HasReservedEnds n ⊎ ¬ (HasReservedEnds n)
 reserved_or_not n =
     elim (cases_family n.family IPv4) [
       | inl four ↦ elim (cases_lt n.prefix_len 31) [

@@ -3,5 +3,7 @@ mod AllFactsLaws
 mod HostFacts
 mod DigitFacts
 mod FactTexts
+mod LengthFacts
+mod NetworkFacts
 mod RegistryLaws
 mod ZoneFacts

@@ -1,5 +1,5 @@
 -- The zones inside a network, and the zone around it, are its subnets of one length.
-use Rattle.std.proofs.Common.{◌≡◌, ℕ, ◌+◌, ◌-◌, ◌*◌, ◌/◌, ◌^◌, ◌<◌, ◌≤◌, List, length}
+use Rattle.std.proofs.Common.{◌≡◌, ℕ, ◌+◌, ◌-◌, ◌*◌, ◌/◌, ◌^◌, ◌<◌, ◌≤◌, List, [], length}
 use Rattle.std.proofs.Common.{refl, sym, ap, ◌∙◌, arith}
 use Rattle.std.proofs.Math.Nat.{div-mul-le_self, lt-div-mul-add, pow-le-pow_right}
 use Rattle.ipnet_base.specs.Address.{Family, IPv4, IPv6, width}
@@ -10,7 +10,7 @@ use Rattle.ipnet_base.proofs.NetworkLaws.{same_from_block, IsTruncated-truncatio
 use Rattle.ipnet_base.proofs.NetworkLaws.{truncation_in, in_truncation}
 use Rattle.ipnet.specs.NetworkParts.{IsSubnetOfLength, AreSubnetsOfLength}
 use Rattle.ipnet_info.specs.Zones.{label_bits, longest_zone, IsZone, IsLargestInside, IsSmallestAround}
-use Rattle.ipnet_info.specs.Zones.{IsNextLength, AreReverseZones}
+use Rattle.ipnet_info.specs.Zones.{IsNextLength, AreReverseZones, AreZonesInside}
 
 -- The network of the same address with this length.
 abbrev with_len : Network → ℕ → Network
@@ -218,6 +218,40 @@ around_from n z u long h = record {
 
     low : longest_zone n.family ≤ z.prefix_len
     low = longer_from_subnet z (truncation (widest n)) h.zone.network cut.network z_in_cut
+
+-- the zone around a small network is a truncation
+pub cut_around : (n : Network) → IsNetwork n → longest_zone n.family < n.prefix_len
+    → IsSmallestAround n (truncation (widest n))
+cut_around n u long =
+    let cut : IsZone (truncation (widest n)) =
+    cut_zone n (longest_zone n.family) (longest_whole n.family).0 u (longest_whole n.family).1 (omega arith) in
+    around_to n (truncation (widest n)) u long (record {
+      network = cut.network;
+      truncated = cut.truncated;
+      of_length = refl;
+      within = truncation_in (widest n);
+    })
+
+-- a network that is smaller than every zone has no zone inside
+pub none_inside : (n : Network) → IsNetwork n → longest_zone n.family < n.prefix_len → AreZonesInside n []
+none_inside n u long = record {
+  ascending = λ i j d before within. absurd (omega arith);
+  members = λ z. (
+    λ c. absurd (omega (arith, c.1)),
+    λ h. absurd (omega (
+      arith,
+      long,
+      longer_from_subnet z n h.zone.network u h.inside,
+      h.zone.short,
+      ap longest_zone (family_within z n h.inside),
+    )),
+  );
+}
+
+-- the zones inside another network
+pub some_inside : (n : Network) (zones : List Network) → AreReverseZones n zones → n.prefix_len ≤ longest_zone n.family
+    → AreZonesInside n zones
+some_inside n zones h few = record { ascending = h.ascending; members = h.inside few }
 
 pub around_zones : (n : Network) (zones : List Network) → IsNetwork n → longest_zone n.family < n.prefix_len
     → AreSubnetsOfLength (widest n) (longest_zone n.family) zones

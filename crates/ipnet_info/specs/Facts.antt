@@ -1,18 +1,19 @@
 -- The facts about one network as text: lines, each a name and a value, or one JSON object.
-use Rattle.std.specs.Prelude.{◌≡◌, ℕ, ◌^◌, List, [], ◌∷◌, ◌++◌, Option, Some, None, Bool, true, false, codes}
-use Rattle.std.specs.Prelude.{decimal, map}
+use Rattle.std.specs.Prelude.{◌≡◌, ℕ, ◌^◌, ◌<◌, ◌≤◌, List, [], ◌∷◌, ◌++◌, Option, Some, None, Bool, true, false}
+use Rattle.std.specs.Prelude.{codes, decimal, map}
 use Rattle.ipnet_base.specs.Address.{Family, IPv4, IPv6, Address}
-use Rattle.ipnet_base.specs.Network.{Network, host_bits, truncation}
+use Rattle.ipnet_base.specs.Network.{Network, host_bits, truncation, IsLeastOf, IsGreatestOf}
 use Rattle.ipnet_base.specs.Ranges.{AddressRange}
 use Rattle.ipnet_base.specs.Ranges as ranges
 use Rattle.ipnet.specs.CanonicalTexts.{address_text, canonical_text}
-use Rattle.ipnet.specs.NetworkParts.{IsHostRange, own_address, netmask, hostmask}
+use Rattle.ipnet.specs.NetworkParts.{HasReservedEnds, IsHostRange, own_address, netmask, hostmask}
 use Rattle.ipnet_info.specs.declared.facts.FactsForm.{FactsForm}
 use Rattle.ipnet_info.specs.declared.facts.FactsForm.TheVariants.{Lines, Json}
 use Rattle.ipnet_info.specs.Digits.{hexadecimal_text, full_groups}
 use Rattle.ipnet_info.specs.Hosts.{IsFirstHost, IsLastHost}
 use Rattle.ipnet_info.specs.Registries.{SpecialPurpose, ArePurposes, registry}
-use Rattle.ipnet_info.specs.Zones.{name_of, AreReverseZones}
+use Rattle.ipnet_info.specs.Zones.{name_of, longest_zone, AreZonesInside, IsSmallestAround}
+use Rattle.ipnet_info.specs.Zones.{HasDelegatedZone, delegated_name}
 
 -- The first text in lines, and the second in JSON.
 abbrev pub in_form : FactsForm → (lines json : List ℕ) → List ℕ
@@ -42,6 +43,24 @@ network_facts form n = fact form (codes "network") (codes "network") (canonical_
     ++ address_fact form (codes "netmask") (codes "netmask") (netmask n)
     ++ address_fact form (codes "wildcard mask") (codes "wildcard_mask") (hostmask n)
 
+-- The broadcast address of an IPv4 network, which is its last address (RFC 919, RFC 922). A /31 has none (RFC
+-- 3021), and neither has a /32 or an IPv6 network. Example: `broadcast: 10.0.0.255` for 10.0.0.9/24.
+pub record IsBroadcastFact (form : FactsForm) (n : Network) (last : Address) (text : List ℕ) : Type 0 where
+  pub some : HasReservedEnds n → text ≡ address_fact form (codes "broadcast") (codes "broadcast") last
+  pub none : ¬ (HasReservedEnds n) → text ≡ []
+
+-- The first and the last address, and the broadcast address.
+-- Example: `first address: 10.0.0.0`, `last address: 10.0.0.255`, `broadcast: 10.0.0.255` for 10.0.0.9/24.
+pub record AreEndFacts (form : FactsForm) (n : Network) (text : List ℕ) : Type 0 where
+  pub first : Address
+  pub last : Address
+  pub broadcast : List ℕ
+  pub is_first : IsLeastOf n first
+  pub is_last : IsGreatestOf n last
+  pub is_broadcast : IsBroadcastFact form n last broadcast
+  pub spelled : text ≡ address_fact form (codes "first address") (codes "first_address") first
+      ++ address_fact form (codes "last address") (codes "last_address") last ++ broadcast
+
 -- The first and the last host, and the numbers of addresses and of hosts.
 -- Example: `first host: 10.0.0.1`, `last host: 10.0.0.254`, `addresses: 256`, `hosts: 254` for 10.0.0.9/24.
 pub record AreHostFacts (form : FactsForm) (n : Network) (text : List ℕ) : Type 0 where
@@ -67,6 +86,28 @@ number_facts form n = fact form (codes "decimal") (codes "decimal") (decimal n.n
     ++ fact form (codes "hexadecimal") (codes "hexadecimal") (hexadecimal_text (own_address n))
     ++ full_fact form n.family n.number
 
+-- The zone that RFC 2317 delegates to the network, if there is a name for it.
+-- Example: `delegated zone (RFC 2317): 64/26.100.51.198.in-addr.arpa` for 198.51.100.64/26.
+pub record IsDelegationFact (form : FactsForm) (n : Network) (text : List ℕ) : Type 0 where
+  pub some : HasDelegatedZone n
+      → text ≡ fact form (codes "delegated zone (RFC 2317)") (codes "delegated_zone") (delegated_name n)
+  pub none : ¬ (HasDelegatedZone n) → text ≡ []
+
+-- The smallest zone around the network, and the zone that is delegated to it.
+-- Example: `in reverse zone: 100.51.198.in-addr.arpa`, and the example above, for 198.51.100.64/26.
+pub record AreZoneFacts (form : FactsForm) (n : Network) (text : List ℕ) : Type 0 where
+  pub zone : Network
+  pub delegation : List ℕ
+  pub is_zone : IsSmallestAround n zone
+  pub is_delegation : IsDelegationFact form n delegation
+  pub spelled : text ≡ fact form (codes "in reverse zone") (codes "in_reverse_zone")
+      (name_of zone.family zone.number zone.prefix_len) ++ delegation
+
+-- The facts about the zone around a network that is smaller than every zone. A network with zones inside has none.
+pub record AreAroundFacts (form : FactsForm) (n : Network) (text : List ℕ) : Type 0 where
+  pub some : longest_zone n.family < n.prefix_len → AreZoneFacts form n text
+  pub none : n.prefix_len ≤ longest_zone n.family → text ≡ []
+
 -- The text before an item of a list: in JSON a comma, except before the first item.
 abbrev pub comma : FactsForm → (is_first : Bool) → List ℕ
 comma Lines is_first = []
@@ -78,7 +119,7 @@ abbrev pub items : FactsForm → (is_first : Bool) → List (List ℕ) → List 
 items form is_first [] = []
 items form is_first (text ∷ texts) = comma form is_first ++ text ++ items form false texts
 
--- A reverse zone. Example: `reverse zone: 0.0.10.in-addr.arpa`, or `"0.0.10.in-addr.arpa"`.
+-- A reverse zone inside the network. Example: `reverse zone: 0.0.10.in-addr.arpa`, or `"0.0.10.in-addr.arpa"`.
 abbrev pub zone_item : FactsForm → Network → List ℕ
 zone_item form z = in_form form (codes "reverse zone: ") (codes "\"")
     ++ name_of z.family z.number z.prefix_len ++ in_form form (codes "\n") (codes "\"")
@@ -102,15 +143,20 @@ purpose_item Json p = codes "{" ++ member (codes "block") (canonical_text p.bloc
 
 -- The facts that are one line each.
 pub record AreSingleFacts (form : FactsForm) (n : Network) (text : List ℕ) : Type 0 where
+  pub ends : List ℕ
   pub hosts : List ℕ
+  pub around : List ℕ
+  pub are_ends : AreEndFacts form n ends
   pub are_hosts : AreHostFacts form n hosts
-  pub spelled : text ≡ in_form form [] (codes "{") ++ network_facts form n ++ hosts ++ number_facts form n
+  pub are_around : AreAroundFacts form n around
+  pub spelled : text ≡ in_form form [] (codes "{") ++ network_facts form n ++ ends ++ hosts ++ number_facts form n
+      ++ around
 
--- The reverse zones, and the rows of the registry that share an address with the network.
+-- The reverse zones inside the network, and the rows of the registry that share an address with the network.
 pub record AreListedFacts (form : FactsForm) (n : Network) (text : List ℕ) : Type 0 where
   pub zones : List Network
   pub purposes : List SpecialPurpose
-  pub are_zones : AreReverseZones n zones
+  pub are_zones : AreZonesInside n zones
   pub are_purposes : ArePurposes n (registry n.family) purposes
   pub spelled : text ≡ in_form form [] (codes "\"reverse_zones\":[") ++ items form true (map (zone_item form) zones)
       ++ in_form form [] (codes "],\"special_purposes\":[") ++ items form true (map (purpose_item form) purposes)

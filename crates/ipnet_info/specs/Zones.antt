@@ -3,7 +3,7 @@
 use Rattle.std.specs.Prelude.{◌≡◌, ℕ, zero, suc, ◌+◌, ◌-◌, ◌*◌, ◌/◌, ◌%◌, ◌^◌, ◌<◌, ◌≤◌, ◌↔◌, List, [], ◌∷◌, ◌++◌}
 use Rattle.std.specs.Prelude.{Contains, codes, decimal}
 use Rattle.ipnet_base.specs.Address.{Family, IPv4, IPv6, width}
-use Rattle.ipnet_base.specs.Network.{Network, IsNetwork, IsSubnetOf, IsTruncated}
+use Rattle.ipnet_base.specs.Network.{Network, IsNetwork, IsSubnetOf, IsTruncated, truncation}
 use Rattle.ipnet_base.specs.Blocks.{IsAscending}
 use Rattle.ipnet_info.specs.Digits.{hex_digit_at}
 
@@ -50,6 +50,12 @@ pub record IsLargestInside (n z : Network) : Type 0 where
   pub inside : IsSubnetOf z n
   pub largest : (k : Network) → IsZone k → IsSubnetOf k n → IsSubnetOf z k → k ≡ z
 
+-- The largest zones inside the network, ascending. A network that is smaller than every zone has none.
+-- Example: 10.0.0.0/24 and 10.0.1.0/24 for 10.0.0.0/23; none for 10.0.0.64/26.
+pub record AreZonesInside (n : Network) (zones : List Network) : Type 0 where
+  pub ascending : IsAscending zones
+  pub members : (z : Network) → Contains zones z ↔ IsLargestInside n z
+
 -- The smallest zone that contains the network. Example: 10.0.0.0/24 for 10.0.0.64/26.
 pub record IsSmallestAround (n z : Network) : Type 0 where
   pub zone : IsZone z
@@ -71,3 +77,15 @@ pub record IsNextLength (n : Network) (len : ℕ) : Type 0 where
   pub whole : len ≡ labels * label_bits n.family
   pub reaches : n.prefix_len ≤ len
   pub least : len < n.prefix_len + label_bits n.family
+
+-- RFC 2317 has a name for the zone of the network's names: an IPv4 network that is smaller than every zone, and larger
+-- than a single address. Example: 198.51.100.64/26; not 198.51.100.0/24 or 198.51.100.64/32.
+abbrev pub HasDelegatedZone : Network → Type 0
+HasDelegatedZone n = (n.family ≡ IPv4) × (longest_zone IPv4 < n.prefix_len) × (n.prefix_len < 32)
+
+-- The name of the zone to which the names of such a network are delegated (RFC 2317, section 4): a label of the last
+-- octet of the network's first address, "/" and the prefix length, in the zone around the network.
+-- Example: `64/26.100.51.198.in-addr.arpa` for 198.51.100.64/26.
+abbrev pub delegated_name : Network → List ℕ
+delegated_name n = (decimal ((truncation n).number % 256) ++ codes "/" ++ decimal n.prefix_len ++ codes ".")
+    ++ ipv4_labels 3 n.number

@@ -4,7 +4,8 @@ ghost use Rattle.ipnet.specs.NetworkOf.{ip_network};
 ghost use Rattle.ipnet_info.specs.AllFacts.{AreAllFacts, gap};
 ghost use Rattle.ipnet_info.specs.Facts.{IsAppended, IsFactsText};
 
-use crate::facts::{FactsForm, facts_text};
+use crate::facts::FactsForm;
+use crate::network_facts::facts_text;
 use ipnet::IpNet;
 use std::alloc::{AllocError, Global};
 
@@ -37,7 +38,7 @@ fn push_facts(
 /// or a JSON object on each line. Fails only if memory runs out.
 ///
 /// ```text
-/// 10.0.0.0/24 and ::1/128: the eleven lines of the first, "\n", and the thirteen lines of the second
+/// 10.0.0.0/24 and ::1/128: the lines of the first, "\n", and the lines of the second
 /// no network: ""
 /// ```
 pub fn all_facts_text(

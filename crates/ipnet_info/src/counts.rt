@@ -27,7 +27,7 @@ pub fn address_count(network: &IpNet) -> Option<u128>
 }
 
 /// Whether the network's first and last address are not hosts: in an IPv4 network of a prefix length below 31.
-fn has_reserved_ends(network: &IpNet) -> bool
+pub(crate) fn has_reserved_ends(network: &IpNet) -> bool
     ensures { IsTrue result ↔ HasReservedEnds (ip_network network.now) }
 {
     match network {

@@ -1,4 +1,4 @@
-//! The facts about one network as text: lines, or a JSON object.
+//! Facts about one network as text: lines, or members of a JSON object.
 ghost use Rattle.std.specs.Prelude.{◌≡◌, ◌^◌, ◌++◌, [], List, ℕ, OnOk, IfOk, true, map, string_bytes, decimal, codes};
 ghost use Rattle.std.specs.Net.Addr.{ipv6_bits};
 ghost use Rattle.ipnet_base.specs.Address.{ip_address};
@@ -10,15 +10,15 @@ ghost use Rattle.ipnet_info.specs.Digits.{full_groups};
 ghost use Rattle.ipnet_info.specs.Facts as facts;
 ghost use Rattle.ipnet_info.specs.Facts.{fact, address_fact, network_facts, full_fact, number_facts, counted};
 ghost use Rattle.ipnet_info.specs.Facts.{IsAppended, in_form, member, comma, items, zone_item, purpose_item};
-ghost use Rattle.ipnet_info.specs.Facts.{AreHostFacts, AreSingleFacts, AreListedFacts, IsFactsText};
+ghost use Rattle.ipnet_info.specs.Facts.{AreHostFacts};
 ghost use Rattle.ipnet_info.specs.RegistryRows.{purpose_of, purposes_of};
 ghost use Rattle.ipnet_info.specs.declared.facts.FactsForm.TheVariants.{Lines, Json};
 
 use crate::counts::{address_count, host_count};
 use crate::hosts::{first_host, last_host};
 use crate::numbers::{decimal_text, hexadecimal_text, written_out};
-use crate::purposes::{SpecialPurpose, special_purposes};
-use crate::zones::{reverse_zones, zone_name};
+use crate::purposes::SpecialPurpose;
+use crate::zones::zone_name;
 use ipnet::{IpAddr, IpNet, IpSubnets, Ipv6Addr, Net, ipv4_addr_text, ipv6_addr_text};
 use std::alloc::{AllocError, Global};
 
@@ -36,9 +36,9 @@ pub enum FactsForm {
 
 /// The name of a fact in lines, and its key in JSON.
 #[derive(Clone, Copy)]
-struct Label {
-    name: &'static str,
-    key: &'static str,
+pub(crate) struct Label {
+    pub(crate) name: &'static str,
+    pub(crate) key: &'static str,
 }
 
 const NETWORK: Label = Label {
@@ -104,7 +104,7 @@ fn push_piece(text: &mut String, piece: &str) -> Result<(), AllocError>
 }
 
 /// Appends the first text in lines, and the second in JSON. Fails only if memory runs out.
-fn push_in_form(
+pub(crate) fn push_in_form(
     text: &mut String,
     form: FactsForm,
     lines: &str,
@@ -157,7 +157,7 @@ fn push_member_fact(text: &mut String, key: &str, value: &str) -> Result<(), All
 }
 
 /// Appends the fact with this value. Fails only if memory runs out.
-fn push_fact(
+pub(crate) fn push_fact(
     text: &mut String,
     form: FactsForm,
     label: Label,
@@ -173,7 +173,7 @@ fn push_fact(
 }
 
 /// Appends the fact of this address. Fails only if memory runs out.
-fn push_address_fact(
+pub(crate) fn push_address_fact(
     text: &mut String,
     form: FactsForm,
     label: Label,
@@ -200,7 +200,11 @@ fn count_text(alloc: Global, count: Option<u128>) -> Result<String, AllocError>
 }
 
 /// Appends the network, its address and its masks. Fails only if memory runs out.
-fn push_network_facts(text: &mut String, form: FactsForm, network: &IpNet) -> Result<(), AllocError>
+pub(crate) fn push_network_facts(
+    text: &mut String,
+    form: FactsForm,
+    network: &IpNet,
+) -> Result<(), AllocError>
     ensures { OnOk result (IsAppended (string_bytes text.old) (string_bytes text.new)
         (network_facts form (ip_network network.now))) }
 {
@@ -213,7 +217,7 @@ fn push_network_facts(text: &mut String, form: FactsForm, network: &IpNet) -> Re
 }
 
 /// Appends the first and the last host, and the numbers of addresses and of hosts. Fails only if memory runs out.
-fn push_host_facts(
+pub(crate) fn push_host_facts(
     alloc: Global,
     text: &mut String,
     form: FactsForm,
@@ -266,7 +270,7 @@ fn push_full_fact(
 }
 
 /// Appends the network's own address as a number. Fails only if memory runs out.
-fn push_number_facts(
+pub(crate) fn push_number_facts(
     alloc: Global,
     text: &mut String,
     form: FactsForm,
@@ -295,7 +299,7 @@ fn push_comma(text: &mut String, form: FactsForm, is_first: bool) -> Result<(), 
     }
 }
 
-/// Appends a zone. Fails only if memory runs out.
+/// Appends a zone inside the network. Fails only if memory runs out.
 #[tactic(auto, using(crate::proofs::FactTexts::then_, crate::proofs::FactTexts::of_value))]
 fn push_zone(
     alloc: Global,
@@ -315,7 +319,7 @@ fn push_zone(
 
 /// Appends the zones. Fails only if memory runs out.
 #[tactic(auto, using(crate::proofs::FactTexts::then_, crate::proofs::FactTexts::next_item))]
-fn push_zones(
+pub(crate) fn push_zones(
     alloc: Global,
     text: &mut String,
     form: FactsForm,
@@ -394,7 +398,7 @@ fn push_purpose_item(
 }
 
 /// Appends the rows of a registry. Fails only if memory runs out.
-fn push_purpose_items(
+pub(crate) fn push_purpose_items(
     text: &mut String,
     form: FactsForm,
     purposes: &[SpecialPurpose],
@@ -409,79 +413,4 @@ fn push_purpose_items(
         is_first = false;
     }
     Ok(())
-}
-
-/// Appends the facts that are one line each. Fails only if memory runs out.
-fn push_single_facts(
-    alloc: Global,
-    text: &mut String,
-    form: FactsForm,
-    network: &IpNet,
-) -> Result<(), AllocError>
-    ensures { OnOk result ((more : List ℕ) × AreSingleFacts form (ip_network network.now) more
-        × IsAppended (string_bytes text.old) (string_bytes text.new) more) }
-{
-    push_in_form(text, form, "", "{")?;
-    push_network_facts(text, form, network)?;
-    push_host_facts(alloc, text, form, network)?;
-    push_number_facts(alloc, text, form, network)?;
-    Ok(())
-}
-
-/// Appends the reverse zones and the rows of the registry. Fails only if memory runs out.
-#[tactic(auto, using(crate::proofs::FactTexts::then_, crate::proofs::FactTexts::of_value))]
-fn push_listed_facts(
-    alloc: Global,
-    text: &mut String,
-    form: FactsForm,
-    network: &IpNet,
-) -> Result<(), AllocError>
-    ensures { OnOk result ((more : List ℕ) × AreListedFacts form (ip_network network.now) more
-        × IsAppended (string_bytes text.old) (string_bytes text.new) more) }
-{
-    let purposes = special_purposes(alloc, network)?;
-    push_in_form(text, form, "", "\"reverse_zones\":[")?;
-    push_zones(alloc, text, form, reverse_zones(network))?;
-    push_in_form(text, form, "", "],\"special_purposes\":[")?;
-    push_purpose_items(text, form, purposes.as_slice())?;
-    push_in_form(text, form, "", "]}\n")?;
-    Ok(())
-}
-
-/// Returns the facts about the network. Fails only if memory runs out.
-///
-/// | Name | Key | What it is |
-/// |---|---|---|
-/// | `network` | `network` | the network without host bits |
-/// | `address` | `address` | its own address, with host bits |
-/// | `netmask`, `wildcard mask` | `netmask`, `wildcard_mask` | its masks |
-/// | `first host`, `last host` | `first_host`, `last_host` | as `first_host` and `last_host` return them |
-/// | `addresses`, `hosts` | `addresses`, `hosts` | how many there are |
-/// | `decimal`, `hexadecimal` | `decimal`, `hexadecimal` | its own address as a number |
-/// | `in full` | `in_full` | its own address, if it is IPv6, as `written_out` returns it |
-/// | `reverse zone` | `reverse_zones` | the names of its reverse zones, as `reverse_zones` returns them |
-/// | `special purpose` | `special_purposes` | what `special_purposes` returns |
-///
-/// ```text
-/// network: 10.0.0.0/24
-/// address: 10.0.0.9
-/// netmask: 255.255.255.0
-/// wildcard mask: 0.0.0.255
-/// first host: 10.0.0.1
-/// last host: 10.0.0.254
-/// addresses: 256
-/// hosts: 254
-/// decimal: 167772169
-/// hexadecimal: 0x0a000009
-/// reverse zone: 0.0.10.in-addr.arpa
-/// special purpose: 10.0.0.0/8 Private-Use (RFC 1918)
-/// ```
-#[tactic(auto, using(crate::proofs::FactTexts::then_, crate::proofs::FactTexts::from_empty))]
-pub fn facts_text(alloc: Global, network: &IpNet, form: FactsForm) -> Result<String, AllocError>
-    ensures { IfOk result (λ text. IsFactsText form (ip_network network.now) (string_bytes text)) }
-{
-    let mut text = String::new(alloc);
-    push_single_facts(alloc, &mut text, form, network)?;
-    push_listed_facts(alloc, &mut text, form, network)?;
-    Ok(text)
 }

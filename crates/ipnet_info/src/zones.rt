@@ -1,17 +1,19 @@
 //! The zones of the domain name system that name the addresses of a network.
-ghost use Rattle.std.specs.Prelude.{◌≡◌, ◌*◌, ◌/◌, ◌%◌, ◌^◌, ◌-◌, ◌<◌, ◌≤◌, ◌++◌, OnOk, IfOk, string_bytes};
-ghost use Rattle.std.specs.Prelude.{decimal, codes, length};
+ghost use Rattle.std.specs.Prelude.{◌≡◌, ◌*◌, ◌/◌, ◌%◌, ◌^◌, ◌-◌, ◌<◌, ◌≤◌, ◌++◌, ◌↔◌, OnOk, IfOk};
+ghost use Rattle.std.specs.Prelude.{IsTrue, string_bytes, decimal, codes, length, option_map};
+ghost use Rattle.std.specs.Option.{SomeIff};
 ghost use Rattle.ipnet_base.specs.Address.{width};
 ghost use Rattle.ipnet_base.specs.Network.{IsNetwork};
 ghost use Rattle.ipnet.specs.NetworkOf.{ip_network, ipv4_network, ipv6_network};
 ghost use Rattle.ipnet.specs.NetworkParts.{network_at, own_address, AreSubnetsOfLength};
 ghost use Rattle.ipnet.specs.SubnetsLeft.{ip_subnets_left};
 ghost use Rattle.ipnet_info.specs.Zones.{ipv4_labels, ipv6_labels, name_of, longest_zone};
-ghost use Rattle.ipnet_info.specs.Zones.{IsNextLength, AreReverseZones};
+ghost use Rattle.ipnet_info.specs.Zones.{IsNextLength, IsSmallestAround, AreReverseZones};
+ghost use Rattle.ipnet_info.specs.Zones.{HasDelegatedZone, delegated_name};
 
 use crate::numbers::push_digit;
 use ipnet::net::laws::ip_nets_compare_by_network;
-use ipnet::{IpNet, IpSubnets, Ipv4Net, Ipv6Net};
+use ipnet::{IpNet, IpSubnets, Ipv4Net, Ipv6Net, Net};
 use std::alloc::{AllocError, Global};
 
 /// Appends the octet of the number that the label with this index names, and ".". Fails only if memory runs out.
@@ -97,7 +99,7 @@ pub fn zone_name(alloc: Global, zone: &IpNet) -> Result<String, AllocError>
 }
 
 /// Returns the prefix length of the smallest zones of the network's family.
-fn longest_zone_len(network: &IpNet) -> u8
+pub(crate) fn longest_zone_len(network: &IpNet) -> u8
     ensures length { result ≡ longest_zone (ip_network network.now).family }
     ensures fits { result ≤ width (ip_network network.now).family }
 {
@@ -146,8 +148,18 @@ fn subnets_of(network: &IpNet, prefix_len: u8) -> IpSubnets
 }
 
 /// Returns the smallest zone that contains a network smaller than every zone.
+pub(crate) fn zone_around(network: &IpNet) -> IpNet
+    requires { longest_zone (ip_network network.now).family < (ip_network network.now).prefix_len }
+    ensures { IsSmallestAround (ip_network network.now) (ip_network result) }
+{
+    ip_nets_compare_by_network();
+    let longest = longest_zone_len(network);
+    IpNet::new_assert(network.addr(), longest).truncated()
+}
+
+/// Returns the smallest zone that contains a network smaller than every zone, and no other zone.
 #[tactic(auto, using(crate::proofs::ZoneFacts::around_zones, crate::proofs::ZoneFacts::few_subnets))]
-fn zone_around(network: &IpNet) -> IpSubnets
+fn only_zone_around(network: &IpNet) -> IpSubnets
     requires { longest_zone (ip_network network.now).family < (ip_network network.now).prefix_len }
     ensures zones { AreReverseZones (ip_network network.now) (ip_subnets_left result) }
     ensures few { length (ip_subnets_left result) ≤ 128 }
@@ -159,7 +171,7 @@ fn zone_around(network: &IpNet) -> IpSubnets
 }
 
 /// Returns the largest zones inside a network that is not smaller than every zone.
-fn zones_inside(network: &IpNet) -> IpSubnets
+pub(crate) fn zones_inside(network: &IpNet) -> IpSubnets
     requires { (ip_network network.now).prefix_len ≤ longest_zone (ip_network network.now).family }
     ensures zones { AreReverseZones (ip_network network.now) (ip_subnets_left result) }
     ensures few { length (ip_subnets_left result) ≤ 128 }
@@ -181,7 +193,64 @@ pub fn reverse_zones(network: &IpNet) -> IpSubnets
     ensures few { length (ip_subnets_left result) ≤ 128 }
 {
     if network.prefix_len() > longest_zone_len(network) {
-        return zone_around(network);
+        return only_zone_around(network);
     }
     zones_inside(network)
+}
+
+/// Whether RFC 2317 has a name for the zone of the network's names.
+fn has_delegated_zone(network: &Ipv4Net) -> bool
+    ensures { IsTrue result ↔ HasDelegatedZone (ipv4_network network.now) }
+{
+    network.prefix_len() > 24 && network.prefix_len() < 32
+}
+
+/// Appends the label of a delegated zone: the last octet of the number, "/", the prefix length, and ".". Fails only if
+/// memory runs out.
+fn push_delegated_label(text: &mut String, number: u32, prefix_len: u8) -> Result<(), AllocError>
+    ensures { OnOk result (string_bytes text.new ≡ string_bytes text.old
+        ++ (decimal (number % 256) ++ codes "/" ++ decimal prefix_len ++ codes ".")) }
+{
+    let octet = number % 256;
+    write!(text, "{octet}/{prefix_len}.")
+}
+
+/// Returns the name of the zone that is delegated to an IPv4 network. Fails only if memory runs out.
+fn ipv4_delegated_name(alloc: Global, network: &Ipv4Net) -> Result<String, AllocError>
+    ensures { IfOk result (λ text. string_bytes text ≡ delegated_name (ipv4_network network.now)) }
+{
+    let first = network.truncated().addr().to_bits();
+    let mut text = String::new(alloc);
+    push_delegated_label(&mut text, first, network.prefix_len())?;
+    push_ipv4_name(&mut text, network.addr().to_bits(), 3)?;
+    Ok(text)
+}
+
+/// Returns the name of the zone that is delegated to an IPv4 network, if it has one. Fails only if memory runs out.
+fn ipv4_delegated_zone(alloc: Global, network: &Ipv4Net) -> Result<Option<String>, AllocError>
+    ensures { let n = ipv4_network network.now in
+        IfOk result (λ found. SomeIff (option_map string_bytes found) (HasDelegatedZone n) (delegated_name n)) }
+{
+    if !has_delegated_zone(network) {
+        return Ok(None);
+    }
+    let name = ipv4_delegated_name(alloc, network)?;
+    Ok(Some(name))
+}
+
+/// Returns the name of the zone to which the reverse names of an IPv4 network of length 25 to 31 are delegated, as in
+/// the examples of RFC 2317, section 4: the last octet of its first address, "/" and its prefix length, in the zone of
+/// the /24 around it. Other networks have none. Fails only if memory runs out.
+///
+/// ```text
+/// 198.51.100.64/26: Some("64/26.100.51.198.in-addr.arpa"); 198.51.100.0/24, 198.51.100.64/32, fd00::/126: None
+/// ```
+pub fn delegated_zone_name(alloc: Global, network: &IpNet) -> Result<Option<String>, AllocError>
+    ensures { let n = ip_network network.now in
+        IfOk result (λ found. SomeIff (option_map string_bytes found) (HasDelegatedZone n) (delegated_name n)) }
+{
+    match network {
+        IpNet::V4(network) => ipv4_delegated_zone(alloc, network),
+        IpNet::V6(_) => Ok(None),
+    }
 }

@@ -2,8 +2,9 @@
 use crate::{Answer, Question, show};
 use ipnet::{IpAddr, IpNet};
 use ipnet_info::{
-    FactsForm, address_count, decimal_text, facts_text, first_host, hexadecimal_text, host_count,
-    last_host, reverse_zones, written_out, zone_name,
+    FactsForm, address_count, decimal_text, delegated_zone_name, facts_text, first_host,
+    hexadecimal_text, host_count, ipv4_len_for_hosts, ipv6_len_for_hosts, last_host, reverse_zones,
+    written_out, zone_name,
 };
 use std::alloc::{AllocError, Global};
 
@@ -20,13 +21,21 @@ pub fn ask(alloc: Global, question: Question<'_>) -> Answer {
         "decimal_text" => decimal_text(alloc, &network.addr())?,
         "hexadecimal_text" => hexadecimal_text(alloc, &network.addr())?,
         "written_out" => show_written_out(alloc, &network.addr())?,
+        "ipv4_len_for_hosts" => show(alloc, ipv4_len_for_hosts(count_of(question)))?,
+        "ipv6_len_for_hosts" => show(alloc, ipv6_len_for_hosts(count_of(question)))?,
         "zone_name" => zone_name(alloc, &network)?,
+        "delegated_zone_name" => show(alloc, delegated_zone_name(alloc, &network)?)?,
         "reverse_zones" => show_zones(alloc, &network)?,
         "facts_text" => show(alloc, facts_text(alloc, &network, FactsForm::Lines)?)?,
         "facts_json" => show(alloc, facts_text(alloc, &network, FactsForm::Json)?)?,
         _ => return Ok(None),
     };
     Ok(Some(text))
+}
+
+/// The number that is the second argument, or zero if it is not one.
+fn count_of(question: Question<'_>) -> u128 {
+    question.second.parse::<u128>().unwrap_or(0)
 }
 
 /// The IPv6 address in full; the text `none` for an IPv4 address.

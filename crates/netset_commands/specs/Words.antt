@@ -3,6 +3,8 @@ use Rattle.std.specs.Prelude.{◌≡◌, ◌≢◌, ◌<◌, ℕ, Bool, true, fa
 use Rattle.std.specs.Prelude.{unwrap_or, option_map}
 use Rattle.clap.specs.declared.parser.matches.ArgMatches.{ArgMatches}
 use Rattle.clap.specs.Matches.{found_of, first_value}
+use Rattle.std.specs.List.{AllZip}
+use Rattle.ipnet_base.specs.Address.{Family}
 use Rattle.ipnet.specs.NetworkOf.{ip_network}
 use Rattle.ipnet.specs.declared.net.IpNet.{IpNet}
 use Rattle.ipnet.specs.declared.parser.Grammar.{Grammar}
@@ -17,7 +19,9 @@ use Rattle.netset_forms.specs.declared.options.GivenLengths.{GivenLengths}
 use Rattle.netset_lib.specs.Commands.{grammar_of}
 use Rattle.ipnet_lists.specs.Names.{Names}
 use Rattle.netset_lib.specs.NetworkEntries.{IsArgumentCause}
-use Rattle.netset_lib.specs.PlanAnswers.{IsLengthText}
+use Rattle.netset_lib.specs.PlanWords.{IsPlanWord, IsPlanWordCause, IsLengthFor}
+use Rattle.netset_lib.specs.declared.plan_word.PlanWord.{PlanWord}
+use Rattle.netset_lib.specs.declared.plan_word.PlanWordCause.{PlanWordCause}
 use Rattle.netset_lib.specs.declared.command.Flags.{Flags}
 use Rattle.netset_lib.specs.declared.network_entry.ArgumentCause.{ArgumentCause}
 use Rattle.ipnet_origins.specs.declared.origins.Validity.{Validity}
@@ -59,14 +63,25 @@ IsFrameOf matches FirstFamily =
 
 -- Each word is read as a value, and these are the values, in order.
 abbrev pub AreReadAs : {T : Type 0} → (List ℕ → T → Type 0) → Names → List T → Type 0
-AreReadAs Is [] [] = Unit {0}
-AreReadAs Is [] (value ∷ values) = ⊥
-AreReadAs Is (word ∷ words) [] = ⊥
-AreReadAs Is (word ∷ words) (value ∷ values) = Is word.now value × AreReadAs Is words values
+AreReadAs Is = AllZip (λ word. Is word.now)
 
--- Each word is a prefix length, and these are the lengths, in order. Example: `24`, `/8` are 24, 8.
-abbrev pub AreLengths : Names → List ℕ → Type 0
-AreLengths = AreReadAs IsLengthText
+-- The word asks for this network of a plan.
+abbrev pub AsksFor : List ℕ → PlanWord → Type 0
+AsksFor word asked = IsPlanWord word asked.name.now asked.size
+
+-- Each word asks for a network of a plan, and these are the networks, in order.
+-- Example: `24`, `users=200hosts` are the length 24, and 200 hosts with the name `users`.
+abbrev pub ArePlanWords : Names → List PlanWord → Type 0
+ArePlanWords = AreReadAs AsksFor
+
+-- The word does not ask for a network of a plan.
+abbrev pub IsNoPlanWord : List ℕ → Type 0
+IsNoPlanWord word = (cause : PlanWordCause) × IsPlanWordCause word cause
+
+-- These are the prefix lengths of the networks that are asked for, in order, in a plan of this family.
+-- Example: 24 and 24 in IPv4 for the words above.
+abbrev pub AreLengthsFor : Family → List PlanWord → List ℕ → Type 0
+AreLengthsFor family = AllZip (λ asked. IsLengthFor family asked.size)
 
 -- The choice of the marks of a bar, by the flags `--ascii` and `--utf8`, and whether the output is a terminal.
 abbrev pub mark_choice : Bool → Bool → Bool → MarkChoice

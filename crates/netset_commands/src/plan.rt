@@ -1,13 +1,14 @@
 //! The command `plan`: its arguments, and its run.
-ghost use Rattle.std.specs.Prelude.{◌≡◌, ◌≤◌, IfErr, IfOk};
+ghost use Rattle.std.specs.Prelude.{◌≡◌, ◌≤◌, IfErr, IfOk, IfSome, IfNone};
 ghost use Rattle.netset_commands.specs.Without.{IsFamilyOfPool, only_families};
-ghost use Rattle.netset_commands.specs.Words.{AreLengths};
+ghost use Rattle.netset_commands.specs.Words.{AsksFor, ArePlanWords, IsNoPlanWord, AreLengthsFor};
+ghost use Rattle.netset_lib.specs.Planning.{family_of};
+ghost use Rattle.netset_lib.specs.PlanWords.{IsLengthFor, IsTooLarge};
 
 use crate::arguments::{
     ArgumentFailure, FIRST, FIRST_LIST, SHARED, SKIPPING, families_of, report_argument_failure,
 };
 use crate::bar::{BAR, PLAN_BAR, bar_form_of};
-use crate::listing::length_or_report;
 use crate::named_lists::name_of_list;
 use crate::reading::read_sets;
 use crate::table::{ARGUMENT, Argument, Form, Subcommand};
@@ -16,8 +17,13 @@ use clap::ArgMatches;
 use ipnet_bars::BarForm;
 use ipnet_sets::IpSet;
 use netset_files::Writers;
-use netset_lib::{Families, PlanCommand, PlanRequest, run_text};
+use netset_lib::runs::end_with;
+use netset_lib::{
+    Families, PlanCommand, PlanFailure, PlanFamily, PlanRequest, PlanSize, PlanWord, PlanWordCause,
+    length_for, plan_family, read_plan_word, run_text,
+};
 use netset_pictures::{PlanBarCommand, PlanBarRequest};
+use std::io::Write;
 
 /// The name of the command.
 pub const PLAN: &str = "plan";
@@ -61,7 +67,7 @@ const FREE_AND_LENGTHS: &[Argument] = &[
     Argument {
         id: LENGTHS,
         form: Form::Words("LEN"),
-        help: "The prefix lengths, such as 24 or /24, one for each network",
+        help: "Prefix lengths or hosts of networks, such as 24, /24 or 200hosts; with a name: users=24",
         is_required: true,
         ..ARGUMENT
     },
@@ -70,18 +76,89 @@ const FREE_AND_LENGTHS: &[Argument] = &[
 /// The command `plan`.
 pub const PLAN_COMMAND: Subcommand = Subcommand {
     name: PLAN,
-    about: "Networks of these prefix lengths inside FREE that share no address; status 1 if none exist",
+    about: "Networks of these sizes inside FREE that share no address; status 1 if none exist",
     arguments: &[SHARED, SKIPPING, FAMILIES, PLAN_BAR, FREE_AND_LENGTHS],
 };
 
-/// Reads the prefix lengths. If a word is not one, it is reported, and the error is the exit status.
-fn lengths_of(rt: &HostRuntime, words: &[&str]) -> Result<Vec<u8>, u8>
-    ensures lengths { IfOk result (λ lengths. AreLengths words.now lengths.items) }
+/// Prints that the word does not ask for a network of a plan.
+fn report_word(rt: &HostRuntime, word: &str, cause: PlanWordCause) {
+    let word = word.as_bytes().escape_ascii();
+    let mut faults = rt.stderr();
+    let _ = match cause {
+        PlanWordCause::Name => writeln!(
+            faults,
+            "netset: not a name before =: {word} (printable ASCII without blanks, # and ;, and no - in front)"
+        ),
+        PlanWordCause::Hosts => writeln!(faults, "netset: not a number of hosts: {word}"),
+        PlanWordCause::Length => writeln!(faults, "netset: not a prefix length: {word}"),
+    };
+}
+
+/// Reads a word that asks for a network of a plan. If it does not ask for one, it is reported, and the result is
+/// `None`.
+fn word_or_report<'a>(rt: &HostRuntime, word: &'a str) -> Option<PlanWord<'a>>
+    ensures some { IfSome result (AsksFor word.now) }
+    ensures none { IfNone result (IsNoPlanWord word.now) }
+{
+    match read_plan_word(word) {
+        Ok(asked) => Some(asked),
+        Err(cause) => {
+            report_word(rt, word, cause);
+            None
+        }
+    }
+}
+
+/// Reads the words that ask for networks. If a word does not ask for one, it is reported, and the error is the exit
+/// status.
+fn read_words<'a>(rt: &HostRuntime, words: &[&'a str]) -> Result<Vec<PlanWord<'a>>, u8>
+    ensures asked { IfOk result (λ asked. ArePlanWords words.now asked.items) }
+    ensures failed { IfErr result (λ status. status ≡ 2) }
+{
+    let mut asked = Vec::new(rt.alloc());
+    for word in words {
+        let Some(next) = word_or_report(rt, word) else {
+            return Err(2);
+        };
+        if asked.push(next).is_err() {
+            return Err(report_argument_failure(rt, ArgumentFailure::Memory));
+        }
+    }
+    Ok(asked)
+}
+
+/// Prints that no network of the family has as many hosts as the size.
+fn report_size(rt: &HostRuntime, size: PlanSize) {
+    if let PlanSize::Hosts(count) = size {
+        let _ = writeln!(
+            rt.stderr(),
+            "netset: {count}hosts: an IPv4 network has at most 4294967294 hosts"
+        );
+    }
+}
+
+/// The prefix length of the size. If no network of the family is as large, the size is reported, and the result is
+/// `None`.
+fn length_or_report(rt: &HostRuntime, family: PlanFamily, size: PlanSize) -> Option<u8>
+    ensures some { IfSome result (IsLengthFor (family_of family) size) }
+    ensures none { IfNone result (IsTooLarge (family_of family) size) }
+{
+    let length = length_for(family, size);
+    if length.is_none() {
+        report_size(rt, size);
+    }
+    length
+}
+
+/// The prefix lengths of the networks that are asked for, in a plan of this family. If no network of the family is as
+/// large as one of them, that is reported, and the error is the exit status.
+fn lengths_of(rt: &HostRuntime, family: PlanFamily, asked: &[PlanWord<'_>]) -> Result<Vec<u8>, u8>
+    ensures lengths { IfOk result (λ lengths. AreLengthsFor (family_of family) asked.now lengths.items) }
     ensures failed { IfErr result (λ status. status ≡ 2) }
 {
     let mut lengths = Vec::new(rt.alloc());
-    for word in words {
-        let Some(length) = length_or_report(rt, word) else {
+    for word in asked {
+        let Some(length) = length_or_report(rt, family, word.size) else {
             return Err(2);
         };
         if lengths.push(length).is_err() {
@@ -131,13 +208,37 @@ fn families_in(families: Families, pool: &IpSet) -> Families
     }
 }
 
+/// The networks that are asked for, and the form of the bar, if one is asked for.
+#[derive(Drop)]
+struct Asked<'a> {
+    words: Vec<PlanWord<'a>>,
+    bar: Option<BarForm>,
+}
+
+/// Reads what is asked for. If that fails, it is reported, and the error is the exit status.
+fn asked_for<'a>(
+    rt: &HostRuntime,
+    matches: &ArgMatches<'a>,
+    writers: &Writers<'_>,
+) -> Result<Asked<'a>, u8>
+    ensures { IfErr result (λ status. status ≡ 2) }
+{
+    let words = matches.get_strs(LENGTHS).unwrap_or(&[]);
+    let words = read_words(rt, words)?;
+    let bar = bar_of(rt, matches, writers)?;
+    Ok(Asked { words, bar })
+}
+
+/// The free addresses, and the families of a plan in them.
+#[derive(Drop)]
+struct Free {
+    set: IpSet,
+    families: Families,
+}
+
 /// Reads the list and the lists in use. Returns the free addresses, and the families of a plan in them. If that fails,
 /// or if lines are refused, it is reported, and the error is the exit status.
-fn read_free(
-    rt: &HostRuntime,
-    matches: &ArgMatches,
-    writers: &mut Writers<'_>,
-) -> Result<(IpSet, Families), u8>
+fn read_free(rt: &HostRuntime, matches: &ArgMatches, writers: &mut Writers<'_>) -> Result<Free, u8>
     ensures { IfErr result (λ status. status ≡ 2) }
 {
     let names = names_without_or_report(rt, matches, TAKEN, &[])?;
@@ -149,7 +250,56 @@ fn read_free(
         [] => families,
     };
     let set = without_or_report(rt, sets, names, writers)?;
-    Ok((set, families))
+    Ok(Free { set, families })
+}
+
+/// Prints the plan in the free addresses, or its bar, and returns the exit status. The list has this name.
+fn run_plan(
+    rt: &HostRuntime,
+    asked: &Asked<'_>,
+    free: Free,
+    name: &str,
+    writers: &mut Writers<'_>,
+) -> u8
+    ensures { result ≤ 2 }
+{
+    let Free { set, families } = free;
+    let names = [name];
+    let out = &mut writers.answer;
+    let faults = &mut writers.faults;
+    let Some(family) = plan_family(families, &set) else {
+        return end_with(&PlanFailure::Family, &names, faults).status;
+    };
+    let words = asked.words.as_slice();
+    let lengths = match lengths_of(rt, family, words) {
+        Ok(lengths) => lengths,
+        Err(status) => return status,
+    };
+    let alloc = rt.alloc();
+    let request = PlanRequest {
+        families,
+        lengths: lengths.as_slice(),
+    };
+    match asked.bar {
+        None => {
+            let command = PlanCommand {
+                alloc,
+                set,
+                request,
+                words,
+            };
+            run_text(command, &names, out, faults)
+        }
+        Some(form) => {
+            let plan = request;
+            let command = PlanBarCommand {
+                alloc,
+                set,
+                request: PlanBarRequest { plan, form },
+            };
+            run_text(command, &names, out, faults)
+        }
+    }
 }
 
 /// Reads the arguments and the lists, prints the plan or its bar, and returns the exit status.
@@ -157,48 +307,15 @@ fn read_free(
 pub fn plan_networks(rt: &HostRuntime, matches: &ArgMatches, writers: &mut Writers<'_>) -> u8
     ensures { result ≤ 2 }
 {
-    let words = matches.get_strs(LENGTHS).unwrap_or(&[]);
-    let lengths = match lengths_of(rt, words) {
-        Ok(lengths) => lengths,
+    let asked = match asked_for(rt, matches, writers) {
+        Ok(asked) => asked,
         Err(status) => return status,
     };
-    let bar = match bar_of(rt, matches, writers) {
-        Ok(bar) => bar,
-        Err(status) => return status,
-    };
-    let (set, families) = match read_free(rt, matches, writers) {
+    let free = match read_free(rt, matches, writers) {
         Ok(free) => free,
         Err(status) => return status,
     };
-    let names = [name_of_list(matches, FIRST)];
-    let alloc = rt.alloc();
-    let request = PlanRequest {
-        families,
-        lengths: lengths.as_slice(),
-    };
-    let out = &mut writers.answer;
-    let faults = &mut writers.faults;
-    let status = match bar {
-        None => {
-            let command = PlanCommand {
-                alloc,
-                set,
-                request,
-            };
-            run_text(command, &names, out, faults)
-        }
-        Some(form) => {
-            let request = PlanBarRequest {
-                plan: request,
-                form,
-            };
-            let command = PlanBarCommand {
-                alloc,
-                set,
-                request,
-            };
-            run_text(command, &names, out, faults)
-        }
-    };
+    let name = name_of_list(matches, FIRST);
+    let status = run_plan(rt, &asked, free, name, writers);
     writers.without_answer_at_1(status)
 }

@@ -1,6 +1,7 @@
 -- Lemmas of this crate.
 pub mod LengthTexts
 pub mod PlanLaws
+pub mod SizeTexts
 pub mod RunLaws
 pub mod StepLaws
 pub mod ChangeLaws

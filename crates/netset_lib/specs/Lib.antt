@@ -13,6 +13,7 @@ pub mod Answering
 pub mod ListSets
 pub mod Replies
 pub mod PlanAnswers
+pub mod PlanWords
 pub mod Planning
 pub mod SetsOf
 pub mod Changes

@@ -53,6 +53,28 @@ pub fn read_number(text: &str) -> Option<u32>
     }
 }
 
+/// Returns the number up to 340282366920938463463374607431768211455 that the text is, in decimal without leading zeros,
+/// or `None` if it is not one.
+pub(crate) fn read_u128(text: &str) -> Option<u128>
+    ensures { (n : ℕ) → (result ≡ Some n)
+        ↔ IsDecimal Strict 39 340282366920938463463374607431768211455 text.now n }
+{
+    let bytes = text.as_bytes();
+    if bytes.is_empty() || bytes.len() > 39 {
+        return None;
+    }
+    if !are_digits(bytes) {
+        return None;
+    }
+    if bytes[0] == b'0' && bytes.len() > 1 {
+        return None;
+    }
+    match text.parse::<u128>() {
+        Ok(number) => Some(number),
+        Err(_) => None,
+    }
+}
+
 /// Returns the prefix length that the text is, or `None` if it is not one. It has no leading zeros and is at most 128,
 /// with "/" before it or without.
 ///

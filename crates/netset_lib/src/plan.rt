@@ -1,6 +1,6 @@
 //! Plans: networks of given prefix lengths in the addresses of a set, as text.
 ghost use Rattle.std.specs.Prelude.{◌≡◌, ◌↔◌, ◌⊎◌, ◌<◌, ◌≤◌, Any, All, IfOk, IsOk, IfErr, IsErr, Err};
-ghost use Rattle.std.specs.Prelude.{IfSome, IfNone, Some, OnOk};
+ghost use Rattle.std.specs.Prelude.{IfSome, IfNone, Some, OnOk, drop};
 ghost use Rattle.std.specs.Fmt.{DisplaysOnOk, DisplaysStyledOnOk};
 ghost use Rattle.ipnet_text.specs.Outputs.{IsWritten, IsFrontWritten};
 ghost use Rattle.std.specs.Prelude.{map, string_bytes};
@@ -12,19 +12,22 @@ ghost use Rattle.ipnet_pools.specs.Placements.{CanPlace};
 ghost use Rattle.ipnet_pools.specs.Plans.{requests_of, IsPlan, KeepsRoom};
 ghost use Rattle.ipnet_pools.specs.declared.error.PoolError.TheVariants as Pool;
 ghost use Rattle.netset_lib.specs.PlanAnswers.{HasOnly, IsPlanFamily, IsPlanText, HasNoPlacement, IsPlanFailure};
+ghost use Rattle.netset_lib.specs.PlanAnswers.{first_name, plan_lines};
 ghost use Rattle.netset_lib.specs.Planning.{family_of, exit_of_plan, plan_words};
 ghost use Rattle.netset_lib.specs.Reports.{words_line};
 ghost use Rattle.netset_lib.specs.declared.plan.PlanFailure.TheVariants.{NoPlacement, Memory};
 
 use crate::operation::Families;
+use crate::plan_word::PlanWord;
 use crate::reports::{OUT_OF_MEMORY, Words, long_words, report_words};
 use crate::runs::Report;
+use crate::text_route::push_with_text;
 use arrayvec::ArrayString;
 use ipnet::IpNet;
 use ipnet_pools::PoolError;
 use ipnet_pools::plan::{plan_ipv4, plan_ipv6};
 use ipnet_sets::IpSet;
-use ipnet_text::{Watched, lines_of_networks};
+use ipnet_text::Watched;
 use std::alloc::{AllocError, Global};
 use std::error::Error;
 use std::fmt::{Display, Formatter};
@@ -151,8 +154,12 @@ fn only_family(set: &IpSet) -> Option<PlanFamily>
     }
 }
 
-/// The family of the planned networks, if it is chosen.
-fn plan_family(families: Families, set: &IpSet) -> Option<PlanFamily>
+/// Returns the family of the planned networks, or `None` if it is not chosen: the only family of the set for `Named`.
+///
+/// ```text
+/// Named, and 10.0.0.0/24: Some(Ipv4); Named, and no address: None; Ipv6, and 10.0.0.0/24: Some(Ipv6); Both: None
+/// ```
+pub fn plan_family(families: Families, set: &IpSet) -> Option<PlanFamily>
     ensures some { IfSome result (λ f. IsPlanFamily families (IsMember set.now) (family_of f)) }
     ensures none { IfNone result ((f : Family) → ¬ (IsPlanFamily families (IsMember set.now) f)) }
 {
@@ -253,24 +260,57 @@ pub fn plan_networks(
     }
 }
 
-/// Returns the networks of `plan_networks` as text, one a line. It fails as `plan_networks` does.
+/// The name of the first of the words, and the other words.
+fn first_name<'a, 'b>(words: &'b [PlanWord<'a>]) -> (&'a str, &'b [PlanWord<'a>])
+    ensures name { result.0.now ≡ first_name words.now }
+    ensures others { result.1.now ≡ drop 1 words.now }
+{
+    match words {
+        [] => ("", words),
+        [word, others @ ..] => (word.name, others),
+    }
+}
+
+/// The networks as text, one on each line, with the names of the words.
+fn lines_of_plan(
+    alloc: Global,
+    networks: &[IpNet],
+    words: &[PlanWord<'_>],
+) -> Result<String, AllocError>
+    ensures { IfOk result (λ text. string_bytes text ≡ plan_lines (map ip_network networks.now) words.now) }
+{
+    let mut text = String::new(alloc);
+    let mut others = words;
+    for network in networks {
+        let (name, rest) = first_name(others);
+        push_with_text(&mut text, *network, name)?;
+        others = rest;
+    }
+    Ok(text)
+}
+
+/// Returns the networks of `plan_networks` as text, one on each line. The name of the word at the same place follows
+/// after a blank, if there is one. It fails as `plan_networks` does.
 ///
 /// ```text
-/// lengths 26, 25 in 10.0.0.0/24: "10.0.0.0/26\n10.0.0.128/25\n"
+/// lengths 26, 25 in 10.0.0.0/24, no words: "10.0.0.0/26\n10.0.0.128/25\n"
+/// the same, and the words 26, users=25: "10.0.0.0/26\n10.0.0.128/25 users\n"
 /// lengths 25, 25, 27 in 10.0.0.0/24: NoPlacement
 /// ```
 pub fn plan_text(
     alloc: Global,
     set: &IpSet,
     request: PlanRequest<'_>,
+    words: &[PlanWord<'_>],
 ) -> Result<String, PlanFailure>
     ensures plan { let r = request.entry in
-        IfOk result (λ text. IsPlanText (IsMember set.now) r.families r.lengths.now (string_bytes text)) }
+        IfOk result (λ text.
+        IsPlanText (IsMember set.now) r.families r.lengths.now words.now (string_bytes text)) }
     ensures placed { let r = request.entry in
         IsOk result → ¬ (HasNoPlacement (IsMember set.now) r.families r.lengths.now) }
     ensures failure { let r = request.entry in
         IfErr result (IsPlanFailure (IsMember set.now) r.families r.lengths.now) }
 {
     let plan = plan_networks(alloc, set, request)?;
-    Ok(lines_of_networks(alloc, plan.networks.as_slice())?)
+    Ok(lines_of_plan(alloc, plan.networks.as_slice(), words)?)
 }

@@ -4,6 +4,7 @@ ghost use Rattle.ipnet_sets.specs.Members.{IsMember};
 ghost use Rattle.netset_lib.specs.PlanAnswers.{HasNoPlacement, IsPlanFailure, IsPlanText};
 
 use crate::plan::{PlanFailure, PlanRequest, plan_text};
+use crate::plan_word::PlanWord;
 use crate::runs::TextCommand;
 use ipnet_sets::IpSet;
 use std::alloc::Global;
@@ -21,6 +22,7 @@ use std::alloc::Global;
 ///
 /// ```text
 /// 10.0.0.0/24, lengths 26 and 25:  status 0, and out gets "10.0.0.0/26\n10.0.0.128/25\n"
+/// the same, words 26, users=25:    status 0, and out gets "10.0.0.0/26\n10.0.0.128/25 users\n"
 /// 10.0.0.0/24, lengths 25, 25, 27: status 1, and out gets nothing
 /// ```
 pub struct PlanCommand<'a> {
@@ -30,6 +32,8 @@ pub struct PlanCommand<'a> {
     pub set: IpSet,
     /// The networks that the plan has to have.
     pub request: PlanRequest<'a>,
+    /// The words with the names of the networks, in the order of the lengths. Without words there are no names.
+    pub words: &'a [PlanWord<'a>],
 }
 
 impl<'a> TextCommand for PlanCommand<'a> {
@@ -37,7 +41,8 @@ impl<'a> TextCommand for PlanCommand<'a> {
 
     type Failure = PlanFailure;
 
-    ghost is_answer = { λ c text. IsPlanText (IsMember c.set) c.request.families c.request.lengths.now text };
+    ghost is_answer = { λ c text.
+        IsPlanText (IsMember c.set) c.request.families c.request.lengths.now c.words.now text };
 
     ghost is_outcome = { λ c succeeded. IsTrue succeeded
         × ¬ (HasNoPlacement (IsMember c.set) c.request.families c.request.lengths.now) };
@@ -49,7 +54,8 @@ impl<'a> TextCommand for PlanCommand<'a> {
             alloc,
             set,
             request,
+            words,
         } = self;
-        Ok((plan_text(alloc, &set, request)?, true))
+        Ok((plan_text(alloc, &set, request, words)?, true))
     }
 }

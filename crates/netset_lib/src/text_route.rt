@@ -1,10 +1,12 @@
 //! For each entry of a list the longest network of a table that contains the whole of it, and the text of that network.
-ghost use Rattle.std.specs.Prelude.{◌≡◌, ◌++◌, ℕ, List, IfErr, IfOk, OnOk, string_bytes};
+ghost use Rattle.std.specs.Prelude.{◌≡◌, ◌++◌, ◌∷◌, [], ℕ, List, IfErr, IfOk, OnOk, string_bytes};
+ghost use Rattle.ipnet.specs.CanonicalTexts.{canonical_text};
+ghost use Rattle.ipnet.specs.NetworkOf.{ip_network};
 ghost use Rattle.ipnet_lists.specs.FoundEntry.{entry_of};
 ghost use Rattle.netset_lib.specs.TextReplies.{IsTextFailure};
 ghost use Rattle.netset_lib.specs.TextSteps.{AddsTextAnswer, AreTextAnswersBy, text_route_line};
 ghost use Rattle.ipnet_lists.specs.ListTexts.{IsMadeList};
-ghost use Rattle.netset_lib.specs.TextTables.{IsTextRouteAnswer, IsTableOfTexts};
+ghost use Rattle.netset_lib.specs.TextTables.{IsTextRouteAnswer, IsTableOfTexts, text_part};
 ghost use Rattle.netset_lib.specs.declared.text_route.TextFailure.TheVariants.{Memory};
 
 use crate::answerer::{Answers, entry_text, push_missing};
@@ -35,6 +37,23 @@ impl From<AllocError> for TextFailure {
     }
 }
 
+/// Appends the network, this text after a blank if it is not empty, and a newline.
+pub(crate) fn push_with_text(
+    text: &mut String,
+    network: IpNet,
+    after: &str,
+) -> Result<(), AllocError>
+    ensures { OnOk result (string_bytes text.new ≡ string_bytes text.old
+        ++ (canonical_text (ip_network network) ++ text_part after.now ++ 10 ∷ [])) }
+{
+    text.push_str(network.to_text().as_str())?;
+    if !after.is_empty() {
+        text.push_str(" ")?;
+        text.push_str(after)?;
+    }
+    text.push_str("\n")
+}
+
 /// Appends the line of the entry that is written so, with this network and this text after it.
 fn push_text(
     text: &mut String,
@@ -47,12 +66,8 @@ fn push_text(
 {
     text.push_str(written)?;
     text.push_str(" ")?;
-    text.push_str(network.to_text().as_str())?;
-    if !after.is_empty() {
-        text.push_str(" ")?;
-        text.push_str(after)?;
-    }
-    text.push_str("\n")
+    push_with_text(text, network, after)?;
+    Ok(())
 }
 
 /// Adds a line with the entry, the longest network of the table that contains it, and the text of the network.

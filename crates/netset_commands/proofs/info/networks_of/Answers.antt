@@ -1,4 +1,5 @@
-use Rattle.std.proofs.Common.{◌≡◌, ◌++◌, ◌∷◌, [], List, ◌+◌, drop, map, sym, ap, subst, ◌∙◌}
+use Rattle.std.proofs.Common.{◌≡◌, ◌++◌, ◌∷◌, [], List, ℕ, ◌+◌, drop, map, sym, ap, subst, ◌∙◌}
+use Rattle.std.specs.Borrow.{Bor}
 use Rattle.std.proofs.lemmas.List.{map-append}
 use Rattle.ipnet_base.specs.Network.{Network}
 use Rattle.ipnet.specs.NetworkOf.{ip_network}
@@ -11,6 +12,7 @@ loop-word-preserved c =
     let grammar = c.args.grammar in
     let words = c.args.words.now in
     let list = c.loop-word.networks.items in
+    let Is : Bor (List ℕ) → Network → Type 0 = λ word. IsNetworkOrAddress grammar word.now in
     let pushed : c.push.new.self.items ≡ list ++ c.in-Some.network ∷ [] =
     if_ok c.push.result c.push.new.self.items (list ++ c.in-Some.network ∷ []) list
     (sym c.is_err.ensures.value ∙ c.if-is_err.false) c.push.ensures.items in
@@ -18,10 +20,10 @@ loop-word-preserved c =
     → AreNetworkWords grammar (drop (c.loop-word.word-index + 1) words) rest
     → AreNetworkWords grammar words (all ++ rest) in
     subst P (sym (ap (map ip_network) pushed ∙ map-append ip_network list (c.in-Some.network ∷ [])))
-    (next_value (IsNetworkOrAddress grammar) words c.loop-word.word-index (ip_network c.in-Some.network)
-    (map ip_network list) _ c.loop-word-test.true c.in-Some.ensures.network c.loop-word.invariant)
+    (next_value Is words c.loop-word.word-index (ip_network c.in-Some.network) (map ip_network list) _
+    c.loop-word-test.true c.in-Some.ensures.network c.loop-word.invariant)
 
 pub returns-clause-networks : goal.returns-clause-networks
 returns-clause-networks c =
-    all_values (IsNetworkOrAddress c.args.grammar) c.args.words.now c.loop-word.word-index
+    all_values (λ word. IsNetworkOrAddress c.args.grammar word.now) c.args.words.now c.loop-word.word-index
     (map ip_network c.loop-word.networks.items) c.loop-word-test.false c.loop-word.invariant

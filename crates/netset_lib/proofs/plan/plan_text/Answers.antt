@@ -8,13 +8,13 @@ use Rattle.netset_lib.specs.Planning.{family_of}
 use Rattle.netset_lib.proofs.PlanLaws.{room_of_plan}
 use Rattle.netset_lib.proofs.plan.plan_text.Goals as goal
 
-pub returns-in_err-lines_of_networks-clause-failure : goal.returns-in_err-lines_of_networks-clause-failure
-returns-in_err-lines_of_networks-clause-failure c =
+pub returns-in_err-lines_of_plan-clause-failure : goal.returns-in_err-lines_of_plan-clause-failure
+returns-in_err-lines_of_plan-clause-failure c =
     let S = IsMember c.args.set.now in
     let r = c.args.request in
     let plan = c.in_ok-plan.plan in
-    let (y, is, memory) = err_from_is_err_and c.from_residual-in_err-lines_of_networks.result
-    c.from_residual-in_err-lines_of_networks.ensures.1 in
+    let (y, is, memory) = err_from_is_err_and c.from_residual-in_err-lines_of_plan.result
+    c.from_residual-in_err-lines_of_plan.ensures.1 in
     subst (λ z. IfErr z (IsPlanFailure S r.families r.lengths.now)) (sym (is ∙ ap Err memory))
     (room_of_plan S r.families (family_of plan.family) r.lengths.now (map ip_network plan.networks.items)
     c.in_ok-plan.ensures.chosen c.in_ok-plan.ensures.plan)
