@@ -1,11 +1,12 @@
--- Lists that an option takes out of the first list of a command: `--taken` of `plan`, and `--except` of `filter`.
-use Rattle.std.specs.Prelude.{◌≡◌, ◌↔◌, ◌<◌, ◌∷◌, ◌++◌, ℕ, Bool, true, false, List, map, codes}
+-- Lists that an option takes out of the lists of a command: `--taken` of `plan`, and `--except` of `filter` and of the
+-- operations.
+use Rattle.std.specs.Prelude.{◌≡◌, ◌↔◌, ◌<◌, ◌++◌, ℕ, Bool, true, false, List, map}
 use Rattle.clap.specs.declared.parser.matches.ArgMatches.{ArgMatches}
 use Rattle.ipnet_base.specs.Address.{Address, Family, IsAddress}
 use Rattle.ipnet_lists.specs.Names.{Names}
 use Rattle.ipnet_sets.specs.Members.{IsMember}
 use Rattle.ipnet_sets.specs.declared.set.IpSet.{IpSet}
-use Rattle.netset_commands.specs.Arguments.{input_count, list_name, values_of}
+use Rattle.netset_commands.specs.Arguments.{input_count, values_of}
 use Rattle.netset_lib.specs.Filters.{IsOnSide}
 use Rattle.netset_lib.specs.Operations.{IsInFirstAlone}
 use Rattle.netset_lib.specs.PlanAnswers.{IsPlanFamily}
@@ -15,12 +16,13 @@ use Rattle.netset_lib.specs.declared.filter.Side.{Side}
 use Rattle.netset_lib.specs.declared.operation.Families.{Families}
 use Rattle.netset_lib.specs.declared.operation.Families.TheVariants as Chosen
 
--- These are the names of the first list, then of the lists that the option with this id takes out of it, and the last
--- names. At most one list is standard input.
--- Example: `s`, `a`, `b`, `f` of `filter s f --except a --except b`, with the last name `f`.
-pub record AreNamesWithout (matches : ArgMatches) (id : List ℕ) (last names : Names) : Type 0 where
+-- These are the first names, then the names of the lists that the option with this id takes out of the first lists, and
+-- the last names. At most one list is standard input.
+-- Example: `s`, `a`, `b`, `f` of `filter s f --except a --except b`, with the first name `s` and the last name `f`; and
+-- `a`, `-e`, `w` of `union a -e ::1 --except w`, with the first names `a` and `-e`.
+pub record AreNamesWithout (matches : ArgMatches) (first : Names) (id : List ℕ) (last names : Names) : Type 0 where
   pub are : map (λ name. name.now) names
-      ≡ list_name matches (codes "first") ∷ values_of matches id ++ map (λ name. name.now) last
+      ≡ map (λ name. name.now) first ++ values_of matches id ++ map (λ name. name.now) last
   pub once : ¬ (1 < input_count names)
 
 -- The set has the addresses of the first set that are in no other: what `netset difference` prints of them.

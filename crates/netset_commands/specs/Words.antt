@@ -14,6 +14,8 @@ use Rattle.ipnet_lists.specs.Entries.{IsNetworkOrMasked}
 use Rattle.netset_commands.specs.Arguments.{IsFlag, input_count}
 use Rattle.netset_commands.specs.Calls.{AreFlags}
 use Rattle.netset_commands.specs.SelectOptions.{IsLengthGiven}
+use Rattle.netset_forms.specs.declared.expected.Expectation.{Expectation}
+use Rattle.netset_forms.specs.declared.expected.Expectation.TheVariants.{Anything, SomeAddress, NoAddress}
 use Rattle.netset_forms.specs.declared.options.FormOptions.{FormOptions}
 use Rattle.netset_forms.specs.declared.options.GivenLengths.{GivenLengths}
 use Rattle.netset_lib.specs.Commands.{grammar_of}
@@ -118,6 +120,13 @@ pub record AreFormOptions (matches : ArgMatches) (options : FormOptions) : Type 
   pub target : option_map (λ word. word.now) options.target ≡ first_value (found_of matches) (codes "target")
   pub ipv4_only : IsFlag matches (codes "ipv4-only") options.ipv4_only
   pub ipv6_only : IsFlag matches (codes "ipv6-only") options.ipv6_only
+
+-- The flags `--status` and `--expect-none`, which are not set together, choose what a command expects of its answer.
+-- Example: `SomeAddress` for `--status`, and `Anything` without both flags.
+abbrev pub expectation_of : (some none : Bool) → Expectation
+expectation_of true none = SomeAddress
+expectation_of false true = NoAddress
+expectation_of false false = Anything
 
 -- The routes of this validity are asked for by the option `--only`; or it names no validity, and all routes are.
 abbrev pub IsOnly : ArgMatches → Option Validity → Type 0

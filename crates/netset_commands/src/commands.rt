@@ -23,6 +23,7 @@ use crate::forms::ANSWER_FORM;
 use crate::info::INFO_COMMAND;
 use crate::listing::{HOSTS_COMMAND, SPLIT_COMMAND};
 use crate::map::MAP_COMMAND;
+use crate::operations::EXCEPT_LISTS;
 use crate::origins::ORIGINS_COMMAND;
 use crate::pairs::{BY_OPTION, LENGTHS_FLAG};
 use crate::plan::PLAN_COMMAND;
@@ -73,7 +74,13 @@ const TWO_LISTS_AND_MORE: &[Argument] = &[
 ];
 
 /// The arguments of an operation on at least two lists.
-const TWO_AND_MORE: &[&[Argument]] = &[SHARED, SKIPPING, ANSWER_FORM, TWO_LISTS_AND_MORE];
+const TWO_AND_MORE: &[&[Argument]] = &[
+    SHARED,
+    SKIPPING,
+    ANSWER_FORM,
+    &[EXCEPT_LISTS],
+    TWO_LISTS_AND_MORE,
+];
 
 /// The flags for the families of a complement, and its list.
 const COMPLEMENT_ARGUMENTS: &[Argument] = &[
@@ -89,6 +96,7 @@ const COMPLEMENT_ARGUMENTS: &[Argument] = &[
         help: "The complement in IPv6, whatever families the list has",
         ..ARGUMENT
     },
+    EXCEPT_LISTS,
     ONE_LIST,
     ENTRY_OR_FIRST,
 ];
@@ -164,7 +172,12 @@ const OPERATIONS: &[Subcommand] = &[
     Subcommand {
         name: UNION,
         about: "The addresses of all lists",
-        arguments: &[SHARED, SKIPPING, ANSWER_FORM, &[ANY_LISTS, ENTRY_OPTION]],
+        arguments: &[
+            SHARED,
+            SKIPPING,
+            ANSWER_FORM,
+            &[EXCEPT_LISTS, ANY_LISTS, ENTRY_OPTION],
+        ],
     },
     Subcommand {
         name: INTERSECTION,
@@ -183,7 +196,7 @@ const OPERATIONS: &[Subcommand] = &[
             SHARED,
             SKIPPING,
             ANSWER_FORM,
-            &[FIRST_LIST, OTHER_LIST, ENTRY_OR_OTHER],
+            &[EXCEPT_LISTS, FIRST_LIST, OTHER_LIST, ENTRY_OR_OTHER],
         ],
     },
     Subcommand {

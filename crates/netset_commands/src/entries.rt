@@ -1,15 +1,16 @@
 //! The commands about the entries of lists: their arguments, and their runs.
-ghost use Rattle.std.specs.Prelude.{◌≢◌, ◌≤◌, ◌<◌, ◌⊎◌, ◌↔◌, None, codes, length, IsTrue};
-ghost use Rattle.clap.specs.Matches.{found_of, first_value};
-ghost use Rattle.netset_commands.specs.Arguments.{entries_of};
+ghost use Rattle.std.specs.Prelude.{◌≡◌, ◌≤◌, IfOk, IfErr};
 
-use crate::arguments::{FIRST, ONE_LIST, OTHER_LIST, OTHERS, SHARED, SKIPPING, flags_of};
-use crate::entry_options::{ENTRY_OR_FIRST, ENTRY_OR_OTHER, has_entries};
-use crate::named_lists::{last_name, two_or_report};
-use crate::reading::{last_bytes, read_only_set, two_bytes};
+use crate::arguments::{
+    ANY_LISTS, ArgumentFailure, FIRST, ONE_LIST, SHARED, SKIPPING, flags_of,
+    report_argument_failure,
+};
+use crate::entry_options::{ENTRY_OPTION, ENTRY_OR_FIRST};
+use crate::named_lists::{check_names, last_name, names_or_report};
+use crate::reading::{bytes_of_all, last_bytes, read_only_set, slices_of, two_bytes};
 use crate::table::{Argument, Subcommand};
 use clap::ArgMatches;
-use netset_entries::{OverlapsCommand, RedundantCommand, SupernetCommand};
+use netset_entries::{ManyOverlapsCommand, OverlapsCommand, RedundantCommand, SupernetCommand};
 use netset_files::Writers;
 use netset_lib::{run, run_text};
 
@@ -37,17 +38,15 @@ pub const REDUNDANT_COMMAND: Subcommand = Subcommand {
 /// The command `overlaps`.
 pub const OVERLAPS_COMMAND: Subcommand = Subcommand {
     name: OVERLAPS,
-    about: "The pairs of entries that share an address; of two lists, of an entry of each; status 1 if there are any",
+    about: "The pairs of entries that share an address; of several lists, of entries of two lists; status 1 if any",
     arguments: &[
         SHARED,
         &[
-            ONE_LIST,
             Argument {
-                help: "The other list; the pairs are then of an entry of each",
-                is_required: false,
-                ..OTHER_LIST
+                help: "A list, - for standard input. If there are several, a pair has entries of two of them",
+                ..ANY_LISTS
             },
-            ENTRY_OR_OTHER,
+            ENTRY_OPTION,
         ],
     ],
 };
@@ -90,45 +89,16 @@ pub fn print_redundant(rt: &HostRuntime, matches: &ArgMatches, writers: &mut Wri
     }
 }
 
-/// Reads the lists, and prints the pairs of an entry of each that share addresses.
-fn print_overlaps_of_two(rt: &HostRuntime, matches: &ArgMatches, writers: &mut Writers<'_>) -> u8
-    ensures { result ≤ 2 }
-{
-    let names = match two_or_report(rt, matches) {
-        Ok(names) => names.in_order(),
-        Err(status) => return status,
-    };
-    let (bytes, others) = match two_bytes(rt, matches, &names, "entries", writers.reports) {
-        Ok(lists) => lists,
-        Err(status) => return status,
-    };
-    let command = OverlapsCommand {
-        alloc: rt.alloc(),
-        list: bytes.as_slice(),
-        other: Some(others.as_slice()),
-        grammar: flags_of(matches).grammar(),
-    };
-    let (out, faults) = (&mut writers.answer, &mut writers.faults);
-    run(command, &names, out, faults)
-}
-
-/// Whether two lists are named, or one and entries.
-fn are_two(matches: &ArgMatches) -> bool
-    ensures { IsTrue result ↔ ((first_value (found_of matches.now) (codes "others") ≢ None)
-        ⊎ ((first_value (found_of matches.now) (codes "first") ≢ None) × (0 < length (entries_of matches.now)))) }
-{
-    matches.get_str(OTHERS).is_some() || matches.get_str(FIRST).is_some() && has_entries(matches)
-}
-
-/// Reads the list, or two lists, and prints the pairs of entries that share addresses.
+/// Reads the list of this name, and prints the pairs of its entries that share addresses.
 #[inline(never)]
-pub fn print_overlaps(rt: &HostRuntime, matches: &ArgMatches, writers: &mut Writers<'_>) -> u8
+fn print_overlaps_of_one(
+    rt: &HostRuntime,
+    matches: &ArgMatches,
+    name: &str,
+    writers: &mut Writers<'_>,
+) -> u8
     ensures { result ≤ 2 }
 {
-    if are_two(matches) {
-        return print_overlaps_of_two(rt, matches, writers);
-    }
-    let name = last_name(matches, FIRST);
     match last_bytes(rt, matches, name, writers.reports) {
         Ok(bytes) => {
             let command = OverlapsCommand {
@@ -140,5 +110,77 @@ pub fn print_overlaps(rt: &HostRuntime, matches: &ArgMatches, writers: &mut Writ
             run(command, &[name], &mut writers.answer, &mut writers.faults)
         }
         Err(status) => status,
+    }
+}
+
+/// Reads the lists of these names, and prints the pairs of an entry of each that share addresses.
+#[inline(never)]
+fn print_overlaps_of_two(
+    rt: &HostRuntime,
+    matches: &ArgMatches,
+    names: &[&str; 2],
+    writers: &mut Writers<'_>,
+) -> u8
+    ensures { result ≤ 2 }
+{
+    let (bytes, others) = match two_bytes(rt, matches, names, "entries", writers.reports) {
+        Ok(lists) => lists,
+        Err(status) => return status,
+    };
+    let command = OverlapsCommand {
+        alloc: rt.alloc(),
+        list: bytes.as_slice(),
+        other: Some(others.as_slice()),
+        grammar: flags_of(matches).grammar(),
+    };
+    let (out, faults) = (&mut writers.answer, &mut writers.faults);
+    run(command, names, out, faults)
+}
+
+/// Reads the lists of these names, and prints the pairs of entries of two different lists that share addresses. If
+/// that fails, it is reported, and the error is the exit status.
+#[inline(never)]
+fn print_overlaps_of_many(
+    rt: &HostRuntime,
+    matches: &ArgMatches,
+    names: &[&str],
+    writers: &mut Writers<'_>,
+) -> Result<u8, u8>
+    ensures printed { IfOk result (λ status. status ≤ 2) }
+    ensures failed { IfErr result (λ status. status ≡ 2) }
+{
+    if let Err(failure) = check_names(names) {
+        return Err(report_argument_failure(rt, failure));
+    }
+    let all = bytes_of_all(rt, matches, names, writers.reports)?;
+    let Ok(lists) = slices_of(rt.alloc(), all.as_slice()) else {
+        return Err(report_argument_failure(rt, ArgumentFailure::Memory));
+    };
+    let command = ManyOverlapsCommand {
+        alloc: rt.alloc(),
+        names,
+        lists: lists.as_slice(),
+        grammar: flags_of(matches).grammar(),
+    };
+    let (out, faults) = (&mut writers.answer, &mut writers.faults);
+    Ok(run(command, names, out, faults))
+}
+
+/// Reads the list, or several lists, and prints the pairs of entries that share addresses.
+#[inline(never)]
+pub fn print_overlaps(rt: &HostRuntime, matches: &ArgMatches, writers: &mut Writers<'_>) -> u8
+    ensures { result ≤ 2 }
+{
+    let names = match names_or_report(rt, matches) {
+        Ok(names) => names,
+        Err(status) => return status,
+    };
+    match names.as_slice() {
+        [name] => print_overlaps_of_one(rt, matches, name, writers),
+        [first, second] => print_overlaps_of_two(rt, matches, &[*first, *second], writers),
+        names => match print_overlaps_of_many(rt, matches, names, writers) {
+            Ok(status) => status,
+            Err(status) => status,
+        },
     }
 }

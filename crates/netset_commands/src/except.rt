@@ -1,12 +1,12 @@
-//! The option `--except` of `filter`, and the run of a filter by a list without others.
+//! The option `--except`, and the run of a filter by a list without others.
 ghost use Rattle.std.specs.Prelude.{◌≡◌, ◌≤◌, ◌<◌, ◌↔◌, length, codes, IsTrue, IfOk, IfErr};
 ghost use Rattle.netset_commands.specs.Arguments.{values_of};
 ghost use Rattle.netset_commands.specs.Without.{IsFilterWithout};
 ghost use Rattle.netset_lib.specs.declared.failure.Failure.TheVariants.{Memory};
 
-use crate::arguments::{OTHERS, flags_of};
+use crate::arguments::{FIRST, OTHERS, flags_of};
 use crate::entry_options::entries_or_report;
-use crate::named_lists::last_name;
+use crate::named_lists::{last_name, name_of_list};
 use crate::reading::{finish, set_reader};
 use crate::table::{ARGUMENT, Argument, Form};
 use crate::without::{names_without_or_report, set_without};
@@ -112,7 +112,8 @@ pub fn filter_without(
     ensures { result ≤ 2 }
 {
     let file = last_name(matches, OTHERS);
-    let names = match names_without_or_report(rt, matches, EXCEPT, &[file]) {
+    let set = name_of_list(matches, FIRST);
+    let names = match names_without_or_report(rt, matches, &[set], EXCEPT, &[file]) {
         Ok(names) => names,
         Err(status) => return status,
     };

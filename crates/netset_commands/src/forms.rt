@@ -1,7 +1,7 @@
 //! The options for the form of an answer that is a set.
-ghost use Rattle.std.specs.Prelude.{◌≡◌, codes, IfOk, IfErr};
+ghost use Rattle.std.specs.Prelude.{◌≡◌, Bool, codes, IfOk, IfErr};
 ghost use Rattle.netset_commands.specs.Arguments.{IsFlag};
-ghost use Rattle.netset_commands.specs.Words.{AreFormOptions, AreLengthsGiven};
+ghost use Rattle.netset_commands.specs.Words.{AreFormOptions, AreLengthsGiven, expectation_of};
 ghost use Rattle.netset_forms.specs.FormOptions.{IsRequestOf};
 ghost use Rattle.netset_forms.specs.declared.options.FormOptions.{FormOptions};
 
@@ -9,7 +9,7 @@ use crate::arguments::{RANGES_FLAG, is_set};
 use crate::select::length_of;
 use crate::table::{ARGUMENT, Argument, Form};
 use clap::ArgMatches;
-use netset_forms::{FormOptions, FormRequest, GivenLengths, SetNames};
+use netset_forms::{Expectation, FormOptions, FormRequest, GivenLengths, SetNames};
 use std::io::Write;
 
 /// The ids and the names of the options.
@@ -43,8 +43,10 @@ const IPV6_LE: &str = "ipv6-le";
 
 const MAXELEM: &str = "maxelem";
 
-/// The id and the name of the flag for the status of an answer without an address.
+/// The ids and the names of the flags by which the status depends on whether the answer has an address.
 const STATUS: &str = "status";
+
+const EXPECT_NONE: &str = "expect-none";
 
 /// The values of `--format`.
 const FORMATS: &[&str] = &[
@@ -149,13 +151,34 @@ pub const ANSWER_FORM: &[Argument] = &[
         help: "End with status 1 if the answer has no address",
         ..ARGUMENT
     },
+    Argument {
+        id: EXPECT_NONE,
+        form: Form::Flag(EXPECT_NONE),
+        help: "End with status 1 if the answer has an address, and 0 if it has none",
+        conflicts: &[STATUS],
+        ..ARGUMENT
+    },
 ];
 
-/// Whether the status says if the answer has an address.
-pub fn needs_address(matches: &ArgMatches) -> bool
-    ensures { IsFlag matches.now (codes "status") result }
+/// Returns the expectation of an answer. The first flag asks for an address, and otherwise the second for none.
+fn chosen_expectation(some: bool, none: bool) -> Expectation
+    ensures { result ≡ expectation_of some none }
 {
-    is_set(matches, STATUS)
+    match (some, none) {
+        (true, _) => Expectation::SomeAddress,
+        (false, true) => Expectation::NoAddress,
+        (false, false) => Expectation::Anything,
+    }
+}
+
+/// Returns the expectation that the flags `--status` and `--expect-none` choose.
+pub fn expectation_of(matches: &ArgMatches) -> Expectation
+    ensures { (some : Bool) × (none : Bool) × IsFlag matches.now (codes "status") some
+        × IsFlag matches.now (codes "expect-none") none × (result ≡ expectation_of some none) }
+{
+    let some = is_set(matches, STATUS);
+    let none = is_set(matches, EXPECT_NONE);
+    chosen_expectation(some, none)
 }
 
 /// The greatest lengths of the entries of prefix lists. If a word is not a prefix length, it is reported, and the error

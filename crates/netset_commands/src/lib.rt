@@ -19,6 +19,7 @@ mod listing;
 mod map;
 mod named_lists;
 mod noted;
+mod operations;
 mod origins;
 mod pairs;
 mod plan;

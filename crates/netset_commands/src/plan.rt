@@ -241,7 +241,8 @@ struct Free {
 fn read_free(rt: &HostRuntime, matches: &ArgMatches, writers: &mut Writers<'_>) -> Result<Free, u8>
     ensures { IfErr result (λ status. status ≡ 2) }
 {
-    let names = names_without_or_report(rt, matches, TAKEN, &[])?;
+    let pool = name_of_list(matches, FIRST);
+    let names = names_without_or_report(rt, matches, &[pool], TAKEN, &[])?;
     let names = names.as_slice();
     let sets = read_sets(rt, matches, names, writers)?;
     let families = families_of(matches);

@@ -5,119 +5,48 @@ ghost use Rattle.netset_commands.specs.Calls.{AreFlags};
 ghost use Rattle.netset_files.specs.Statuses.{IsExitStatus, IsUsualStatus};
 ghost use Rattle.netset_lib.specs.Commands.{side_of};
 ghost use Rattle.netset_lib.specs.declared.command.Flags.{Flags};
-ghost use Rattle.netset_lib.specs.declared.operation.Combination.TheVariants.{Union, Intersection, Difference};
 ghost use Rattle.netset_lib.specs.declared.query.Query.TheVariants.{Filter};
 
-use crate::apply::APPLY;
-use crate::apply::apply_changes;
-use crate::arguments::ArgumentFailure;
-use crate::arguments::FIRST;
-use crate::arguments::OUTPUT;
-use crate::arguments::escaped;
-use crate::arguments::families_of;
-use crate::arguments::flags_of;
-use crate::arguments::is_set;
-use crate::arguments::report_argument_failure;
-use crate::arguments::reports_of;
-use crate::arguments::words;
-use crate::bar::BAR;
-use crate::bar::draw_bar;
-use crate::changes::CHANGES;
-use crate::changes::print_changes;
-use crate::commands::COMPARE;
-use crate::commands::COMPLEMENT;
-use crate::commands::COUNT;
-use crate::commands::DIFFERENCE;
-use crate::commands::FILTER;
-use crate::commands::INTERSECTION;
-use crate::commands::ROUTE;
-use crate::commands::STREAM;
-use crate::commands::SYMMETRIC_DIFFERENCE;
-use crate::commands::UNION;
-use crate::commands::matches_of;
-use crate::entries::OVERLAPS;
-use crate::entries::REDUNDANT;
-use crate::entries::SUPERNET;
-use crate::entries::print_overlaps;
-use crate::entries::print_redundant;
-use crate::entries::print_supernet;
+use crate::apply::{APPLY, apply_changes};
+use crate::arguments::{
+    ArgumentFailure, OUTPUT, escaped, flags_of, is_set, report_argument_failure, reports_of, words,
+};
+use crate::bar::{BAR, draw_bar};
+use crate::changes::{CHANGES, print_changes};
+use crate::commands::{
+    COMPARE, COMPLEMENT, COUNT, DIFFERENCE, FILTER, INTERSECTION, ROUTE, STREAM,
+    SYMMETRIC_DIFFERENCE, UNION, matches_of,
+};
+use crate::entries::{
+    OVERLAPS, REDUNDANT, SUPERNET, print_overlaps, print_redundant, print_supernet,
+};
 use crate::entry_options::entries_or_report;
-use crate::except::filter_without;
-use crate::except::has_excepts;
-use crate::extract::EXTRACT;
-use crate::extract::extract_entries;
-use crate::find::FIND;
-use crate::find::find_entries;
-use crate::fit::FIT;
-use crate::fit::fit_lists;
-use crate::forms::form_of;
-use crate::forms::needs_address;
-use crate::info::INFO;
-use crate::info::print_facts;
-use crate::listing::HOSTS;
-use crate::listing::SPLIT;
-use crate::listing::list_hosts;
-use crate::listing::list_subnets;
-use crate::map::MAP;
-use crate::map::draw_map;
-use crate::named_lists::check_names;
-use crate::named_lists::last_name;
-use crate::named_lists::names_or_report;
-use crate::named_lists::two_or_report;
-use crate::origins::ORIGINS;
-use crate::origins::validate_origins;
-use crate::pairs::compare_pairs;
-use crate::pairs::has_lengths_flag;
-use crate::pairs::pools_of;
-use crate::pairs::print_lengths;
-use crate::pairs::print_shares;
-use crate::plan::PLAN;
-use crate::plan::plan_networks;
-use crate::prefixes::PREFIX_LIST;
-use crate::prefixes::judge_networks;
-use crate::reading::finish;
-use crate::reading::read_only_set;
-use crate::reading::read_pair;
-use crate::reading::read_sets;
-use crate::reading::set_reader;
-use crate::rules::PERMITTED;
-use crate::rules::UNREACHED;
-use crate::rules::print_permitted;
-use crate::rules::print_unreached;
-use crate::select::SELECT;
-use crate::select::select_entries;
-use crate::shorten::SHORTEN;
-use crate::shorten::shorten_table;
-use crate::tally::TALLY;
-use crate::tally::tally_log;
-use crate::texts::has_all_flag;
-use crate::texts::has_text_flag;
-use crate::texts::route_all;
-use crate::texts::route_with_text;
-use crate::whole_lines::LINES;
-use crate::whole_lines::filter_lines;
+use crate::except::{filter_without, has_excepts};
+use crate::extract::{EXTRACT, extract_entries};
+use crate::find::{FIND, find_entries};
+use crate::fit::{FIT, fit_lists};
+use crate::info::{INFO, print_facts};
+use crate::listing::{HOSTS, SPLIT, list_hosts, list_subnets};
+use crate::map::{MAP, draw_map};
+use crate::named_lists::{check_names, names_or_report, two_or_report};
+use crate::operations::combine_lists;
+use crate::origins::{ORIGINS, validate_origins};
+use crate::pairs::{compare_pairs, has_lengths_flag, pools_of, print_lengths, print_shares};
+use crate::plan::{PLAN, plan_networks};
+use crate::prefixes::{PREFIX_LIST, judge_networks};
+use crate::reading::{finish, read_pair, read_sets, set_reader};
+use crate::rules::{PERMITTED, UNREACHED, print_permitted, print_unreached};
+use crate::select::{SELECT, select_entries};
+use crate::shorten::{SHORTEN, shorten_table};
+use crate::tally::{TALLY, tally_log};
+use crate::texts::{has_all_flag, has_text_flag, route_all, route_with_text};
+use crate::whole_lines::{LINES, filter_lines};
 use clap::ArgMatches;
-use ipnet_sets::IpSet;
-use netset_files::CLOSED;
-use netset_files::Ends;
-use netset_files::Faults;
-use netset_files::FirstReader;
-use netset_files::Lists;
-use netset_files::Writers;
-use netset_files::read_answers;
-use netset_files::read_first;
-use netset_files::status_after;
-use netset_files::stream_list;
-use netset_forms::FormCommand;
-use netset_lib::Answer;
-use netset_lib::Combination;
-use netset_lib::CompareCommand;
-use netset_lib::CountCommand;
-use netset_lib::Query;
-use netset_lib::SetReader;
-use netset_lib::run_text;
-use std::io::ErrorKind;
-use std::io::Write;
+use netset_files::{
+    CLOSED, Ends, Faults, FirstReader, Lists, Writers, read_answers, read_first, status_after, stream_list,
+};
+use netset_lib::{Answer, CompareCommand, CountCommand, Query, SetReader, run_text};
+use std::io::{ErrorKind, Write};
 
 /// Runs the program that prints this version of itself, and returns its exit status.
 pub fn run(rt: &HostRuntime, version: &'static str) -> u8
@@ -198,9 +127,9 @@ fn run_command(rt: &HostRuntime, name: &str, matches: &ArgMatches, writers: &mut
     ensures { result ≤ 2 }
 {
     match name {
-        UNION | INTERSECTION | DIFFERENCE => combine_lists(rt, name, matches, writers),
-        SYMMETRIC_DIFFERENCE => print_symmetric_difference(rt, matches, writers),
-        COMPLEMENT => print_complement(rt, matches, writers),
+        UNION | INTERSECTION | DIFFERENCE | SYMMETRIC_DIFFERENCE | COMPLEMENT => {
+            combine_lists(rt, name, matches, writers)
+        }
         COUNT if has_lengths_flag(matches) => print_lengths(rt, matches, writers),
         COUNT => match pools_of(matches) {
             Some(pools) => print_shares(rt, pools, matches, writers),
@@ -261,114 +190,6 @@ fn run_route(rt: &HostRuntime, matches: &ArgMatches, writers: &mut Writers<'_>) 
     } else {
         run_query(rt, Query::Route, matches, writers)
     }
-}
-
-/// Prints what an operation on any number of lists makes of them, and returns the status. The name is the command's.
-#[inline(never)]
-fn combine_lists(
-    rt: &HostRuntime,
-    name: &str,
-    matches: &ArgMatches,
-    writers: &mut Writers<'_>,
-) -> u8
-    ensures { result ≤ 2 }
-{
-    let names = match names_or_report(rt, matches) {
-        Ok(names) => names,
-        Err(status) => return status,
-    };
-    let names = names.as_slice();
-    let form = match form_of(rt, matches) {
-        Ok(form) => form,
-        Err(status) => return status,
-    };
-    match read_sets(rt, matches, names, writers) {
-        Ok(sets) => {
-            let command = FormCommand {
-                alloc: rt.alloc(),
-                combination: combination_of(name, sets),
-                form,
-                needs_address: needs_address(matches),
-            };
-            print_set(command, names, writers)
-        }
-        Err(status) => status,
-    }
-}
-
-/// The operation of the command of this name, on these sets.
-fn combination_of(name: &str, sets: Vec<IpSet>) -> Combination
-    ensures union { name.now ≡ codes "union" → result ≡ Union sets }
-    ensures intersection { name.now ≡ codes "intersection" → result ≡ Intersection sets }
-    ensures difference { name.now ≡ codes "difference" → result ≡ Difference sets }
-{
-    match name {
-        "intersection" => Combination::Intersection(sets),
-        "difference" => Combination::Difference(sets),
-        _ => Combination::Union(sets),
-    }
-}
-
-/// Prints the symmetric difference of the lists, and returns the status.
-#[inline(never)]
-fn print_symmetric_difference(
-    rt: &HostRuntime,
-    matches: &ArgMatches,
-    writers: &mut Writers<'_>,
-) -> u8
-    ensures { result ≤ 2 }
-{
-    let names = match two_or_report(rt, matches) {
-        Ok(names) => names.in_order(),
-        Err(status) => return status,
-    };
-    let form = match form_of(rt, matches) {
-        Ok(form) => form,
-        Err(status) => return status,
-    };
-    match read_pair(rt, matches, &names, writers) {
-        Ok((first, second)) => {
-            let command = FormCommand {
-                alloc: rt.alloc(),
-                combination: Combination::SymmetricDifference(first, second),
-                form,
-                needs_address: needs_address(matches),
-            };
-            print_set(command, &names, writers)
-        }
-        Err(status) => status,
-    }
-}
-
-/// Prints the complement of the list, and returns the status.
-#[inline(never)]
-fn print_complement(rt: &HostRuntime, matches: &ArgMatches, writers: &mut Writers<'_>) -> u8
-    ensures { result ≤ 2 }
-{
-    let form = match form_of(rt, matches) {
-        Ok(form) => form,
-        Err(status) => return status,
-    };
-    let name = last_name(matches, FIRST);
-    match read_only_set(rt, matches, name, writers) {
-        Ok(set) => {
-            let command = FormCommand {
-                alloc: rt.alloc(),
-                combination: Combination::Complement(families_of(matches), set),
-                form,
-                needs_address: needs_address(matches),
-            };
-            print_set(command, &[name], writers)
-        }
-        Err(status) => status,
-    }
-}
-
-/// Prints the result of the operation, and returns the status.
-fn print_set(command: FormCommand<'_>, names: &[&str], writers: &mut Writers<'_>) -> u8
-    ensures { result ≤ 2 }
-{
-    netset_lib::run(command, names, &mut writers.answer, &mut writers.faults)
 }
 
 /// Prints the number of addresses of each list, and returns the status.

@@ -1,5 +1,6 @@
 //! The sets of the lists of a command, which are read with a report if that fails.
 ghost use Rattle.std.specs.Prelude.{◌≡◌, ◌<◌, ◌⊎◌, [], true, false, length, IsTrue, IsOk, IsErr, IfOk, IfErr, OnOk};
+ghost use Rattle.std.specs.Prelude.{map};
 ghost use Rattle.netset_commands.specs.Arguments.{entries_of};
 ghost use Rattle.netset_commands.specs.BadLines.{HasBadLine, HasNoBadLine};
 ghost use Rattle.netset_commands.specs.Calls.{AreFlags};
@@ -17,6 +18,7 @@ use netset_files::{
 };
 use netset_lib::runs::end_with;
 use netset_lib::{SetReader, TextCommand};
+use std::alloc::{AllocError, Global};
 
 /// Returns a reader of lists in the grammar of the command line. If memory runs out, it is reported, and the error is
 /// the exit status.
@@ -163,4 +165,50 @@ pub fn two_bytes(
     let allowed = may_have_lines(rt, names[0], first.as_slice(), what, reports);
     let second = last_bytes(rt, matches, names[1], reports)?;
     if allowed { Ok((first, second)) } else { Err(2) }
+}
+
+/// Returns the bytes of each list of these names. If there are entries, they are the last list. If a list cannot be
+/// read, or has no line and that is to be refused, it is reported, and the error is the exit status.
+pub fn bytes_of_all(
+    rt: &HostRuntime,
+    matches: &ArgMatches,
+    names: &[&str],
+    reports: Reports,
+) -> Result<Vec<Vec<u8>>, u8>
+    ensures { IfErr result (λ status. status ≡ 2) }
+{
+    let mut all = Vec::new(rt.alloc());
+    let mut allowed = true;
+    let last = names.len().saturating_sub(1);
+    for name in &names[..last] {
+        let bytes = whole_of(rt, name, reports)?;
+        let may_be = may_have_lines(rt, name, bytes.as_slice(), "entries", reports);
+        allowed = allowed && may_be;
+        push_bytes(rt, &mut all, bytes)?;
+    }
+    if let Some(name) = names.last() {
+        push_bytes(rt, &mut all, last_bytes(rt, matches, name, reports)?)?;
+    }
+    if allowed { Ok(all) } else { Err(2) }
+}
+
+/// Appends the bytes of a list. If memory runs out, it is reported, and the error is the exit status.
+fn push_bytes(rt: &HostRuntime, all: &mut Vec<Vec<u8>>, bytes: Vec<u8>) -> Result<(), u8>
+    ensures { IfErr result (λ status. status ≡ 2) }
+{
+    if all.push(bytes).is_err() {
+        return Err(report_argument_failure(rt, ArgumentFailure::Memory));
+    }
+    Ok(())
+}
+
+/// Returns the bytes of each list, as slices. Fails only if memory runs out.
+pub fn slices_of(alloc: Global, lists: &[Vec<u8>]) -> Result<Vec<&[u8]>, AllocError>
+    ensures { IfOk result (λ slices. map (λ s. s.now) slices.items ≡ map (λ l. l.items) lists.now) }
+{
+    let mut slices = Vec::new(alloc);
+    for list in lists {
+        slices.push(list.as_slice())?;
+    }
+    Ok(slices)
 }

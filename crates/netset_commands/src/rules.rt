@@ -3,7 +3,7 @@ ghost use Rattle.std.specs.Prelude.{◌≡◌, ◌≤◌, IfErr};
 ghost use Rattle.netset_commands.specs.Arguments.{IsDefault};
 
 use crate::arguments::{ArgumentFailure, FIRST, SHARED, flags_of, report_argument_failure};
-use crate::forms::{ANSWER_FORM, form_of, needs_address};
+use crate::forms::{ANSWER_FORM, expectation_of, form_of};
 use crate::named_lists::{name_of_list, reads_input_twice};
 use crate::table::{ARGUMENT, Argument, Form, Subcommand};
 use clap::ArgMatches;
@@ -143,7 +143,7 @@ pub fn print_permitted(rt: &HostRuntime, matches: &ArgMatches, writers: &mut Wri
         list,
         default: default_of(matches),
         form,
-        needs_address: needs_address(matches),
+        expected: expectation_of(matches),
     };
     let (out, faults) = (&mut writers.answer, &mut writers.faults);
     run(command, &[name], out, faults)
@@ -171,7 +171,7 @@ fn print_newly_permitted(
         except,
         default: default_of(matches),
         form,
-        needs_address: needs_address(matches),
+        expected: expectation_of(matches),
     };
     let (out, faults) = (&mut writers.answer, &mut writers.faults);
     run(command, names, out, faults)

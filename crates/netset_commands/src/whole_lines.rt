@@ -101,12 +101,13 @@ fn read_kept_set<'a>(
     ensures { IfErr result (λ status. status ≡ 2) }
 {
     let log = last_name(matches, OTHERS);
-    let all = names_without_or_report(rt, matches, EXCEPT, &[log])?;
+    let set = name_of_list(matches, FIRST);
+    let all = names_without_or_report(rt, matches, &[set], EXCEPT, &[log])?;
     let all = all.as_slice();
     let names = &all[..all.len().saturating_sub(1)];
     let sets = read_sets(rt, matches, names, writers)?;
-    let set = without_or_report(rt, sets, names, writers)?;
-    Ok((set, [name_of_list(matches, FIRST), log]))
+    let kept = without_or_report(rt, sets, names, writers)?;
+    Ok((kept, [set, log]))
 }
 
 /// Reads the set and the arguments, and prints the lines of the log while it is read. Returns the exit status.

@@ -1,11 +1,12 @@
-//! Lists that an option takes out of the first list of a command: `--taken` of `plan`, and `--except` of `filter`.
-ghost use Rattle.std.specs.Prelude.{◌≡◌, ◌<◌, ◌∷◌, ◌++◌, map, codes, IfOk, IfErr};
-ghost use Rattle.netset_commands.specs.Arguments.{input_count, list_name, values_of};
+//! Lists that an option takes out of the lists of a command: `--taken` of `plan`, and `--except` of `filter` and of the
+//! operations.
+ghost use Rattle.std.specs.Prelude.{◌≡◌, ◌<◌, ◌++◌, map, IfOk, IfErr};
+ghost use Rattle.netset_commands.specs.Arguments.{input_count, values_of};
 ghost use Rattle.netset_commands.specs.Without.{AreNamesWithout, IsWithout};
 ghost use Rattle.netset_lib.specs.declared.failure.Failure.TheVariants.{Memory};
 
-use crate::arguments::{ArgumentFailure, FIRST, report_argument_failure};
-use crate::named_lists::{name_of_list, push_values, reads_input_twice};
+use crate::arguments::{ArgumentFailure, report_argument_failure};
+use crate::named_lists::{push_values, reads_input_twice};
 use clap::ArgMatches;
 use ipnet_sets::IpSet;
 use netset_files::Writers;
@@ -13,35 +14,37 @@ use netset_lib::runs::end_with;
 use netset_lib::{Combination, Failure, combine};
 use std::alloc::{AllocError, Global};
 
-/// The name of the first list, the names that the option with this id has, and these last names.
+/// These first names, the names that the option with this id has, and these last names.
 fn names_without<'a>(
     alloc: Global,
     matches: &ArgMatches<'a>,
+    first: &[&'a str],
     id: &str,
     last: &[&'a str],
 ) -> Result<Vec<&'a str>, AllocError>
     ensures { IfOk result (λ names. map (λ name. name.now) names.items
-        ≡ list_name matches.now (codes "first") ∷ values_of matches.now id.now ++ map (λ name. name.now) last.now) }
+        ≡ map (λ name. name.now) first.now ++ values_of matches.now id.now ++ map (λ name. name.now) last.now) }
 {
     let mut names = Vec::new(alloc);
-    names.push(name_of_list(matches, FIRST))?;
+    names.extend_from_slice(first)?;
     push_values(&mut names, matches, id)?;
     names.extend_from_slice(last)?;
     Ok(names)
 }
 
-/// Returns the names of the first list, of the lists that the option with this id takes out of it, and these last
-/// names. At most one is standard input. If that fails, it is reported, and the error is the exit status.
+/// Returns these first names, the names of the lists that the option with this id takes out of the first lists, and
+/// these last names. At most one is standard input. If that fails, it is reported, and the error is the exit status.
 pub fn names_without_or_report<'a>(
     rt: &HostRuntime,
     matches: &ArgMatches<'a>,
+    first: &[&'a str],
     id: &str,
     last: &[&'a str],
 ) -> Result<Vec<&'a str>, u8>
-    ensures named { IfOk result (λ names. AreNamesWithout matches.now id.now last.now names.items) }
+    ensures named { IfOk result (λ names. AreNamesWithout matches.now first.now id.now last.now names.items) }
     ensures failed { IfErr result (λ status. status ≡ 2) }
 {
-    let Ok(names) = names_without(rt.alloc(), matches, id, last) else {
+    let Ok(names) = names_without(rt.alloc(), matches, first, id, last) else {
         return Err(report_argument_failure(rt, ArgumentFailure::Memory));
     };
     if reads_input_twice(names.as_slice()) {

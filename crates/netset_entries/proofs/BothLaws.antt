@@ -13,7 +13,7 @@ use Rattle.ipnet_lists.proofs.ReportLaws.{front_after}
 use Rattle.netset_entries.specs.WriteReports.{AreBothReported}
 
 -- a front of a text is a front of a longer text
-front_longer : (text more front : List ℕ) → StartsWith text front → StartsWith (text ++ more) front
+pub front_longer : (text more front : List ℕ) → StartsWith text front → StartsWith (text ++ more) front
 front_longer text more front begins =
     let rest = drop (length front) text in
     let cut : text ++ more ≡ front ++ (rest ++ more) =
@@ -21,7 +21,7 @@ front_longer text more front begins =
     ap (take (length front)) cut ∙ take_at front (rest ++ more) _ refl
 
 -- nothing is the first lines of a report
-nothing_begun : (names : Names) (lines : Refusals NotEntry) (n : ℕ) → lines.count ≡ n
+pub nothing_begun : (names : Names) (lines : Refusals NotEntry) (n : ℕ) → lines.count ≡ n
     → OfNew (IsReportBegun ExplainsEntry names) lines 0 0 []
 nothing_begun names lines zero is = inl (is, refl)
 nothing_begun names lines (suc n) is =
@@ -33,7 +33,7 @@ nothing_begun names lines (suc n) is =
     )
 
 -- a report is its first lines
-all_begun : (names : Names) (lines : Refusals NotEntry) (text : List ℕ)
+pub all_begun : (names : Names) (lines : Refusals NotEntry) (text : List ℕ)
     → OfNew (IsReport ExplainsEntry names) lines 0 0 text → OfNew (IsReportBegun ExplainsEntry names) lines 0 0 text
 all_begun names lines text (inl none) = inl none
 all_begun names lines text (inr (some, is)) = inr (some, inr is)

@@ -11,6 +11,9 @@ pub mod RunLaws
 pub mod PairLaws
 pub mod OverlapTextLaws
 pub mod TwoListLaws
+pub mod OverlapTexts
+pub mod WrittenParts
+pub mod ManyListLaws
 pub mod FiledLaws
 pub mod NoteLaws
 pub mod NotedBlockLaws

@@ -11,7 +11,8 @@ use Rattle.ipnet_text.specs.Outputs.{IsWritten, IsFrontWritten}
 use Rattle.netset_entries.specs.declared.span.Span.{Span}
 use Rattle.netset_entries.specs.EntryTexts.{IsFront}
 use Rattle.netset_entries.specs.NumberedEntries.{NumberedEntry}
-use Rattle.netset_entries.specs.Overlaps.{Pair, IsOverlap, shared, IsSharedOf, pair_lines, IsOverlapText, HasOverlap}
+use Rattle.netset_entries.specs.Overlaps.{Labels, Pair, IsOverlap, shared, IsSharedOf, pair_lines}
+use Rattle.netset_entries.specs.Overlaps.{IsOverlapText, HasOverlap}
 use Rattle.netset_entries.specs.Sweeps.{pairs_of, has_some, AreAllSpans}
 use Rattle.netset_entries.proofs.OverlapLaws.{overlaps_found, some_overlap, no_overlap}
 use Rattle.netset_entries.proofs.PairLaws.{lines_append, some_append}
@@ -60,7 +61,7 @@ exact_shared entries count p h x = (
       ]
     ]
 
-module _ (entries : List NumberedEntry) (count : Option ℕ) (ipv4 ipv6 : List Span)
+module _ (labels : Labels) (entries : List NumberedEntry) (count : Option ℕ) (ipv4 ipv6 : List Span)
     (ipv4_all : AreAllSpans entries IPv4 ipv4) (ipv6_all : AreAllSpans entries IPv6 ipv6) where
   abbrev ipv4_pairs : List Pair
   ipv4_pairs = pairs_of entries count ipv4
@@ -69,19 +70,19 @@ module _ (entries : List NumberedEntry) (count : Option ℕ) (ipv4 ipv6 : List S
   ipv6_pairs = pairs_of entries count ipv6
 
   abbrev ipv4_lines : List ℕ
-  ipv4_lines = pair_lines ipv4_pairs
+  ipv4_lines = pair_lines labels ipv4_pairs
 
   abbrev ipv6_lines : List ℕ
-  ipv6_lines = pair_lines ipv6_pairs
+  ipv6_lines = pair_lines labels ipv6_pairs
 
   -- the lines of all pairs
-  abbrev whole : List ℕ
-  whole = pair_lines (ipv4_pairs ++ ipv6_pairs)
+  abbrev pub whole : List ℕ
+  whole = pair_lines labels (ipv4_pairs ++ ipv6_pairs)
 
   whole_cut : whole ≡ ipv4_lines ++ ipv6_lines
-  whole_cut = lines_append ipv4_pairs ipv6_pairs
+  whole_cut = lines_append labels ipv4_pairs ipv6_pairs
 
-  whole_right : IsOverlapText entries count whole
+  pub whole_right : IsOverlapText labels entries count whole
   whole_right = record {
     pairs = ipv4_pairs ++ ipv6_pairs;
     are = overlaps_found entries count ipv4 ipv6 ipv4_all ipv6_all;
@@ -91,7 +92,7 @@ module _ (entries : List NumberedEntry) (count : Option ℕ) (ipv4 ipv6 : List S
   }
 
   -- a front of them is written
-  cut_short : (a b : Option (List ℕ)) → IsFront a b whole → IsFrontWritten (IsOverlapText entries count) a b
+  cut_short : (a b : Option (List ℕ)) → IsFront a b whole → IsFrontWritten (IsOverlapText labels entries count) a b
   cut_short a b (front, begins, written) = record {
     text = whole;
     right = whole_right;
@@ -108,14 +109,15 @@ module _ (entries : List NumberedEntry) (count : Option ℕ) (ipv4 ipv6 : List S
       (piece_more a b c one (one ++ ipv6_lines) two ipv4_lines ipv6_lines h refl k)
 
   -- the first family fails
-  pub first_front : (a b : Option (List ℕ)) → IsFront a b ipv4_lines → IsFrontWritten (IsOverlapText entries count) a b
+  pub first_front : (a b : Option (List ℕ)) → IsFront a b ipv4_lines
+      → IsFrontWritten (IsOverlapText labels entries count) a b
   first_front a b front = cut_short a b (front_after a a b ipv4_lines ipv4_lines ipv6_lines whole
       (no_piece a ipv4_lines ipv4_lines refl)
       whole_cut front)
 
   -- the second family fails
   pub second_front : (a b c : Option (List ℕ)) (one : List ℕ) → IsInPieces a b one ipv4_lines
-      → IsFront b c (one ++ ipv6_lines) → IsFrontWritten (IsOverlapText entries count) a c
+      → IsFront b c (one ++ ipv6_lines) → IsFrontWritten (IsOverlapText labels entries count) a c
   second_front a b c one h front = cut_short a c (front_after a b c (one ++ ipv6_lines) whole [] whole
       (subst (IsInPieces a b (one ++ ipv6_lines)) (sym whole_cut)
       (piece_put a b one (one ++ ipv6_lines) ipv4_lines ipv6_lines h refl))
@@ -124,7 +126,7 @@ module _ (entries : List NumberedEntry) (count : Option ℕ) (ipv4 ipv6 : List S
   -- the last write fails
   pub last_front : (a b c d : Option (List ℕ)) (one two slice : List ℕ) → IsInPieces a b one ipv4_lines
       → IsInPieces b c two (one ++ ipv6_lines) → slice ≡ two → IsFront c d slice
-      → IsFrontWritten (IsOverlapText entries count) a d
+      → IsFrontWritten (IsOverlapText labels entries count) a d
   last_front a b c d one two slice h k same front = cut_short a d (front_after a c d two whole [] whole
       (both_put a b c one two h k) (sym (append-nil whole)) (subst (IsFront c d) same front))
 
@@ -136,7 +138,7 @@ module _ (entries : List NumberedEntry) (count : Option ℕ) (ipv4 ipv6 : List S
   -- all is written
   pub whole_written : (a b c d e : Option (List ℕ)) (one two slice : List ℕ) → IsInPieces a b one ipv4_lines
       → IsInPieces b c two (one ++ ipv6_lines) → slice ≡ two → Appends c d slice → Keeps d e
-      → IsWritten (IsOverlapText entries count) a e
+      → IsWritten (IsOverlapText labels entries count) a e
   whole_written a b c d e one two slice h k same written kept = record {
     text = whole;
     right = whole_right;
@@ -146,7 +148,7 @@ module _ (entries : List NumberedEntry) (count : Option ℕ) (ipv4 ipv6 : List S
   -- all is written, and the flush fails
   pub unflushed : (a b c d e : Option (List ℕ)) (one two slice : List ℕ) → IsInPieces a b one ipv4_lines
       → IsInPieces b c two (one ++ ipv6_lines) → slice ≡ two → Appends c d slice → Keeps d e
-      → IsFrontWritten (IsOverlapText entries count) a e
+      → IsFrontWritten (IsOverlapText labels entries count) a e
   unflushed a b c d e one two slice h k same written kept =
       cut_short a e (whole, whole_front whole, all_out a b c d e one two slice h k same written kept)
 

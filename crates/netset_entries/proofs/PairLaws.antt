@@ -10,16 +10,17 @@ use Rattle.ipnet_text.specs.Pieces.{IsInPieces}
 use Rattle.netset_entries.specs.declared.span.Span.{Span}
 use Rattle.netset_entries.specs.EntryTexts.{IsFront}
 use Rattle.netset_entries.specs.NumberedEntries.{NumberedEntry}
-use Rattle.netset_entries.specs.Overlaps.{Pair, pair_text, pair_lines, is_asked}
+use Rattle.netset_entries.specs.Overlaps.{Labels, Pair, pair_text, pair_lines, is_asked}
 use Rattle.netset_entries.specs.Sweeps.{pair_of, met, if_asked, asked_pairs, pairs_of, has_some, no_span, AreRuns}
 use Rattle.netset_entries.proofs.PieceLaws.{no_piece, piece_more, piece_put, front_after}
 use Rattle.netset_entries.proofs.RunLaws.{not_asked}
 
-pub lines_append : (pairs more : List Pair) → pair_lines (pairs ++ more) ≡ pair_lines pairs ++ pair_lines more
-lines_append [] more = refl
-lines_append (p ∷ pairs) more =
-    ap (λ z. pair_text p ++ z) (lines_append pairs more)
-    ∙ sym (append_assoc (pair_text p) (pair_lines pairs) (pair_lines more))
+pub lines_append : (labels : Labels) (pairs more : List Pair)
+    → pair_lines labels (pairs ++ more) ≡ pair_lines labels pairs ++ pair_lines labels more
+lines_append labels [] more = refl
+lines_append labels (p ∷ pairs) more =
+    ap (λ z. pair_text labels p ++ z) (lines_append labels pairs more)
+    ∙ sym (append_assoc (pair_text labels p) (pair_lines labels pairs) (pair_lines labels more))
 
 asked_append : (entries : List NumberedEntry) (count : Option ℕ) (s : Span) (others more : List Span)
     → asked_pairs entries count s (others ++ more)
@@ -56,7 +57,7 @@ step_front a b c piece start done chunk rest whole h front is =
 
 -- ---- the pairs of one span
 
-module _ (entries : List NumberedEntry) (count : Option ℕ) (s : Span) (others : List Span) where
+module _ (labels : Labels) (entries : List NumberedEntry) (count : Option ℕ) (s : Span) (others : List Span) where
   abbrev to : ℕ → List Pair
   to i = asked_pairs entries count s (take i others)
 
@@ -113,11 +114,13 @@ module _ (entries : List NumberedEntry) (count : Option ℕ) (s : Span) (others 
 
   pub met_more : (a b c : Option (List ℕ)) (piece new start : List ℕ) (i next : ℕ) (t : Span)
       → to next ≡ to i ++ one t
-      → IsInPieces a b piece (start ++ pair_lines (to i)) → IsInPieces b c new (piece ++ pair_lines (one t))
-      → IsInPieces a c new (start ++ pair_lines (to next))
+      → IsInPieces a b piece (start ++ pair_lines labels (to i))
+      → IsInPieces b c new (piece ++ pair_lines labels (one t))
+      → IsInPieces a c new (start ++ pair_lines labels (to next))
   met_more a b c piece new start i next t is h k =
-      step_more a b c piece new start (pair_lines (to i)) (pair_lines (one t)) (pair_lines (to next)) h k
-      (ap pair_lines is ∙ lines_append (to i) (one t))
+      step_more a b c piece new start (pair_lines labels (to i)) (pair_lines labels (one t))
+      (pair_lines labels (to next)) h k
+      (ap (pair_lines labels) is ∙ lines_append labels (to i) (one t))
 
   pub met_some : (i next : ℕ) (t : Span) (found more : Bool) → to next ≡ to i ++ one t → found ≡ has_some (to i)
       → more ≡ has_some (one t) → (found || more) ≡ has_some (to next)
@@ -125,30 +128,31 @@ module _ (entries : List NumberedEntry) (count : Option ℕ) (s : Span) (others 
       ap₂ (λ x y. x || y) h k ∙ sym (some_append (to i) (one t)) ∙ sym (ap has_some is)
 
   pub met_front : (a b c : Option (List ℕ)) (piece start : List ℕ) (i : ℕ) (t : Span) → i < length others
-      → IsInPieces a b piece (start ++ pair_lines (to i))
-      → IsFront b c (piece ++ pair_lines (one (get_or others i t)))
-      → IsFront a c (start ++ pair_lines (asked_pairs entries count s others))
+      → IsInPieces a b piece (start ++ pair_lines labels (to i))
+      → IsFront b c (piece ++ pair_lines labels (one (get_or others i t)))
+      → IsFront a c (start ++ pair_lines labels (asked_pairs entries count s others))
   met_front a b c piece start i t less h front =
       let rest = asked_pairs entries count s (drop (i + 1) others) in
-      step_front a b c piece start (pair_lines (to i)) (pair_lines (one (get_or others i t))) (pair_lines rest)
-      (pair_lines (asked_pairs entries count s others)) h front
-      (ap (λ z. pair_lines (asked_pairs entries count s z)) (sym (take-append-drop (i + 1) others))
-      ∙ ap pair_lines (asked_append entries count s (take (i + 1) others) (drop (i + 1) others))
-      ∙ lines_append (to (i + 1)) rest
-      ∙ ap (λ z. z ++ pair_lines rest)
-      (ap pair_lines (to_next i t less) ∙ lines_append (to i) (one (get_or others i t))))
+      step_front a b c piece start (pair_lines labels (to i)) (pair_lines labels (one (get_or others i t)))
+      (pair_lines labels rest)
+      (pair_lines labels (asked_pairs entries count s others)) h front
+      (ap (λ z. pair_lines labels (asked_pairs entries count s z)) (sym (take-append-drop (i + 1) others))
+      ∙ ap (pair_lines labels) (asked_append entries count s (take (i + 1) others) (drop (i + 1) others))
+      ∙ lines_append labels (to (i + 1)) rest
+      ∙ ap (λ z. z ++ pair_lines labels rest)
+      (ap (pair_lines labels) (to_next i t less) ∙ lines_append labels (to i) (one (get_or others i t))))
 
 -- ---- the pairs of all spans
 
 -- the pairs of the spans before the next
-pub record AreDone (entries : List NumberedEntry) (count : Option ℕ) (spans : List Span) (i : ℕ) (a b : Option (List ℕ))
-    (start piece : List ℕ) (found : Bool) : Type 0 where
+pub record AreDone (labels : Labels) (entries : List NumberedEntry) (count : Option ℕ) (spans : List Span) (i : ℕ)
+    (a b : Option (List ℕ)) (start piece : List ℕ) (found : Bool) : Type 0 where
   pub done : List Pair
   pub is : done ++ pairs_of entries count (drop i spans) ≡ pairs_of entries count spans
-  pub pieces : IsInPieces a b piece (start ++ pair_lines done)
+  pub pieces : IsInPieces a b piece (start ++ pair_lines labels done)
   pub some : found ≡ has_some done
 
-module _ (entries : List NumberedEntry) (count : Option ℕ) (spans : List Span) where
+module _ (labels : Labels) (entries : List NumberedEntry) (count : Option ℕ) (spans : List Span) where
   abbrev chunk : ℕ → Span → List Pair
   chunk i s = asked_pairs entries count (get_or spans i s) (met (get_or spans i s) (drop (i + 1) spans))
 
@@ -156,7 +160,7 @@ module _ (entries : List NumberedEntry) (count : Option ℕ) (spans : List Span)
       → pairs_of entries count (drop i spans) ≡ chunk i s ++ pairs_of entries count (drop (i + 1) spans)
   chunk_next i s less = ap (pairs_of entries count) (drop_more spans i s less)
 
-  pub done_start : (a : Option (List ℕ)) (start : List ℕ) → AreDone entries count spans 0 a a start start false
+  pub done_start : (a : Option (List ℕ)) (start : List ℕ) → AreDone labels entries count spans 0 a a start start false
   done_start a start = record {
     done = [];
     is = refl;
@@ -165,37 +169,38 @@ module _ (entries : List NumberedEntry) (count : Option ℕ) (spans : List Span)
   }
 
   pub done_more : (a b c : Option (List ℕ)) (start piece new : List ℕ) (i : ℕ) (s : Span) (found more : Bool)
-      → i < length spans → AreDone entries count spans i a b start piece found
-      → IsInPieces b c new (piece ++ pair_lines (chunk i s)) → more ≡ has_some (chunk i s)
-      → AreDone entries count spans (i + 1) a c start new (found || more)
+      → i < length spans → AreDone labels entries count spans i a b start piece found
+      → IsInPieces b c new (piece ++ pair_lines labels (chunk i s)) → more ≡ has_some (chunk i s)
+      → AreDone labels entries count spans (i + 1) a c start new (found || more)
   done_more a b c start piece new i s found more less h k some = record {
     done = h.done ++ chunk i s;
     is = append_assoc h.done (chunk i s) (pairs_of entries count (drop (i + 1) spans))
         ∙ ap (λ z. h.done ++ z) (sym (chunk_next i s less)) ∙ h.is;
-    pieces = step_more a b c piece new start (pair_lines h.done) (pair_lines (chunk i s))
-        (pair_lines (h.done ++ chunk i s)) h.pieces k (lines_append h.done (chunk i s));
+    pieces = step_more a b c piece new start (pair_lines labels h.done) (pair_lines labels (chunk i s))
+        (pair_lines labels (h.done ++ chunk i s)) h.pieces k (lines_append labels h.done (chunk i s));
     some = ap₂ (λ x y. x || y) h.some some ∙ sym (some_append h.done (chunk i s));
   }
 
   pub done_front : (a b c : Option (List ℕ)) (start piece : List ℕ) (i : ℕ) (s : Span) (found : Bool)
-      → i < length spans → AreDone entries count spans i a b start piece found
-      → IsFront b c (piece ++ pair_lines (chunk i s))
-      → IsFront a c (start ++ pair_lines (pairs_of entries count spans))
+      → i < length spans → AreDone labels entries count spans i a b start piece found
+      → IsFront b c (piece ++ pair_lines labels (chunk i s))
+      → IsFront a c (start ++ pair_lines labels (pairs_of entries count spans))
   done_front a b c start piece i s found less h front =
       let rest = pairs_of entries count (drop (i + 1) spans) in
-      step_front a b c piece start (pair_lines h.done) (pair_lines (chunk i s)) (pair_lines rest)
-      (pair_lines (pairs_of entries count spans)) h.pieces front
-      (ap pair_lines (sym h.is ∙ ap (λ z. h.done ++ z) (chunk_next i s less)
+      step_front a b c piece start (pair_lines labels h.done) (pair_lines labels (chunk i s)) (pair_lines labels rest)
+      (pair_lines labels (pairs_of entries count spans)) h.pieces front
+      (ap (pair_lines labels) (sym h.is ∙ ap (λ z. h.done ++ z) (chunk_next i s less)
       ∙ sym (append_assoc h.done (chunk i s) rest))
-      ∙ lines_append (h.done ++ chunk i s) rest ∙ ap (λ z. z ++ pair_lines rest) (lines_append h.done (chunk i s)))
+      ∙ lines_append labels (h.done ++ chunk i s) rest
+      ∙ ap (λ z. z ++ pair_lines labels rest) (lines_append labels h.done (chunk i s)))
 
   pub done_all : (a b : Option (List ℕ)) (start piece : List ℕ) (i : ℕ) (found : Bool) → length spans ≤ i
-      → AreDone entries count spans i a b start piece found
-      → IsInPieces a b piece (start ++ pair_lines (pairs_of entries count spans))
+      → AreDone labels entries count spans i a b start piece found
+      → IsInPieces a b piece (start ++ pair_lines labels (pairs_of entries count spans))
       × (found ≡ has_some (pairs_of entries count spans))
   done_all a b start piece i found ended h =
       let all : h.done ≡ pairs_of entries count spans =
       sym (append-nil h.done) ∙ ap (λ z. h.done ++ pairs_of entries count z) (sym (drop_all i spans ended)) ∙ h.is in (
-        subst (λ z. IsInPieces a b piece (start ++ pair_lines z)) all h.pieces,
+        subst (λ z. IsInPieces a b piece (start ++ pair_lines labels z)) all h.pieces,
         h.some ∙ ap has_some all,
       )

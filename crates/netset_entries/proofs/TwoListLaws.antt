@@ -8,10 +8,11 @@ use Rattle.ipnet_lists.proofs.RefusalLaws.{none_refused}
 use Rattle.netset_entries.specs.declared.entry_list.EntryLine.{EntryLine}
 use Rattle.netset_entries.specs.declared.entry_list.EntryList.{EntryList}
 use Rattle.netset_entries.specs.declared.overlaps.Asked.{Asked}
-use Rattle.netset_entries.specs.EntryLineOf.{numbered, IsReadOf, AreAsked}
+use Rattle.netset_entries.specs.EntryLineOf.{numbered, IsReadOf, AreAsked, labels_of}
 use Rattle.netset_entries.specs.NumberedEntries.{NumberedEntry, IsEntryList}
 use Rattle.netset_entries.specs.WriteFailures.{AreRefusedOf}
 use Rattle.netset_entries.specs.Overlaps.{HoldsOfTwo, HoldsOfLists, HasOverlap, HasNoOverlap, IsOverlapOutcome}
+use Rattle.netset_entries.specs.Overlaps.{IsOverlapText, line_labels}
 
 -- no line is refused
 pub all_read : (grammar : Grammar) (bytes : List ℕ) (list : EntryList) → IsReadOf grammar bytes list
@@ -43,17 +44,33 @@ module _ (grammar : Grammar) (bytes other : List ℕ) (first second joined : Lis
   }
 
 -- what holds of what is asked holds of the lists
-pub of_asked : (grammar : Grammar) (bytes : List ℕ) (other : Option (Bor (List ℕ))) (asked : Asked)
+of_asked : (grammar : Grammar) (bytes : List ℕ) (other : Option (Bor (List ℕ))) (asked : Asked)
     → AreAsked grammar bytes other asked → (Holds : List NumberedEntry → Option ℕ → Type 0)
     → Holds (map numbered asked.entries.items) asked.count → HoldsOfLists grammar bytes other Holds
 of_asked grammar bytes None asked are Holds h = record {
   entries = map numbered asked.entries.items;
   read = are.0;
-  right = subst (Holds (map numbered asked.entries.items)) are.1 h;
+  right = subst (Holds (map numbered asked.entries.items)) are.1.0 h;
 }
 of_asked grammar bytes (Some other) asked are Holds h =
-    let (first, second, read, other_read, is, counted) = are in
+    let (first, second, read, other_read, is, counted, labelled) = are in
     of_two grammar bytes other.now first second asked.entries.items asked.count read other_read is counted Holds h
+
+-- the lines have the labels of one list or two
+asked_labels : (grammar : Grammar) (bytes : List ℕ) (other : Option (Bor (List ℕ))) (asked : Asked)
+    → AreAsked grammar bytes other asked → labels_of asked.labels ≡ line_labels
+asked_labels grammar bytes None asked are = are.1.1
+asked_labels grammar bytes (Some other) asked are =
+    let (first, second, read, other_read, is, counted, labelled) = are in labelled
+
+pub text_of_asked : (grammar : Grammar) (bytes : List ℕ) (other : Option (Bor (List ℕ))) (asked : Asked)
+    → AreAsked grammar bytes other asked → (text : List ℕ)
+    → IsOverlapText (labels_of asked.labels) (map numbered asked.entries.items) asked.count text
+    → HoldsOfLists grammar bytes other (λ entries count. IsOverlapText line_labels entries count text)
+text_of_asked grammar bytes other asked are text h =
+    of_asked grammar bytes other asked are (λ entries count. IsOverlapText line_labels entries count text)
+    (subst (λ l. IsOverlapText l (map numbered asked.entries.items) asked.count text)
+    (asked_labels grammar bytes other asked are) h)
 
 pub overlap_outcome : (grammar : Grammar) (bytes : List ℕ) (other : Option (Bor (List ℕ))) (asked : Asked) (some : Bool)
     → AreAsked grammar bytes other asked

@@ -5,9 +5,14 @@ use Rattle.std.specs.Io.KnownBytes.{Appends}
 use Rattle.netset_lib.specs.RuleAnswers.{text_at}
 use Rattle.netset_entries.specs.NumberedEntries.{NumberedEntry}
 
+-- A label, the number of the entry's line, and the entry as written.
+-- Example: `a.txt:4: 10.0.1.192/26` for the label `a.txt:`.
+abbrev pub labelled_text : List ℕ → NumberedEntry → List ℕ
+labelled_text label e = label ++ decimal e.line ++ codes ": " ++ e.text
+
 -- The number of the entry's line, and the entry as written. Example: `line 4: 10.0.1.192/26`.
 abbrev pub entry_text : NumberedEntry → List ℕ
-entry_text e = codes "line " ++ decimal e.line ++ codes ": " ++ e.text
+entry_text e = labelled_text (codes "line ") e
 
 -- That text and "\n" (10).
 abbrev pub entry_line : NumberedEntry → List ℕ

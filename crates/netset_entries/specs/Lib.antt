@@ -19,6 +19,8 @@ pub mod FindSteps
 pub mod TextParts
 pub mod Lengths
 pub mod ListPairs
+pub mod ManyLists
+pub mod ManySteps
 pub mod Choices
 pub mod Selections
 pub mod SelectSteps

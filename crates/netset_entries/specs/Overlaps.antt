@@ -1,6 +1,6 @@
 -- The pairs of entries that share addresses, and their lines.
 use Rattle.std.specs.Prelude.{◌≡◌, ◌↔◌, ◌⊎◌, ◌<◌, ℕ, Bool, true, if◌then◌else◌, nat_lt, nat_le, min, List, [], ◌∷◌}
-use Rattle.std.specs.Prelude.{◌++◌, false, Option, Some, None, AllPairs, Contains, length}
+use Rattle.std.specs.Prelude.{◌++◌, false, Option, Some, None, AllPairs, Contains, length, codes}
 use Rattle.std.specs.Borrow.{Bor}
 use Rattle.ipnet_base.specs.Address.{Address, family_index}
 use Rattle.ipnet_base.specs.Ranges.{AddressRange}
@@ -8,7 +8,7 @@ use Rattle.ipnet.specs.declared.parser.Grammar.{Grammar}
 use Rattle.ipnet_sets.specs.SetRanges.{IsInRange}
 use Rattle.ipnet_lists.specs.SetLines.{range_text}
 use Rattle.netset_entries.specs.EntryPlaces.{IsEntryAt}
-use Rattle.netset_entries.specs.EntryTexts.{entry_text}
+use Rattle.netset_entries.specs.EntryTexts.{labelled_text}
 use Rattle.netset_entries.specs.NumberedEntries.{NumberedEntry, HoldsOfEntries}
 
 -- An entry and its index in the list, counted from 0.
@@ -62,24 +62,38 @@ pub record AreOverlaps (entries : List NumberedEntry) (count : Option ℕ) (pair
 abbrev pub shared : AddressRange → AddressRange → AddressRange
 shared r s = record { family = s.family; start = s.start; end = min r.end s.end }
 
+-- The labels before the numbers of lines: of the entry that is before the other in the list, and of the other.
+pub record Labels : Type 0 where
+  pub first : List ℕ
+  pub second : List ℕ
+
+-- The labels of one list or two: `line `.
+abbrev pub line_labels : Labels
+line_labels = record { first = codes "line "; second = codes "line " }
+
+-- The labels of two lists of many, by their names. Example: `a.txt:` and `b.txt:`.
+abbrev pub name_labels : (first second : List ℕ) → Labels
+name_labels first second = record { first = first ++ codes ":"; second = second ++ codes ":" }
+
 -- The lines of two entries, with a tab (9) between.
-abbrev pub both_texts : Placed → Placed → List ℕ
-both_texts p q = entry_text p.entry ++ 9 ∷ entry_text q.entry
+abbrev pub both_texts : Labels → Placed → Placed → List ℕ
+both_texts labels p q = labelled_text labels.first p.entry ++ 9 ∷ labelled_text labels.second q.entry
 
 -- First the entry that is before the other in the list.
-abbrev pub both_of : Pair → List ℕ
-both_of p =
-    if nat_lt p.first.index p.second.index then both_texts p.first p.second else both_texts p.second p.first
+abbrev pub both_of : Labels → Pair → List ℕ
+both_of labels p = if nat_lt p.first.index p.second.index then both_texts labels p.first p.second
+    else both_texts labels p.second p.first
 
 -- The line of a pair: the entry that is before the other in the list, the other, and the addresses that they share,
 -- with tabs between. Example: `line 1: 10.0.0.0/8`, `line 2: 10.1.0.0/16` and `10.1.0.0-10.1.255.255`.
-abbrev pub pair_text : Pair → List ℕ
-pair_text p = both_of p ++ (9 ∷ range_text (shared p.first.entry.range p.second.entry.range) ++ 10 ∷ [])
+abbrev pub pair_text : Labels → Pair → List ℕ
+pair_text labels p =
+    both_of labels p ++ (9 ∷ range_text (shared p.first.entry.range p.second.entry.range) ++ 10 ∷ [])
 
 -- The lines of the pairs.
-abbrev pub pair_lines : List Pair → List ℕ
-pair_lines [] = []
-pair_lines (p ∷ pairs) = pair_text p ++ pair_lines pairs
+abbrev pub pair_lines : Labels → List Pair → List ℕ
+pair_lines labels [] = []
+pair_lines labels (p ∷ pairs) = pair_text labels p ++ pair_lines labels pairs
 
 -- The range has exactly the addresses that both entries of the pair have.
 abbrev pub IsSharedOf : Pair → AddressRange → Type 0
@@ -87,11 +101,12 @@ IsSharedOf p r = (x : Address)
     → IsInRange r x ↔ (IsInRange p.first.entry.range x × IsInRange p.second.entry.range x)
 
 -- The text has the lines of the pairs that share an address, and each line has the addresses that its pair shares.
-pub record IsOverlapText (entries : List NumberedEntry) (count : Option ℕ) (text : List ℕ) : Type 0 where
-  pub pairs : List Pair
-  pub are : AreOverlaps entries count pairs
-  pub exact : (p : Pair) → Contains pairs p → IsSharedOf p (shared p.first.entry.range p.second.entry.range)
-  pub spelled : text ≡ pair_lines pairs
+pub record IsOverlapText (labels : Labels) (entries : List NumberedEntry) (count : Option ℕ) (text : List ℕ) : Type 0
+  where
+    pub pairs : List Pair
+    pub are : AreOverlaps entries count pairs
+    pub exact : (p : Pair) → Contains pairs p → IsSharedOf p (shared p.first.entry.range p.second.entry.range)
+    pub spelled : text ≡ pair_lines labels pairs
 
 -- Some two entries share an address.
 abbrev pub HasOverlap : List NumberedEntry → Option ℕ → Type 0

@@ -7,10 +7,10 @@ ghost use Rattle.ipnet_base.specs.Address as addresses;
 ghost use Rattle.ipnet_base.specs.Address.{ip_address, address_at};
 ghost use Rattle.ipnet.specs.CanonicalTexts.{address_text};
 ghost use Rattle.ipnet_text.specs.Pieces.{IsInPieces};
-ghost use Rattle.netset_entries.specs.EntryLineOf.{numbered};
-ghost use Rattle.netset_entries.specs.EntryTexts.{entry_text, IsFront};
+ghost use Rattle.netset_entries.specs.EntryLineOf.{asked_lines, labels_of, numbered};
+ghost use Rattle.netset_entries.specs.EntryTexts.{labelled_text, IsFront};
 ghost use Rattle.netset_entries.specs.Overlaps as pairs;
-ghost use Rattle.netset_entries.specs.Overlaps.{shared, both_of, pair_text, pair_lines, IsOverlapText, HasOverlap};
+ghost use Rattle.netset_entries.specs.Overlaps.{shared, both_of, pair_text, IsOverlapText, HasOverlap};
 ghost use Rattle.netset_entries.specs.Spans.{family_of};
 ghost use Rattle.netset_entries.specs.Sweeps.{pair_of, met, asked_pairs, pairs_of, has_some, IsPlaced, AreAllSpans};
 ghost use Rattle.netset_entries.specs.Sweeps.{AreRuns};
@@ -19,12 +19,12 @@ ghost use Rattle.ipnet_lists.specs.EntryOf.{entry_range};
 ghost use Rattle.ipnet_text.specs.Outputs.{IsWritten, IsFrontWritten};
 
 use crate::entry_list::EntryLine;
+use crate::label::{PairLabels, push_labelled};
 use crate::runs::runs_of;
 use crate::span::{Family, Span, span_of, spans_of};
 use ipnet::IpAddr;
 use ipnet_lists::{Entry, ip_addr_text};
 use ipnet_text::write_whole;
-use netset_lib::numbered::push_numbered;
 use netset_lib::piece_failure::PieceFailure;
 use netset_lib::write::write_if_long;
 use std::alloc::{AllocError, Global};
@@ -36,6 +36,8 @@ pub(crate) struct Asked<'a> {
     pub(crate) entries: Vec<EntryLine<'a>>,
     /// The number of the first list's entries, if there are two lists.
     pub(crate) count: Option<usize>,
+    /// The labels of the lines. The first is for the entries of the first list, if there are two lists.
+    pub(crate) labels: PairLabels<'a>,
 }
 
 /// Returns whether the pair of these indexes is asked for.
@@ -87,18 +89,20 @@ fn push_shared(text: &mut Vec<u8>, first: Entry, second: Entry) -> Result<(), Al
     push_address(text, last_shared(first, second))
 }
 
-/// Appends the lines of two entries, with a tab between.
+/// Appends the lines of two entries, with these labels, and with a tab between.
 fn push_both(
     text: &mut Vec<u8>,
+    labels: PairLabels<'_>,
     first: &EntryLine<'_>,
     second: &EntryLine<'_>,
 ) -> Result<(), AllocError>
-    ensures { OnOk result (text.new.items
-        ≡ text.old.items ++ (entry_text (numbered first.now) ++ 9 ∷ entry_text (numbered second.now))) }
+    ensures { OnOk result (text.new.items ≡ text.old.items
+        ++ (labelled_text (labels_of labels.entry).first (numbered first.now)
+        ++ 9 ∷ labelled_text (labels_of labels.entry).second (numbered second.now))) }
 {
-    push_numbered(text, first.number, first.text)?;
+    push_labelled(text, labels.first, first)?;
     text.extend_from_slice(b"\t")?;
-    push_numbered(text, second.number, second.text)
+    push_labelled(text, labels.second, second)
 }
 
 /// Appends the lines of the entries of two spans, in the order of the list.
@@ -111,14 +115,14 @@ fn push_texts(
     requires one { one.now.place < length asked.now.entries.items }
     requires other { other.now.place < length asked.now.entries.items }
     ensures { OnOk result (text.new.items ≡ text.old.items
-        ++ both_of (pair_of (map numbered asked.now.entries.items) one.now other.now)) }
+        ++ both_of (labels_of asked.now.labels) (pair_of (map numbered asked.now.entries.items) one.now other.now)) }
 {
     let first = &asked.entries[one.place];
     let second = &asked.entries[other.place];
     if one.place < other.place {
-        push_both(text, first, second)
+        push_both(text, asked.labels, first, second)
     } else {
-        push_both(text, second, first)
+        push_both(text, asked.labels, second, first)
     }
 }
 
@@ -132,7 +136,8 @@ fn push_pair(
     requires placed { (f : addresses.Family) × IsPlaced (map numbered asked.now.entries.items) f one.now
         × IsPlaced (map numbered asked.now.entries.items) f other.now }
     ensures { OnOk result (text.new.items
-        ≡ text.old.items ++ pair_text (pair_of (map numbered asked.now.entries.items) one.now other.now)) }
+        ≡ text.old.items ++ pair_text (labels_of asked.now.labels)
+        (pair_of (map numbered asked.now.entries.items) one.now other.now)) }
 {
     push_texts(text, asked, one, other)?;
     text.extend_from_slice(b"\t")?;
@@ -157,12 +162,12 @@ fn put_pair<W: Write>(
         × IsPlaced (map numbered asked.now.entries.items) f other.now }
     ensures whole { let more = asked_pairs (map numbered asked.now.entries.items) asked.now.count one.now
         (other.now ∷ []) in OnOk result (IsInPieces (W.contents out.old) (W.contents out.new) piece.new.items
-        (piece.old.items ++ pair_lines more)) }
+        (piece.old.items ++ asked_lines asked.now more)) }
     ensures found { let more = asked_pairs (map numbered asked.now.entries.items) asked.now.count one.now
         (other.now ∷ []) in IfOk result (λ found. found ≡ has_some more) }
     ensures front { let more = asked_pairs (map numbered asked.now.entries.items) asked.now.count one.now
         (other.now ∷ []) in
-        IsFront (W.contents out.old) (W.contents out.new) (piece.old.items ++ pair_lines more) }
+        IsFront (W.contents out.old) (W.contents out.new) (piece.old.items ++ asked_lines asked.now more) }
 {
     if !is_asked(asked.count, one.place, other.place) {
         return Ok(false);
@@ -195,12 +200,12 @@ fn put_met<W: Write>(
     requires runs { AreRuns asked.now.count others.0.now others.1.now }
     ensures whole { let more = asked_pairs (map numbered asked.now.entries.items) asked.now.count span.now
         others.entry.0.now in OnOk result (IsInPieces (W.contents out.old) (W.contents out.new) piece.new.items
-        (piece.old.items ++ pair_lines more)) }
+        (piece.old.items ++ asked_lines asked.now more)) }
     ensures found { let more = asked_pairs (map numbered asked.now.entries.items) asked.now.count span.now
         others.entry.0.now in IfOk result (λ found. found ≡ has_some more) }
     ensures front { let more = asked_pairs (map numbered asked.now.entries.items) asked.now.count span.now
         others.entry.0.now in
-        IsFront (W.contents out.old) (W.contents out.new) (piece.old.items ++ pair_lines more) }
+        IsFront (W.contents out.old) (W.contents out.new) (piece.old.items ++ asked_lines asked.now more) }
 {
     let (spans, runs) = others;
     let mut found = false;
@@ -236,11 +241,11 @@ fn put_pairs<W: Write>(
     requires runs { AreRuns asked.now.count spans.now runs.now }
     ensures whole { let more = pairs_of (map numbered asked.now.entries.items) asked.now.count spans.now in
         OnOk result (IsInPieces (W.contents out.old) (W.contents out.new) piece.new.items
-        (piece.old.items ++ pair_lines more)) }
+        (piece.old.items ++ asked_lines asked.now more)) }
     ensures found { let more = pairs_of (map numbered asked.now.entries.items) asked.now.count spans.now in
         IfOk result (λ found. found ≡ has_some more) }
     ensures front { let more = pairs_of (map numbered asked.now.entries.items) asked.now.count spans.now in
-        IsFront (W.contents out.old) (W.contents out.new) (piece.old.items ++ pair_lines more) }
+        IsFront (W.contents out.old) (W.contents out.new) (piece.old.items ++ asked_lines asked.now more) }
 {
     let mut found = false;
     for index in 0..spans.len() {
@@ -302,12 +307,14 @@ pub(crate) fn write_overlaps<W: Write>(
     alloc: Global,
     asked: &Asked<'_>,
 ) -> Result<bool, PieceFailure>
-    ensures whole { IsOk result → IsWritten (IsOverlapText (map numbered asked.now.entries.items) asked.now.count)
+    ensures whole { IsOk result → IsWritten
+        (IsOverlapText (labels_of asked.now.labels) (map numbered asked.now.entries.items) asked.now.count)
         (W.contents out.old) (W.contents out.new) }
     ensures some { result ≡ Ok true → HasOverlap (map numbered asked.now.entries.items) asked.now.count }
     ensures none { result ≡ Ok false → ¬ (HasOverlap (map numbered asked.now.entries.items) asked.now.count) }
     ensures front { IsErr result → Keeps (W.contents out.old) (W.contents out.new)
-        ⊎ IsFrontWritten (IsOverlapText (map numbered asked.now.entries.items) asked.now.count)
+        ⊎ IsFrontWritten
+        (IsOverlapText (labels_of asked.now.labels) (map numbered asked.now.entries.items) asked.now.count)
         (W.contents out.old) (W.contents out.new) }
 {
     let ipv4 = sweep_of(alloc, asked, Family::Ipv4)?;

@@ -1,10 +1,11 @@
 //! The command `overlaps` of the program.
 ghost use Rattle.std.specs.Prelude.{◌≡◌, ◌++◌, Some, IfOk, IfErr, length};
 ghost use Rattle.netset_entries.specs.EntryLineOf.{AreAsked};
-ghost use Rattle.netset_entries.specs.Overlaps.{HoldsOfLists, IsOverlapText, IsOverlapOutcome};
+ghost use Rattle.netset_entries.specs.Overlaps.{HoldsOfLists, IsOverlapText, IsOverlapOutcome, line_labels};
 ghost use Rattle.netset_entries.specs.WriteFailures.{IsListsFailure};
 
 use crate::entry_list::{EntryLine, entry_list};
+use crate::label::{PairLabels, line_labels};
 use crate::lines::WriteFailure;
 use crate::overlaps::{Asked, write_overlaps};
 use ipnet::Grammar;
@@ -13,18 +14,24 @@ use netset_lib::Command;
 use std::alloc::{AllocError, Global};
 use std::io::Write;
 
-/// Joins the entries of two lists, one list after the other.
-fn joined<'a>(
+/// Joins the entries of two lists, one list after the other. The lines have these labels.
+pub(crate) fn joined<'a>(
     first: Vec<EntryLine<'a>>,
-    second: Vec<EntryLine<'a>>,
+    second: &[EntryLine<'a>],
+    labels: PairLabels<'a>,
 ) -> Result<Asked<'a>, AllocError>
-    ensures entries { IfOk result (λ asked. asked.entries.items ≡ first.entry.items ++ second.entry.items) }
+    ensures entries { IfOk result (λ asked. asked.entries.items ≡ first.entry.items ++ second.now) }
     ensures count { IfOk result (λ asked. asked.count ≡ Some (length first.entry.items)) }
+    ensures labels { IfOk result (λ asked. asked.labels ≡ labels.entry) }
 {
     let mut entries = first;
     let count = Some(entries.len());
-    entries.extend_from_slice(second.as_slice())?;
-    Ok(Asked { entries, count })
+    entries.extend_from_slice(second)?;
+    Ok(Asked {
+        entries,
+        count,
+        labels,
+    })
 }
 
 /// Reads the list, and the other list, if there is one.
@@ -37,6 +44,7 @@ fn asked_of<'a>(
     ensures asked { IfOk result (AreAsked grammar list.now other.entry) }
     ensures failed { IfErr result (IsListsFailure grammar list.now other.entry) }
 {
+    let labels = line_labels();
     let first = entry_list(alloc, list, grammar)?;
     let Some(other) = other else {
         if first.refused.count != 0 {
@@ -45,13 +53,14 @@ fn asked_of<'a>(
         return Ok(Asked {
             entries: first.entries,
             count: None,
+            labels,
         });
     };
     let second = entry_list(alloc, other, grammar)?;
     if first.refused.count != 0 || second.refused.count != 0 {
         return Err(WriteFailure::Refused(first.refused, second.refused));
     }
-    Ok(joined(first.entries, second.entries)?)
+    Ok(joined(first.entries, second.entries.as_slice(), labels)?)
 }
 
 /// The pairs of entries of the list that share an address, or of an entry of the list and an entry of the other list. A
@@ -87,7 +96,7 @@ impl<'a> Command for OverlapsCommand<'a> {
     type Failure = WriteFailure;
 
     ghost is_answer = { λ c text. HoldsOfLists c.grammar c.list.now c.other
-        (λ entries count. IsOverlapText entries count text) };
+        (λ entries count. IsOverlapText line_labels entries count text) };
 
     ghost is_outcome = { λ c none. HoldsOfLists c.grammar c.list.now c.other (IsOverlapOutcome none) };
 

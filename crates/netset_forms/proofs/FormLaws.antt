@@ -1,5 +1,5 @@
 -- Sets with the same addresses have the same texts, so the text of a set is the text of what it was made of.
-use Rattle.std.proofs.Common.{◌↔◌, ℕ, Bool, true, false, List, [], max, Option, Some, None}
+use Rattle.std.proofs.Common.{◌↔◌, ℕ, Bool, true, false, not, IsTrue, List, [], max, Option, Some, None, refl}
 use Rattle.std.specs.Borrow.{Bor}
 use Rattle.ipnet_base.specs.Address.{Family, IPv4, IPv6, Address}
 use Rattle.ipnet_base.specs.Network.{Network}
@@ -10,14 +10,16 @@ use Rattle.ipnet_rules.specs.declared.rules.Rule.{Rule}
 use Rattle.ipnet_sets.specs.declared.set.IpSet.{IpSet}
 use Rattle.ipnet_sets.specs.Members.{IsMember, IsDifference}
 use Rattle.netset_lib.specs.declared.operation.Combination.{Combination}
-use Rattle.netset_lib.specs.Combinations.{IsCombined, IsInCombined}
+use Rattle.netset_lib.specs.Combinations.{IsCombinedWithout, IsInWithout}
 use Rattle.netset_lib.specs.RuleAnswers.{IsPermittedBy, IsPermittedSet}
 use Rattle.netset_lib.specs.RuleLines.{RuleContents, IsRuleList}
+use Rattle.netset_forms.specs.declared.expected.Expectation.{Expectation}
+use Rattle.netset_forms.specs.declared.expected.Expectation.TheVariants.{Anything, SomeAddress, NoAddress}
 use Rattle.netset_forms.specs.declared.form.AnswerForm.{AnswerForm}
 use Rattle.netset_forms.specs.declared.form.AnswerForm.TheVariants as Forms
 use Rattle.netset_forms.specs.declared.form.FormRequest.{FormRequest}
 use Rattle.netset_forms.specs.declared.form.SetNames.{SetNames}
-use Rattle.netset_forms.specs.FormAnswers.{IsFormAnswer, IsPermittedForm, IsEnoughIf, IsNewlyPermitted}
+use Rattle.netset_forms.specs.FormAnswers.{IsFormAnswer, IsPermittedForm, HasAsked, IsExpectedIf, IsNewlyPermitted}
 use Rattle.netset_forms.specs.FormAnswers.{IsNewlyPermittedForm}
 use Rattle.netset_forms.specs.RulePairs.{IsNewlyPermittedSet}
 use Rattle.netset_forms.specs.Forms.{AreBlocksIn, AreRangesIn, IsFamilyText, AreFamilyTexts, IsFormText, IsOfFamily}
@@ -134,9 +136,11 @@ module _ (r : FormRequest) (InSet Sub : Address → Type 0)
 
 -- ---- the result of an operation
 
-pub text_of_sets : (c : Combination) (form : FormRequest) (set : IpSet) → IsCombined c set → (text : List ℕ)
-    → IsAskedText form (IsMember set) text → IsFormAnswer c form text
-text_of_sets c form set of text right = (of.0, asked_same (IsMember set) (IsInCombined c) of.1 form text right)
+pub text_of_sets : (c : Combination) (excepts : List IpSet) (form : FormRequest) (set : IpSet)
+    → IsCombinedWithout c excepts set → (text : List ℕ) → IsAskedText form (IsMember set) text
+    → IsFormAnswer c excepts form text
+text_of_sets c excepts form set of text right =
+    (of.0, asked_same (IsMember set) (IsInWithout c excepts) of.1 form text right)
 
 -- ---- the set that a list of rules permits
 
@@ -152,13 +156,25 @@ module _ (default : Action) (form : FormRequest) (grammar : Grammar) (bytes : Li
 
 -- ---- whether there is an address
 
-pub enough_same : (needed : Bool) (r : FormRequest) (A B : Address → Type 0) → ((x : Address) → A x ↔ B x)
-    → (succeeded : Bool) → IsEnoughIf needed r A succeeded → IsEnoughIf needed r B succeeded
-enough_same true r A B same succeeded h = (
-  λ t. let (x, i) = h.0 t in (x, (chosen_same A B same r.families x).0 i),
-  λ (x, i). h.1 (x, (chosen_same A B same r.families x).1 i),
+-- there is none if and only if it is not so that there is one
+pub none_of : {P : Type 0} (some : Bool) → (IsTrue some ↔ P) → IsTrue (not some) ↔ ¬ P
+none_of true h = (λ wrong. absurd (let none = wrong in cc), λ none. absurd (none (h.0 refl)))
+none_of false h = (λ _ p. let wrong = h.1 p in absurd cc, λ _. refl)
+
+some_same : (r : FormRequest) (A B : Address → Type 0) → ((x : Address) → A x ↔ B x) → HasAsked r A ↔ HasAsked r B
+some_same r A B same = (
+  λ (x, i). (x, (chosen_same A B same r.families x).0 i),
+  λ (x, i). (x, (chosen_same A B same r.families x).1 i),
 )
-enough_same false r A B same succeeded h = h
+
+pub expected_same : (expected : Expectation) (r : FormRequest) (A B : Address → Type 0)
+    → ((x : Address) → A x ↔ B x) → (succeeded : Bool) → IsExpectedIf expected r A succeeded
+    → IsExpectedIf expected r B succeeded
+expected_same Anything r A B same succeeded h = h
+expected_same SomeAddress r A B same succeeded h =
+    let some = some_same r A B same in (λ t. some.0 (h.0 t), λ i. h.1 (some.1 i))
+expected_same NoAddress r A B same succeeded h =
+    let some = some_same r A B same in (λ t i. h.0 t (some.1 i), λ none. h.1 (λ i. none (some.0 i)))
 
 -- ---- the set that an edit of rules opens
 

@@ -2,8 +2,8 @@
 #![tactic(auto)]
 
 mod blocks;
-mod enough;
 mod entries;
+mod expected;
 pub mod fault;
 pub mod form;
 mod frame;
@@ -15,6 +15,7 @@ mod pieces;
 pub mod program;
 pub mod write;
 
+pub use expected::Expectation;
 pub use fault::FormFault;
 pub use form::{
     AnswerForm, ChainRules, EntryLengths, FormFailure, FormRequest, LineTexts, SetNames,

@@ -4,14 +4,14 @@ ghost use Rattle.ipnet.specs.declared.parser.Grammar.{Grammar};
 ghost use Rattle.ipnet_sets.specs.Members.{IsMember};
 ghost use Rattle.ipnet_sets.specs.declared.set.IpSet.{IpSet};
 ghost use Rattle.ipnet_text.specs.Outputs.{IsWritten, IsFrontWritten};
-ghost use Rattle.netset_forms.specs.FormAnswers.{IsEnoughIf, IsNewlyPermitted, IsNewlyPermittedForm};
+ghost use Rattle.netset_forms.specs.FormAnswers.{IsExpectedIf, IsNewlyPermitted, IsNewlyPermittedForm};
 ghost use Rattle.netset_forms.specs.Forms.{IsAskedFailure};
 ghost use Rattle.netset_forms.specs.RulePairs.{HasNoRefusedRule, IsPairFailure, IsPairReport, IsPairBegun};
 ghost use Rattle.netset_forms.specs.RulePairs.{IsNewlyPermittedSet};
 ghost use Rattle.netset_lib.specs.RuleContentsOf.{WasRuleListRead, contents_of};
 ghost use Rattle.netset_lib.specs.Runs.{IsFault};
 
-use crate::enough::is_enough;
+use crate::expected::{Expectation, is_expected};
 use crate::form::{FormFailure, FormRequest};
 use crate::write::write_form;
 use ipnet_lists::{ListFailure, Refusals, report_refused};
@@ -105,8 +105,8 @@ pub struct NewlyPermittedCommand<'a> {
     pub default: Action,
     /// The form of the answer.
     pub form: FormRequest<'a>,
-    /// Whether the command succeeds only if the answer has an address.
-    pub needs_address: bool,
+    /// The expectation. The command succeeds if and only if the answer meets it.
+    pub expected: Expectation,
 }
 
 impl<'a> Command for NewlyPermittedCommand<'a> {
@@ -116,7 +116,7 @@ impl<'a> Command for NewlyPermittedCommand<'a> {
         → WasRuleListRead grammar bytes c.list → WasRuleListRead grammar except c.except
         → IsNewlyPermittedForm c.default c.form grammar bytes except text };
 
-    ghost is_outcome = { λ c. IsEnoughIf c.needs_address c.form
+    ghost is_outcome = { λ c. IsExpectedIf c.expected c.form
         (IsNewlyPermitted (contents_of c.list).rules (contents_of c.except).rules c.default) };
 
     ghost is_failure = { λ c. IsFault (IsPairFailure c.list c.except) (λ failure. (set : IpSet)
@@ -129,14 +129,14 @@ impl<'a> Command for NewlyPermittedCommand<'a> {
             except,
             default,
             form,
-            needs_address,
+            expected,
         } = self;
         let alloc = list.alloc();
         let set = match newly_permitted(list, except, default) {
             Ok(set) => set,
             Err(failure) => return Err(Fault::Lists(failure)),
         };
-        let succeeds = is_enough(needs_address, form, &set);
+        let succeeds = is_expected(expected, form, &set);
         match write_form(alloc, set, form, out) {
             Ok(()) => Ok(succeeds),
             Err(failure) => Err(Fault::Other(failure)),

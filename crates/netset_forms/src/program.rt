@@ -6,22 +6,23 @@ ghost use Rattle.netset_lib.specs.Reports.{words_line};
 ghost use Rattle.ipnet.specs.declared.parser.Grammar.{Grammar};
 ghost use Rattle.netset_lib.specs.RuleAnswers.{IsRuleFailure, IsPermittedBy, IsPermittedSet};
 ghost use Rattle.netset_lib.specs.RuleContentsOf.{WasRuleListRead, contents_of};
-ghost use Rattle.netset_lib.specs.Combinations.{IsCombined, IsCombineFailure, IsInCombined};
+ghost use Rattle.netset_lib.specs.Combinations.{IsCombinedWithout, IsCombineFailure, IsInWithout};
 ghost use Rattle.netset_lib.specs.Runs.{IsFault};
 ghost use Rattle.ipnet_sets.specs.Members.{IsMember};
 ghost use Rattle.ipnet_sets.specs.declared.set.IpSet.{IpSet};
 ghost use Rattle.netset_forms.specs.Forms.{IsAskedFailure};
-ghost use Rattle.netset_forms.specs.FormAnswers.{IsFormAnswer, IsPermittedForm, IsEnoughIf};
+ghost use Rattle.netset_forms.specs.FormAnswers.{IsFormAnswer, IsPermittedForm, IsExpectedIf};
 
-use crate::enough::is_enough;
+use crate::expected::{Expectation, is_expected};
 use crate::form::{FormFailure, FormRequest};
 use crate::write::write_form;
 use ipnet_lists::ListFailure;
 use ipnet_rules::Action;
+use ipnet_sets::IpSet;
 use ipnet_text::Watched;
 use netset_lib::reports::report_words;
 use netset_lib::runs::Report;
-use netset_lib::{Combination, Command, Failure, Fault, RuleCause, RuleList, combine};
+use netset_lib::{Combination, Command, Failure, Fault, RuleCause, RuleList, combine_without};
 use std::alloc::Global;
 use std::io;
 use std::io::Write;
@@ -42,7 +43,7 @@ impl Report for FormFailure {
     }
 }
 
-/// The result of an operation on sets, in the form that is asked for.
+/// The result of an operation on sets, without the addresses of other sets, in the form that is asked for.
 ///
 /// | Status | On `faults` | When |
 /// |---|---|---|
@@ -51,45 +52,50 @@ impl Report for FormFailure {
 /// | 2 | `netset: the result has IPv4 addresses: name a set for them by --ipv4-set` | a set without a name; or IPv6 |
 /// | 2 | `netset: out of memory` | memory runs out |
 /// | 2 | `netset: output cannot be written` | a write fails, or the flush after it; the answer may be out in part |
-/// | 1 | nothing | an address is needed, and the answer has none |
+/// | 1 | nothing | the answer is not as expected: it has no address, or it has one |
 /// | 0 | nothing | otherwise |
 ///
 /// ```text
 /// Union of 10.0.0.0/9 and 10.128.0.0/9, Json:  status 0, and out gets "[\n  \"10.0.0.0/8\"\n]\n"
+/// the same without 10.0.0.0/10:                status 0, and out gets
+///     "[\n  \"10.64.0.0/10\",\n  \"10.128.0.0/9\"\n]\n"
 /// ```
 pub struct FormCommand<'a> {
     /// The allocator.
     pub alloc: Global,
     /// The operation and its sets.
     pub combination: Combination,
+    /// The sets that are taken out of the result.
+    pub excepts: Vec<IpSet>,
     /// The form of the answer.
     pub form: FormRequest<'a>,
-    /// Whether the command succeeds only if the answer has an address.
-    pub needs_address: bool,
+    /// The expectation. The command succeeds if and only if the answer meets it.
+    pub expected: Expectation,
 }
 
 impl<'a> Command for FormCommand<'a> {
     type Failure = Fault<Failure, FormFailure>;
 
-    ghost is_answer = { λ c. IsFormAnswer c.combination c.form };
+    ghost is_answer = { λ c. IsFormAnswer c.combination c.excepts.items c.form };
 
-    ghost is_outcome = { λ c. IsEnoughIf c.needs_address c.form (IsInCombined c.combination) };
+    ghost is_outcome = { λ c. IsExpectedIf c.expected c.form (IsInWithout c.combination c.excepts.items) };
 
     ghost is_failure = { λ c. IsFault (IsCombineFailure c.combination) (λ failure. (set : IpSet)
-        × IsCombined c.combination set × IsAskedFailure c.form (IsMember set) failure) };
+        × IsCombinedWithout c.combination c.excepts.items set × IsAskedFailure c.form (IsMember set) failure) };
 
     fn write<W: Write>(self, out: &mut W) -> Result<bool, Fault<Failure, FormFailure>> {
         let FormCommand {
             alloc,
             combination,
+            excepts,
             form,
-            needs_address,
+            expected,
         } = self;
-        let set = match combine(alloc, combination) {
+        let set = match combine_without(alloc, combination, excepts.as_slice()) {
             Ok(set) => set,
             Err(failure) => return Err(Fault::Lists(failure)),
         };
-        let succeeds = is_enough(needs_address, form, &set);
+        let succeeds = is_expected(expected, form, &set);
         match write_form(alloc, set, form, out) {
             Ok(()) => Ok(succeeds),
             Err(failure) => Err(Fault::Other(failure)),
@@ -112,8 +118,8 @@ pub struct PermittedCommand<'a> {
     pub default: Action,
     /// The form of the answer.
     pub form: FormRequest<'a>,
-    /// Whether the command succeeds only if the answer has an address.
-    pub needs_address: bool,
+    /// The expectation. The command succeeds if and only if the answer meets it.
+    pub expected: Expectation,
 }
 
 impl<'a> Command for PermittedCommand<'a> {
@@ -122,7 +128,7 @@ impl<'a> Command for PermittedCommand<'a> {
     ghost is_answer = { λ c text. (grammar : Grammar) → (bytes : List ℕ)
         → WasRuleListRead grammar bytes c.list → IsPermittedForm c.default c.form grammar bytes text };
 
-    ghost is_outcome = { λ c. IsEnoughIf c.needs_address c.form (IsPermittedBy (contents_of c.list).rules c.default) };
+    ghost is_outcome = { λ c. IsExpectedIf c.expected c.form (IsPermittedBy (contents_of c.list).rules c.default) };
 
     ghost is_failure = { λ c. IsFault (IsRuleFailure c.list) (λ failure. (set : IpSet)
         × IsPermittedSet c.default (contents_of c.list).rules set
@@ -136,14 +142,14 @@ impl<'a> Command for PermittedCommand<'a> {
             list,
             default,
             form,
-            needs_address,
+            expected,
         } = self;
         let alloc = list.alloc();
         let set = match list.permitted(default) {
             Ok(set) => set,
             Err(failure) => return Err(Fault::Lists(failure)),
         };
-        let succeeds = is_enough(needs_address, form, &set);
+        let succeeds = is_expected(expected, form, &set);
         match write_form(alloc, set, form, out) {
             Ok(()) => Ok(succeeds),
             Err(failure) => Err(Fault::Other(failure)),

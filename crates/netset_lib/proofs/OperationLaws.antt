@@ -1,11 +1,15 @@
--- The addresses of the families of a complement, and of the difference of two sets.
-use Rattle.std.proofs.Common.{◌≡◌, ℕ, Bool, ◌^◌, ◌<◌, ◌⊎◌, ◌↔◌, [], ◌∷◌}
+-- The addresses of the families of a complement, of the difference of two sets, and of a result of which sets are taken
+-- out.
+use Rattle.std.proofs.Common.{◌≡◌, ℕ, Bool, ◌^◌, ◌<◌, ◌⊎◌, ◌↔◌, List, [], ◌∷◌, length}
 use Rattle.std.proofs.Common.{refl, sym, arith, inl, inr, subst, IsTrue}
 use Rattle.std.proofs.lemmas.List.Elements.{All-nil, All-cons, All-head}
 use Rattle.ipnet_base.specs.Address.{Family, IPv4, IPv6, Address, IsAddress, address_at, width}
 use Rattle.ipnet_base.specs.Address.{greatest_number}
-use Rattle.ipnet_sets.specs.Members.{IsFromTo}
+use Rattle.ipnet_sets.specs.Members.{IsFromTo, IsMember}
+use Rattle.ipnet_sets.specs.declared.set.IpSet.{IpSet}
+use Rattle.netset_lib.specs.Combinations.{IsCombined, IsCombinedWithout}
 use Rattle.netset_lib.specs.Operations.{IsInFirstAlone}
+use Rattle.netset_lib.specs.declared.operation.Combination.{Combination}
 
 -- the addresses from the family's first to its last
 whole_family : (f : Family) (start end n : ℕ) → start ≡ 0 → end ≡ greatest_number f → n < 2 ^ width f
@@ -50,3 +54,17 @@ first_alone_of_two In first second x = (
   λ h. (h.0, All-cons (λ l. ¬ (In l x)) second [] h.1 (All-nil (λ l. ¬ (In l x)))),
   λ h. (h.0, All-head (λ l. ¬ (In l x)) second [] h.1),
 )
+
+-- a result of which no set is taken out
+pub none_taken : (combination : Combination) (excepts : List IpSet) (set : IpSet) → length excepts ≡ 0
+    → IsCombined combination set → IsCombinedWithout combination excepts set
+none_taken combination [] set none of =
+    (of.0, λ x. (λ m. ((of.1 x).0 m, All-nil (λ s. ¬ (IsMember s x))), λ i. (of.1 x).1 i.0))
+none_taken combination (first ∷ others) set none of = absurd (let wrong = none in omega (arith, wrong))
+
+-- a result of which sets are taken out
+pub taken_out : (combination : Combination) (excepts : List IpSet) (set left : IpSet) → IsCombined combination set
+    → ((x : Address) → IsMember left x ↔ IsInFirstAlone IsMember (set ∷ excepts) x)
+    → IsCombinedWithout combination excepts left
+taken_out combination excepts set left of taken =
+    (of.0, λ x. (λ m. let i = (taken x).0 m in ((of.1 x).0 i.0, i.1), λ i. (taken x).1 ((of.1 x).1 i.0, i.1)))

@@ -1,5 +1,5 @@
 -- Sets that an operation combines, and the result.
-use Rattle.std.specs.Prelude.{◌↔◌, ℕ, List, [], ◌∷◌}
+use Rattle.std.specs.Prelude.{◌↔◌, ℕ, List, [], ◌∷◌, All}
 use Rattle.ipnet_base.specs.Address.{Address}
 use Rattle.ipnet_sets.specs.declared.set.IpSet.{IpSet}
 use Rattle.ipnet_sets.specs.Members.{IsMember, HasNoAddress}
@@ -48,6 +48,16 @@ IsInCombined combination = IsInResult IsMember (operation_of combination) (sets_
 -- The set has the addresses of the result.
 abbrev pub IsCombined : Combination → IpSet → Type 0
 IsCombined combination set = HasFamily combination × ((x : Address) → IsMember set x ↔ IsInCombined combination x)
+
+-- The address is in the result, and in none of the sets that are taken out of it.
+-- Example: 10.0.0.2 for the union of 10.0.0.0/31 and 10.0.0.2/31, and the set 10.0.0.3.
+abbrev pub IsInWithout : Combination → List IpSet → Address → Type 0
+IsInWithout combination excepts x = IsInCombined combination x × All (λ s. ¬ (IsMember s x)) excepts
+
+-- The set has the addresses of the result that are in none of these sets.
+abbrev pub IsCombinedWithout : Combination → List IpSet → IpSet → Type 0
+IsCombinedWithout combination excepts set =
+    HasFamily combination × ((x : Address) → IsMember set x ↔ IsInWithout combination excepts x)
 
 -- The text of the result.
 abbrev pub IsCombinedText : Combination → Form → List ℕ → Type 0

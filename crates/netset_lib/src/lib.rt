@@ -71,7 +71,7 @@ pub use filter::Side;
 pub use length::{read_length, read_number};
 pub use listing_program::{run_hosts, run_split};
 pub use network_entry::{ArgumentCause, NetworkCause, read_network_argument};
-pub use operation::{Combination, Families, combine};
+pub use operation::{Combination, Families, combine, combine_without};
 pub use operation_program::OperationCommand;
 pub use output::{Output, finish, is_unfinished_name, unfinished_name};
 pub use plan::{Plan, PlanFailure, PlanFamily, PlanRequest, plan_family, plan_networks, plan_text};

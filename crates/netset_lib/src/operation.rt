@@ -4,6 +4,7 @@ ghost use Rattle.ipnet_base.specs.Address.{IPv4, IPv6, Address, IsAddress, ip_ad
 ghost use Rattle.ipnet_sets.specs.ManySets.{IsInSome};
 ghost use Rattle.ipnet_sets.specs.Members.{IsMember, IsFromTo};
 ghost use Rattle.netset_lib.specs.Combinations.{HasFamily, IsInCombined, IsCombined, IsCombineFailure};
+ghost use Rattle.netset_lib.specs.Combinations.{IsCombinedWithout};
 ghost use Rattle.netset_lib.specs.Operations.{IsInFirstAlone, IsInComplement, IsChosen};
 
 use crate::failure::Failure;
@@ -189,4 +190,28 @@ pub fn combine(alloc: Global, combination: Combination) -> Result<IpSet, Failure
         return Err(Failure::NoFamily);
     }
     Ok(combined_set(alloc, combination)?)
+}
+
+/// Returns the result of the operation on the sets, without the addresses of the sets that are taken out of it.
+///
+/// The error is as `combine` says. Without such a set, the result is not copied.
+///
+/// ```text
+/// Union of 10.0.0.0/31 and 10.0.0.2/31, without 10.0.0.3:  10.0.0.0 to 10.0.0.2
+/// Complement(Ipv4) of no address, without 10.0.0.0/8:      0.0.0.0 to 9.255.255.255, 11.0.0.0 to 255.255.255.255
+/// ```
+#[tactic(auto, using(crate::proofs::OperationLaws::none_taken, crate::proofs::OperationLaws::taken_out))]
+pub fn combine_without(
+    alloc: Global,
+    combination: Combination,
+    excepts: &[IpSet],
+) -> Result<IpSet, Failure>
+    ensures combined { IfOk result (IsCombinedWithout combination excepts.now) }
+    ensures failure { IfErr result (IsCombineFailure combination) }
+{
+    let set = combine(alloc, combination)?;
+    if excepts.is_empty() {
+        return Ok(set);
+    }
+    Ok(difference_of(alloc, &set, excepts)?)
 }

@@ -3,7 +3,7 @@ use Rattle.std.proofs.Common.{◌≡◌, ◌+◌, ◌++◌, map, drop, get_or, s
 use Rattle.std.proofs.lemmas.List.Elements.{All-drop, All-take, All-get_or}
 use Rattle.std.proofs.lemmas.List.Sums.{prefix_len-le-length}
 use Rattle.ipnet_text.specs.Pieces.{IsInPieces}
-use Rattle.netset_entries.specs.EntryLineOf.{numbered}
+use Rattle.netset_entries.specs.EntryLineOf.{labels_of, numbered}
 use Rattle.netset_entries.specs.EntryTexts.{IsFront}
 use Rattle.netset_entries.specs.Overlaps.{pair_lines}
 use Rattle.netset_entries.specs.Sweeps.{no_span, met, asked_pairs, has_some, IsPlaced, AreRuns}
@@ -14,7 +14,8 @@ use Rattle.netset_entries.proofs.overlaps.put_pairs.Goals as goal
 
 pub loop-index-init : goal.loop-index-init
 loop-index-init g c =
-    done_start (map numbered c.args.asked.now.entries.items) c.args.asked.now.count c.args.spans.now
+    done_start (labels_of c.args.asked.now.labels) (map numbered c.args.asked.now.entries.items)
+    c.args.asked.now.count c.args.spans.now
     (g.W.Write.contents c.args.out.now) c.args.piece.now.items
 
 pub put_met-requires : goal.put_met-requires
@@ -44,17 +45,18 @@ pub loop-index-preserved : goal.loop-index-preserved
 loop-index-preserved g c =
     let held = g.W.Write.contents in
     let asked = c.args.asked.now in
+    let labels = labels_of asked.labels in
     let entries = map numbered asked.entries.items in
     let spans = c.args.spans.now in
     let i = c.loop-index.index in
     let s = get_or spans i no_span in
     let others : c.met_by-others.result.now ≡ met s (drop (i + 1) spans) =
     c.met_by-others.ensures ∙ ap (met s) (rest_of (i + 1) spans) in
-    done_more entries asked.count spans (held c.args.out.now) (held c.loop-index.out) (held c.put_met.new.out)
+    done_more labels entries asked.count spans (held c.args.out.now) (held c.loop-index.out) (held c.put_met.new.out)
     c.args.piece.now.items c.loop-index.piece.items c.put_met.new.piece.items i no_span c.loop-index.found
     c.in_ok-more.more c.loop-index-test.true c.loop-index.invariant
     (subst (λ z. IsInPieces (held c.loop-index.out) (held c.put_met.new.out) c.put_met.new.piece.items
-    (c.loop-index.piece.items ++ pair_lines (asked_pairs entries asked.count s z))) others
+    (c.loop-index.piece.items ++ pair_lines labels (asked_pairs entries asked.count s z))) others
     c.in_ok-more.ensures.whole)
     (c.in_ok-more.ensures.found ∙ ap (λ z. has_some (asked_pairs entries asked.count s z)) others)
 
@@ -62,15 +64,16 @@ pub returns-in_err-more-clause-front : goal.returns-in_err-more-clause-front
 returns-in_err-more-clause-front g c =
     let held = g.W.Write.contents in
     let asked = c.args.asked.now in
+    let labels = labels_of asked.labels in
     let entries = map numbered asked.entries.items in
     let spans = c.args.spans.now in
     let i = c.loop-index.index in
     let s = get_or spans i no_span in
     let others : c.met_by-others.result.now ≡ met s (drop (i + 1) spans) =
     c.met_by-others.ensures ∙ ap (met s) (rest_of (i + 1) spans) in
-    done_front entries asked.count spans (held c.args.out.now) (held c.loop-index.out)
+    done_front labels entries asked.count spans (held c.args.out.now) (held c.loop-index.out)
     (held c.put_met.new.out) c.args.piece.now.items c.loop-index.piece.items i no_span c.loop-index.found
     c.loop-index-test.true c.loop-index.invariant
     (subst (λ z. IsFront (held c.loop-index.out) (held c.put_met.new.out)
-    (c.loop-index.piece.items ++ pair_lines (asked_pairs entries asked.count s z))) others
+    (c.loop-index.piece.items ++ pair_lines labels (asked_pairs entries asked.count s z))) others
     c.in_err-more.ensures.front)

@@ -1,5 +1,5 @@
-use Rattle.std.proofs.Common.{inl, inr, sym, subst}
-use Rattle.netset_entries.specs.EntryLineOf.{AreAsked}
+use Rattle.std.proofs.Common.{◌++◌, inl, inr, sym, subst, ap, ◌∙◌}
+use Rattle.netset_entries.specs.EntryLineOf.{AreAsked, labels_of}
 use Rattle.netset_entries.specs.WriteFailures.{IsListsFailure}
 use Rattle.netset_entries.specs.declared.lines.WriteFailure.TheVariants.{Refused}
 use Rattle.netset_entries.proofs.TwoListLaws.{all_read, refused_of}
@@ -16,8 +16,9 @@ returns-clause-asked c =
       second.entries.items,
       all_read grammar bytes first c.in_ok-first.ensures c.if-first-ne0-2.false,
       all_read grammar c.in-Some.other.now second c.in_ok-second.ensures c.if-second-ne0.false,
-      c.in_ok-joined.ensures.entries,
+      c.in_ok-joined.ensures.entries ∙ ap (λ z. first.entries.items ++ z) c.as_slice.ensures.value,
       c.in_ok-joined.ensures.count,
+      ap labels_of c.in_ok-joined.ensures.labels ∙ c.line_labels-labels.ensures,
     )
 
 pub returns-then-first-ne0-2-clause-failed : goal.returns-then-first-ne0-2-clause-failed

@@ -1,14 +1,12 @@
 use Rattle.std.proofs.Common.{◌≡◌, ◌⊎◌, refl, ap, Ok, inl, inr}
 use Rattle.netset_lib.proofs.RunLaws.{whole_weaker, front_weaker}
-use Rattle.netset_entries.specs.Overlaps.{IsOverlapText}
-use Rattle.netset_entries.proofs.TwoListLaws.{of_asked, overlap_outcome}
+use Rattle.netset_entries.proofs.TwoListLaws.{text_of_asked, overlap_outcome}
 use Rattle.netset_entries.proofs.overlaps_program.OverlapsCommandCommand.write.Goals as goal
 
 pub returns-in-Ok-clause-whole : goal.returns-in-Ok-clause-whole
 returns-in-Ok-clause-whole g c =
     let of = c.args.self in
-    whole_weaker (λ text. of_asked of.grammar of.list.now of.other c.in_ok-asked.asked c.in_ok-asked.ensures.asked
-    (λ entries count. IsOverlapText entries count text))
+    whole_weaker (text_of_asked of.grammar of.list.now of.other c.in_ok-asked.asked c.in_ok-asked.ensures.asked)
     (g.W.Write.contents c.args.out.now) (g.W.Write.contents c.write_overlaps.new.out) (c.in-Ok.ensures.whole refl)
 
 pub returns-in-Ok-clause-outcome : goal.returns-in-Ok-clause-outcome
@@ -24,8 +22,7 @@ returns-clause-front g c =
       | inl kept ↦ inl kept
       | inr cut ↦ inr (
         refl,
-        front_weaker (λ text. of_asked of.grammar of.list.now of.other c.in_ok-asked.asked c.in_ok-asked.ensures.asked
-            (λ entries count. IsOverlapText entries count text))
+        front_weaker (text_of_asked of.grammar of.list.now of.other c.in_ok-asked.asked c.in_ok-asked.ensures.asked)
             (g.W.Write.contents c.args.out.now) (g.W.Write.contents c.write_overlaps.new.out) cut,
       )
     ]

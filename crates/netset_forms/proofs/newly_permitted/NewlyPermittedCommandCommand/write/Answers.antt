@@ -4,7 +4,7 @@ use Rattle.netset_lib.specs.RuleContentsOf.{contents_of}
 use Rattle.netset_lib.proofs.RuleLaws.{all_rules}
 use Rattle.netset_lib.proofs.RunLaws.{whole_weaker, front_weaker}
 use Rattle.netset_forms.specs.FormAnswers.{IsNewlyPermitted}
-use Rattle.netset_forms.proofs.FormLaws.{text_of_edit, enough_same}
+use Rattle.netset_forms.proofs.FormLaws.{text_of_edit, expected_same}
 use Rattle.netset_forms.proofs.newly_permitted.NewlyPermittedCommandCommand.write.Goals as goal
 
 pub returns-in-Ok-write_form-clause-whole : goal.returns-in-Ok-write_form-clause-whole
@@ -19,9 +19,9 @@ returns-in-Ok-write_form-clause-whole g c =
 pub returns-in-Ok-write_form-clause-outcome : goal.returns-in-Ok-write_form-clause-outcome
 returns-in-Ok-write_form-clause-outcome g c =
     let of = c.args.self in
-    enough_same of.needs_address of.form (IsMember c.in-Ok.set)
+    expected_same of.expected of.form (IsMember c.in-Ok.set)
     (IsNewlyPermitted (contents_of of.list).rules (contents_of of.except).rules of.default) c.in-Ok.ensures.set
-    c.is_enough-succeeds.result c.is_enough-succeeds.ensures
+    c.is_expected-succeeds.result c.is_expected-succeeds.ensures
 
 pub returns-in-Err-write_form-clause-front : goal.returns-in-Err-write_form-clause-front
 returns-in-Err-write_form-clause-front g c =

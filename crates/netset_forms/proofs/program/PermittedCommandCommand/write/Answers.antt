@@ -4,7 +4,7 @@ use Rattle.netset_lib.specs.RuleAnswers.{IsPermittedBy}
 use Rattle.netset_lib.specs.RuleContentsOf.{contents_of}
 use Rattle.netset_lib.proofs.RuleLaws.{all_rules}
 use Rattle.netset_lib.proofs.RunLaws.{whole_weaker, front_weaker}
-use Rattle.netset_forms.proofs.FormLaws.{text_of_rules, enough_same}
+use Rattle.netset_forms.proofs.FormLaws.{text_of_rules, expected_same}
 use Rattle.netset_forms.proofs.program.PermittedCommandCommand.write.Goals as goal
 
 pub returns-in-Ok-write_form-clause-whole : goal.returns-in-Ok-write_form-clause-whole
@@ -18,8 +18,8 @@ returns-in-Ok-write_form-clause-whole g c =
 pub returns-in-Ok-write_form-clause-outcome : goal.returns-in-Ok-write_form-clause-outcome
 returns-in-Ok-write_form-clause-outcome g c =
     let of = c.args.self in
-    enough_same of.needs_address of.form (IsMember c.in-Ok.set) (IsPermittedBy (contents_of of.list).rules of.default)
-    c.in-Ok.ensures.set c.is_enough-succeeds.result c.is_enough-succeeds.ensures
+    expected_same of.expected of.form (IsMember c.in-Ok.set) (IsPermittedBy (contents_of of.list).rules of.default)
+    c.in-Ok.ensures.set c.is_expected-succeeds.result c.is_expected-succeeds.ensures
 
 pub returns-in-Err-write_form-clause-front : goal.returns-in-Err-write_form-clause-front
 returns-in-Err-write_form-clause-front g c =

@@ -3,7 +3,7 @@ use Rattle.std.proofs.Common.{◌↔◌, IsTrue, subst, sym}
 use Rattle.ipnet_base.specs.Address.{Address}
 use Rattle.ipnet_sets.specs.Members.{IsMember}
 use Rattle.netset_forms.specs.Forms.{IsOfFamilies}
-use Rattle.netset_forms.proofs.enough.has_address.Goals as goal
+use Rattle.netset_forms.proofs.expected.has_address.Goals as goal
 
 pub returns-in-Named : goal.returns-in-Named
 returns-in-Named c =

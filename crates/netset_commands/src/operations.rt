@@ -1,0 +1,144 @@
+//! The operations on lists: the option for the lists that are taken out of the result, and the runs.
+ghost use Rattle.std.specs.Prelude.{◌≡◌, ◌≤◌, ◌∷◌, [], Some, codes, IfErr};
+ghost use Rattle.ipnet_sets.specs.declared.set.IpSet.{IpSet};
+ghost use Rattle.netset_lib.specs.declared.operation.Combination.TheVariants.{Union, Intersection, Difference};
+ghost use Rattle.netset_lib.specs.declared.operation.Combination.TheVariants.{SymmetricDifference, Complement};
+
+use crate::arguments::{ArgumentFailure, families_of, report_argument_failure};
+use crate::entry_options::entries_or_report;
+use crate::except::{EXCEPT, EXCEPT_OPTION};
+use crate::forms::{expectation_of, form_of};
+use crate::named_lists::names_or_report;
+use crate::reading::{finish_lists, set_reader};
+use crate::table::Argument;
+use crate::without::names_without_or_report;
+use clap::ArgMatches;
+use ipnet_sets::IpSet;
+use netset_files::{Lists, Writers};
+use netset_forms::FormCommand;
+use netset_lib::{Combination, Families, run};
+
+/// The option for lists that are taken out of the result.
+pub const EXCEPT_LISTS: Argument = Argument {
+    help: "A list whose addresses are taken out of the result; any number of times",
+    ..EXCEPT_OPTION
+};
+
+/// The sets of the lists that an operation combines, and of those that are taken out of its result.
+#[derive(Drop)]
+struct Operands {
+    sets: Vec<IpSet>,
+    excepts: Vec<IpSet>,
+}
+
+/// Reads the lists of the first names, and then those that are taken out of the result, into a set each. If there are
+/// entries, they are the last of the first lists. `names` are the names of all. If that fails, or if lines are refused,
+/// it is reported, and the error is the exit status.
+fn read_operands(
+    rt: &HostRuntime,
+    matches: &ArgMatches,
+    first: &[&str],
+    names: &[&str],
+    writers: &mut Writers<'_>,
+) -> Result<Operands, u8>
+    ensures { IfErr result (λ status. status ≡ 2) }
+{
+    let lists = Lists::new(set_reader(rt, matches)?, writers.reports);
+    let entries = entries_or_report(rt, matches)?;
+    let (lists, sets) = lists.read_all(rt, first, entries)?;
+    let others = matches.get_strs(EXCEPT).unwrap_or(&[]);
+    let (lists, excepts) = lists.read_all(rt, others, None)?;
+    finish_lists(lists, names, writers)?;
+    Ok(Operands { sets, excepts })
+}
+
+/// Returns the two sets, in order; `None` if there are more or fewer.
+fn two_of(mut sets: Vec<IpSet>) -> Option<(IpSet, IpSet)>
+    ensures { (first second : IpSet) → sets.items ≡ first ∷ second ∷ [] → result ≡ Some (first, second) }
+{
+    if sets.len() != 2 {
+        return None;
+    }
+    let second = sets.remove(1);
+    let first = sets.remove(0);
+    Some((first, second))
+}
+
+/// Returns the only set; `None` if there are more or none.
+fn only_of(mut sets: Vec<IpSet>) -> Option<IpSet>
+    ensures { (set : IpSet) → sets.items ≡ set ∷ [] → result ≡ Some set }
+{
+    if sets.len() != 1 {
+        return None;
+    }
+    Some(sets.remove(0))
+}
+
+/// Returns the operation of the command of this name, on these sets; `None` if it has more or fewer sets. A complement
+/// is in these families.
+fn combination_of(name: &str, families: Families, sets: Vec<IpSet>) -> Option<Combination>
+    ensures union { name.now ≡ codes "union" → result ≡ Some (Union sets) }
+    ensures intersection { name.now ≡ codes "intersection" → result ≡ Some (Intersection sets) }
+    ensures difference { name.now ≡ codes "difference" → result ≡ Some (Difference sets) }
+    ensures symmetric_difference { (first second : IpSet) → name.now ≡ codes "symmetric-difference"
+        → sets.items ≡ first ∷ second ∷ [] → result ≡ Some (SymmetricDifference first second) }
+    ensures complement { (set : IpSet) → name.now ≡ codes "complement" → sets.items ≡ set ∷ []
+        → result ≡ Some (Complement families set) }
+{
+    match name {
+        "union" => Some(Combination::Union(sets)),
+        "intersection" => Some(Combination::Intersection(sets)),
+        "difference" => Some(Combination::Difference(sets)),
+        "symmetric-difference" => {
+            let (first, second) = two_of(sets)?;
+            Some(Combination::SymmetricDifference(first, second))
+        }
+        "complement" => Some(Combination::Complement(families, only_of(sets)?)),
+        _ => None,
+    }
+}
+
+/// Reads the lists, prints what the operation makes of them, without the lists that are taken out of it, and returns
+/// the status. The name is the command's. If that fails, it is reported, and the error is the exit status.
+fn print_combined(
+    rt: &HostRuntime,
+    name: &str,
+    matches: &ArgMatches,
+    writers: &mut Writers<'_>,
+) -> Result<u8, u8>
+    ensures combined { IfOk result (λ status. status ≤ 2) }
+    ensures failed { IfErr result (λ status. status ≡ 2) }
+{
+    let first = names_or_report(rt, matches)?;
+    let names = names_without_or_report(rt, matches, first.as_slice(), EXCEPT, &[])?;
+    let form = form_of(rt, matches)?;
+    let names = names.as_slice();
+    let Operands { sets, excepts } = read_operands(rt, matches, first.as_slice(), names, writers)?;
+    let Some(combination) = combination_of(name, families_of(matches), sets) else {
+        return Err(report_argument_failure(rt, ArgumentFailure::NoCommand));
+    };
+    let command = FormCommand {
+        alloc: rt.alloc(),
+        combination,
+        excepts,
+        form,
+        expected: expectation_of(matches),
+    };
+    Ok(run(command, names, &mut writers.answer, &mut writers.faults))
+}
+
+/// Prints what the operation of the command of this name makes of the lists, and returns the status.
+#[inline(never)]
+pub fn combine_lists(
+    rt: &HostRuntime,
+    name: &str,
+    matches: &ArgMatches,
+    writers: &mut Writers<'_>,
+) -> u8
+    ensures { result ≤ 2 }
+{
+    match print_combined(rt, name, matches, writers) {
+        Ok(status) => status,
+        Err(status) => status,
+    }
+}
