@@ -27,7 +27,7 @@ use Rattle.netset_lib.specs.declared.plan_word.PlanWordCause.{PlanWordCause}
 use Rattle.netset_lib.specs.declared.command.Flags.{Flags}
 use Rattle.netset_lib.specs.declared.network_entry.ArgumentCause.{ArgumentCause}
 use Rattle.ipnet_origins.specs.declared.origins.Validity.{Validity}
-use Rattle.netset_origins.specs.OriginAnswers.{validity_word}
+use Rattle.netset_origins.specs.OriginStates.{validity_word}
 use Rattle.netset_pictures.specs.declared.locale.MarkChoice.{MarkChoice}
 use Rattle.netset_pictures.specs.declared.locale.MarkChoice.TheVariants.{Ascii, Utf8, Terminal, File}
 

@@ -9,10 +9,12 @@ use crate::entry_options::{ENTRY_OPTION, ENTRY_OR_FIRST};
 use crate::named_lists::{check_names, last_name, names_or_report};
 use crate::reading::{bytes_of_all, last_bytes, read_only_set, slices_of, two_bytes};
 use crate::table::{Argument, Subcommand};
+use crate::texts::{TEXT_FLAG, has_text_flag};
 use clap::ArgMatches;
 use netset_entries::{ManyOverlapsCommand, OverlapsCommand, RedundantCommand, SupernetCommand};
 use netset_files::Writers;
-use netset_lib::{run, run_text};
+use netset_lib::{run, run_text, table_or_report};
+use netset_routes::RedundantRoutesCommand;
 
 /// The names of the commands.
 pub const SUPERNET: &str = "supernet";
@@ -28,11 +30,18 @@ pub const SUPERNET_COMMAND: Subcommand = Subcommand {
     arguments: &[SHARED, SKIPPING, &[ONE_LIST, ENTRY_OR_FIRST]],
 };
 
+/// The flag by which the list is a table with texts.
+const REDUNDANT_TEXT_FLAG: Argument = Argument {
+    help: "Text may follow the entry of a line; print the networks without which each address keeps its text",
+    conflicts: &[],
+    ..TEXT_FLAG
+};
+
 /// The command `redundant`.
 pub const REDUNDANT_COMMAND: Subcommand = Subcommand {
     name: REDUNDANT,
     about: "The entries that the others make unnecessary, and the fewest that cover each; status 1 if there are any",
-    arguments: &[SHARED, &[ONE_LIST, ENTRY_OR_FIRST]],
+    arguments: &[SHARED, &[REDUNDANT_TEXT_FLAG, ONE_LIST, ENTRY_OR_FIRST]],
 };
 
 /// The command `overlaps`.
@@ -70,22 +79,33 @@ pub fn print_supernet(rt: &HostRuntime, matches: &ArgMatches, writers: &mut Writ
     }
 }
 
-/// Reads the list, and prints the entries that the others make unnecessary.
+/// Reads the list, and prints the entries that the others make unnecessary; or if it is a table with texts, the routes
+/// without which each address keeps its text.
 #[inline(never)]
 pub fn print_redundant(rt: &HostRuntime, matches: &ArgMatches, writers: &mut Writers<'_>) -> u8
     ensures { result ≤ 2 }
 {
     let name = last_name(matches, FIRST);
-    match last_bytes(rt, matches, name, writers.reports) {
-        Ok(bytes) => {
-            let command = RedundantCommand {
-                alloc: rt.alloc(),
-                list: bytes.as_slice(),
-                grammar: flags_of(matches).grammar(),
-            };
-            run(command, &[name], &mut writers.answer, &mut writers.faults)
+    let bytes = match last_bytes(rt, matches, name, writers.reports) {
+        Ok(bytes) => bytes,
+        Err(status) => return status,
+    };
+    let (alloc, grammar) = (rt.alloc(), flags_of(matches).grammar());
+    let (list, out, faults) = (bytes.as_slice(), &mut writers.answer, &mut writers.faults);
+    if !has_text_flag(matches) {
+        let command = RedundantCommand {
+            alloc,
+            list,
+            grammar,
+        };
+        return run(command, &[name], out, faults);
+    }
+    match table_or_report(alloc, list, grammar, name, faults) {
+        Some(table) => {
+            let command = RedundantRoutesCommand { alloc, table };
+            run_text(command, &[name], out, faults)
         }
-        Err(status) => status,
+        None => 2,
     }
 }
 

@@ -10,13 +10,17 @@ use ipnet::Grammar;
 use ipnet_origins::{Payload, Validity};
 use netset_files::{Writers, bytes_of, whole_of};
 use netset_lib::run_text;
-use netset_origins::{OriginsCommand, OriginsRequest, vrps_or_report};
+use netset_origins::{
+    CountsRequest, OriginCountsCommand, OriginsCommand, OriginsRequest, vrps_or_report,
+};
 
 /// The name of the command.
 pub const ORIGINS: &str = "origins";
 
-/// The names of the options, and the values of the second.
+/// The names of the options, and the values of the last.
 const WHY: &str = "why";
+
+const COUNT: &str = "count";
 
 const ONLY: &str = "only";
 
@@ -36,7 +40,14 @@ pub const ORIGINS_COMMAND: Subcommand = Subcommand {
             Argument {
                 id: WHY,
                 form: Form::Flag(WHY),
-                help: "Print after each route the VRPs that cover it",
+                help: "Print why a route is invalid (length or as), and the VRPs that cover each route",
+                ..ARGUMENT
+            },
+            Argument {
+                id: COUNT,
+                form: Form::Flag(COUNT),
+                help: "Print how many routes have each validity, and with --why each reason, in place of the routes",
+                conflicts: &[ONLY],
                 ..ARGUMENT
             },
             Argument {
@@ -95,7 +106,7 @@ fn read_both(
     if allowed { Ok((vrps, routes)) } else { Err(2) }
 }
 
-/// Reads the arguments and both lists, prints the validity of the routes, and returns the exit status.
+/// Reads the arguments and both lists, prints the validity of the routes or their counts, and returns the exit status.
 #[inline(never)]
 pub fn validate_origins(rt: &HostRuntime, matches: &ArgMatches, writers: &mut Writers<'_>) -> u8
     ensures { result ≤ 2 }
@@ -104,21 +115,33 @@ pub fn validate_origins(rt: &HostRuntime, matches: &ArgMatches, writers: &mut Wr
         Ok(names) => names.in_order(),
         Err(status) => return status,
     };
-    let request = OriginsRequest {
-        grammar: flags_of(matches).grammar(),
-        why: is_set(matches, WHY),
-        only: only_of(matches),
-    };
-    let (vrps, routes) = match read_both(rt, &names, request.grammar, writers) {
+    let (grammar, why) = (flags_of(matches).grammar(), is_set(matches, WHY));
+    let (vrps, routes) = match read_both(rt, &names, grammar, writers) {
         Ok(lists) => lists,
         Err(status) => return status,
     };
+    let (alloc, routes) = (rt.alloc(), routes.as_slice());
+    let (out, faults) = (&mut writers.answer, &mut writers.faults);
+    if is_set(matches, COUNT) {
+        let request = CountsRequest { grammar, why };
+        let command = OriginCountsCommand {
+            alloc,
+            vrps,
+            routes,
+            request,
+        };
+        return run_text(command, &names, out, faults);
+    }
+    let request = OriginsRequest {
+        grammar,
+        why,
+        only: only_of(matches),
+    };
     let command = OriginsCommand {
-        alloc: rt.alloc(),
+        alloc,
         vrps,
-        routes: routes.as_slice(),
+        routes,
         request,
     };
-    let (out, faults) = (&mut writers.answer, &mut writers.faults);
     run_text(command, &names, out, faults)
 }

@@ -3,7 +3,7 @@ use Rattle.std.proofs.Common.{◌≡◌, ◌↔◌, ◌⊎◌, ℕ, ◌+◌, ◌
 use Rattle.std.proofs.Common.{◌≢◌, ◌≤◌, arith, drop, length, length-drop, get_or, Option, Result, Ok, Err, OnOk}
 use Rattle.std.proofs.Common.{refl, sym, ap, ◌∙◌, subst, inl, inr, append_assoc, append-nil, IsPermutation}
 use Rattle.std.proofs.lemmas.List.{drop_more}
-use Rattle.std.proofs.lemmas.List.Sorted.{Contains-permutation, IsPermutation-sym, IsPermutation-trans}
+use Rattle.std.proofs.lemmas.List.Sorted.{IsPermutation-trans}
 use Rattle.ipnet_base.specs.Network.{Network}
 use Rattle.ipnet_sets.proofs.JoinLaws.{any_push}
 use Rattle.ipnet_origins.proofs.ValidityLaws.{one, by_members}
@@ -15,6 +15,7 @@ use Rattle.netset_origins.specs.OriginAnswers.{vrp_part, IsWhyPart, IsWhyText, I
 use Rattle.netset_origins.specs.OriginAnswers.{IsOneInvalid}
 use Rattle.netset_origins.specs.OriginSteps.{AddsRoute, AreAnswersBy}
 use Rattle.netset_origins.specs.RouteLines.{ListRoute}
+use Rattle.netset_origins.proofs.StateLaws.{same_members, state_same}
 use Rattle.netset_origins.specs.declared.answer.OriginAnswers.{OriginAnswers}
 use Rattle.netset_origins.specs.declared.answer.OriginsRequest.{OriginsRequest}
 
@@ -132,14 +133,7 @@ route_added vrps request r old new routes adds h = record {
 
 module _ (vrps others : List Payload) (same : IsPermutation vrps others) where
   members : (vrp : Payload) → Contains others vrp ↔ Contains vrps vrp
-  members vrp = (
-    Contains-permutation others vrps vrp (IsPermutation-sym vrps others same),
-    Contains-permutation vrps others vrp same,
-  )
-
-  validity_same : (r : ListRoute) (v : Validity) → IsValidity others r.network r.origin v
-      → IsValidity vrps r.network r.origin v
-  validity_same r v h = by_members others vrps r.network r.origin v members h
+  members = same_members vrps others same
 
   why_same : (why : Bool) (n : Network) (part : List ℕ) → IsWhyPart others why n part → IsWhyPart vrps why n part
   why_same true n part (covering, is, spelled) = (
@@ -157,9 +151,14 @@ module _ (vrps others : List Payload) (same : IsPermutation vrps others) where
 
   line_same : (request : OriginsRequest) (r : ListRoute) (line : List ℕ) → IsRouteLine others request r line
       → IsRouteLine vrps request r line
-  line_same request r line (v, is, inl (shown, part, why, spelled)) =
-      (v, validity_same r v is, inl (shown, part, why_same request.why r.network part why, spelled))
-  line_same request r line (v, is, inr hidden) = (v, validity_same r v is, inr hidden)
+  line_same request r line (s, is, shown_or_not) = (
+    s,
+    state_same vrps others members request.why r.network r.origin s is,
+    elim shown_or_not [
+      | inl (shown, part, why, spelled) ↦ inl (shown, part, why_same request.why r.network part why, spelled)
+      | inr hidden ↦ inr hidden
+    ],
+  )
 
   lines_same : (request : OriginsRequest) (routes : List ListRoute) (text : List ℕ)
       → AreRouteLines others request routes text → AreRouteLines vrps request routes text
@@ -169,7 +168,7 @@ module _ (vrps others : List Payload) (same : IsPermutation vrps others) where
 
   invalid_same : (routes : List ListRoute) → IsOneInvalid others routes ↔ IsOneInvalid vrps routes
   invalid_same routes = (
-    λ (i, r, l, e, h). (i, r, l, e, validity_same r Invalid h),
+    λ (i, r, l, e, h). (i, r, l, e, by_members others vrps r.network r.origin Invalid members h),
     λ (i, r, l, e, h).
         let back : (vrp : Payload) → Contains vrps vrp ↔ Contains others vrp
         = λ vrp. ((members vrp).1, (members vrp).0) in

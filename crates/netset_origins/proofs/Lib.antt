@@ -2,4 +2,5 @@
 pub mod FieldLaws
 pub mod VrpLaws
 pub mod RouteLaws
+pub mod StateLaws
 pub mod AnswerLaws

@@ -5,6 +5,9 @@ pub mod VrpJson
 pub mod VrpLists
 pub mod RouteLines
 pub mod RouteSteps
+pub mod OriginStates
 pub mod OriginAnswers
 pub mod OriginSteps
+pub mod OriginCounts
+pub mod StateSteps
 pub mod OriginReports

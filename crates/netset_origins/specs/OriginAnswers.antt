@@ -11,17 +11,13 @@ use Rattle.ipnet_lists.specs.declared.content_line.ListFailure.{ListFailure}
 use Rattle.ipnet_lists.specs.declared.content_line.ListFailure.TheVariants as Failures
 use Rattle.ipnet_origins.specs.Origins.{IsValidity, AreCovering}
 use Rattle.ipnet_origins.specs.declared.origins.Validity.{Validity}
-use Rattle.ipnet_origins.specs.declared.origins.Validity.TheVariants.{Valid, Invalid, NotFound}
+use Rattle.ipnet_origins.specs.declared.origins.Validity.TheVariants.{Invalid}
 use Rattle.ipnet_origins.specs.declared.payload.Payload.{Payload}
+use Rattle.netset_origins.specs.OriginStates.{validity_of, state_words, IsState}
 use Rattle.netset_origins.specs.RouteLines.{ListRoute, IsRouteList}
 use Rattle.netset_origins.specs.declared.answer.OriginsRequest.{OriginsRequest}
 use Rattle.netset_origins.specs.declared.route_line.RouteCause.{RouteCause}
-
--- The word of a validity. Example: `not-found`.
-abbrev pub validity_word : Validity → List ℕ
-validity_word Valid = codes "valid"
-validity_word Invalid = codes "invalid"
-validity_word NotFound = codes "not-found"
+use Rattle.netset_origins.specs.declared.state.RouteState.{RouteState}
 
 -- A VRP after a TAB (9): its network, "-" and its greatest prefix length, and its AS number.
 -- Example: `192.0.2.0/24-25 AS64496`.
@@ -37,7 +33,7 @@ IsWhyText last [] part = part ≡ []
 IsWhyText last (vrp ∷ vrps) part = ((vrp_part vrp ≡ last) × IsWhyText last vrps part)
     ⊎ ((vrp_part vrp ≢ last) × (rest : List ℕ) × (part ≡ vrp_part vrp ++ rest) × IsWhyText (vrp_part vrp) vrps rest)
 
--- The text after the validity of a route: if `why`, the VRPs that cover it, each once, the longest networks first, and
+-- The text after the state of a route: if `why`, the VRPs that cover it, each once, the longest networks first, and
 -- VRPs of one network by AS number and greatest length; else nothing.
 -- Example: TAB, `192.0.2.0/24-25 AS64496`, TAB, `192.0.0.0/16-16 AS64497`.
 abbrev pub IsWhyPart : List Payload → Bool → Network → List ℕ → Type 0
@@ -50,14 +46,14 @@ abbrev pub IsShown : Option Validity → Validity → Type 0
 IsShown None v = Unit {0}
 IsShown (Some only) v = only ≡ v
 
--- The line of a route: its text, a TAB (9), the word of its validity, and what follows; or nothing if the route is not
+-- The line of a route: its text, a TAB (9), the words of its state, and what follows; or nothing if the route is not
 -- printed. A line feed (10) ends the line.
--- Example: `192.0.2.0/26 64496`, TAB, `invalid`; and if `why`, then TAB, `192.0.2.0/24-25 AS64496`.
+-- Example: `192.0.2.0/26 64496`, TAB, `invalid`; and if `why`, then TAB, `length`, TAB, `192.0.2.0/24-25 AS64496`.
 abbrev pub IsRouteLine : List Payload → OriginsRequest → ListRoute → List ℕ → Type 0
-IsRouteLine vrps request r line = (v : Validity) × IsValidity vrps r.network r.origin v
-    × ((IsShown request.only v × (part : List ℕ) × IsWhyPart vrps request.why r.network part
-    × (line ≡ r.text ++ 9 ∷ validity_word v ++ part ++ 10 ∷ []))
-    ⊎ ((¬ (IsShown request.only v)) × (line ≡ [])))
+IsRouteLine vrps request r line = (s : RouteState) × IsState vrps request.why r.network r.origin s
+    × ((IsShown request.only (validity_of s) × (part : List ℕ) × IsWhyPart vrps request.why r.network part
+    × (line ≡ r.text ++ 9 ∷ state_words s ++ part ++ 10 ∷ []))
+    ⊎ ((¬ (IsShown request.only (validity_of s))) × (line ≡ [])))
 
 -- The text has the lines of the routes, in order. Example: two lines for two routes, if all routes are printed.
 abbrev pub AreRouteLines : List Payload → OriginsRequest → List ListRoute → List ℕ → Type 0

@@ -6,10 +6,10 @@ use Rattle.ipnet.specs.declared.parser.Grammar.{Grammar}
 use Rattle.ipnet_lists.specs.Lists.{RefusalFor}
 use Rattle.ipnet_lists.specs.RefusedLines.{AreRefused}
 use Rattle.ipnet_origins.specs.Origins.{IsValidity}
-use Rattle.ipnet_origins.specs.declared.origins.Validity.{Validity}
 use Rattle.ipnet_origins.specs.declared.origins.Validity.TheVariants.{Invalid}
 use Rattle.ipnet_origins.specs.declared.payload.Payload.{Payload}
-use Rattle.netset_origins.specs.OriginAnswers.{validity_word, IsWhyPart, IsRouteLine, AreRouteLines, IsOneInvalid}
+use Rattle.netset_origins.specs.OriginAnswers.{IsWhyPart, IsRouteLine, AreRouteLines, IsOneInvalid}
+use Rattle.netset_origins.specs.OriginStates.{state_words}
 use Rattle.netset_origins.specs.RouteLines.{ListRoute, IsRouteList}
 use Rattle.netset_origins.specs.VrpLines.{IsVrpList}
 use Rattle.netset_origins.specs.declared.answer.JudgedRoutes.{JudgedRoutes}
@@ -17,6 +17,7 @@ use Rattle.netset_origins.specs.declared.answer.OriginAnswers.{OriginAnswers}
 use Rattle.netset_origins.specs.declared.answer.OriginsRequest.{OriginsRequest}
 use Rattle.netset_origins.specs.declared.vrp_list.VrpList.{VrpList}
 use Rattle.netset_origins.specs.declared.route_line.RouteCause.{RouteCause}
+use Rattle.netset_origins.specs.declared.state.RouteState.{RouteState}
 use Rattle.netset_origins.specs.declared.vrp_line.VrpCause.{VrpCause}
 
 -- The VRPs and the refused lines of the bytes.
@@ -24,14 +25,14 @@ abbrev pub AreVrpsRead : Grammar → List ℕ → VrpList → Type 0
 AreVrpsRead grammar bytes list = (refusals : List (RefusalFor VrpCause))
     × IsVrpList grammar bytes list.vrps.items refusals × AreRefused list.refused refusals
 
--- The text after the validity of a route is added.
+-- The text after the state of a route is added.
 abbrev pub AddsWhy : List Payload → Bool → Network → (old new : List ℕ) → Type 0
 AddsWhy vrps why n old new = (part : List ℕ) × IsWhyPart vrps why n part × (new ≡ old ++ part)
 
--- A line with this text, this validity and what follows it is added.
-abbrev pub AddsLine : List Payload → Bool → (text : List ℕ) → Network → Validity → (old new : List ℕ) → Type 0
-AddsLine vrps why text n v old new = (part : List ℕ) × IsWhyPart vrps why n part
-    × (new ≡ old ++ text ++ 9 ∷ validity_word v ++ part ++ 10 ∷ [])
+-- A line with this text, this state and what follows it is added.
+abbrev pub AddsLine : List Payload → Bool → (text : List ℕ) → Network → RouteState → (old new : List ℕ) → Type 0
+AddsLine vrps why text n s old new = (part : List ℕ) × IsWhyPart vrps why n part
+    × (new ≡ old ++ text ++ 9 ∷ state_words s ++ part ++ 10 ∷ [])
 
 -- The line of the route is added.
 pub record AddsRoute (vrps : List Payload) (request : OriginsRequest) (r : ListRoute) (old new : OriginAnswers)

@@ -4,9 +4,10 @@ ghost use Rattle.ipnet_origins.specs.declared.origins.Validity.TheVariants.{Inva
 ghost use Rattle.ipnet.specs.NetworkOf.{ip_network};
 ghost use Rattle.ipnet_origins.specs.OriginsOf.{payloads_of};
 ghost use Rattle.ipnet_origins.specs.declared.payload.Payload.{Payload};
-ghost use Rattle.netset_origins.specs.OriginAnswers.{validity_word, vrp_part, IsShown, IsOriginAnswer, IsWhyText};
+ghost use Rattle.netset_origins.specs.OriginAnswers.{vrp_part, IsShown, IsOriginAnswer, IsWhyText};
 ghost use Rattle.netset_origins.specs.OriginAnswers.{IsRoutesFailure};
 ghost use Rattle.netset_origins.specs.OriginSteps.{AreJudged, AddsRoute, AddsWhy, AddsLine};
+ghost use Rattle.netset_origins.specs.OriginStates.{IsState};
 ghost use Rattle.netset_origins.specs.RouteLines.{IsRouteText, IsRouteCause};
 ghost use Rattle.netset_origins.specs.RouteSteps.{route_in};
 ghost use Rattle.ipnet_lists.specs.declared.cause.Cause.TheVariants.{CarriageReturn};
@@ -14,6 +15,7 @@ ghost use Rattle.netset_lib.specs.declared.network_entry.ArgumentCause.TheVarian
 ghost use Rattle.netset_origins.specs.declared.route_line.RouteCause.TheVariants as Routes;
 
 use crate::route_line::{RouteCause, RouteLine, read_route};
+use crate::state::{RouteState, state_of};
 use ipnet::{Grammar, IpNet};
 use ipnet_lists::{Cause, ContentLine, LineHandler, ListFailure, Refusals, read_lines};
 use ipnet_origins::{OriginTable, Payload, Validity};
@@ -26,7 +28,7 @@ use std::alloc::{AllocError, Global};
 pub struct OriginsRequest {
     /// The grammar of the networks of the routes.
     pub grammar: Grammar,
-    /// Whether the VRPs that cover a route follow it.
+    /// Whether the reason of an invalid route follows it, and then the VRPs that cover a route.
     pub why: bool,
     /// The validity of the routes that are printed, or `None` if all are.
     pub only: Option<Validity>,
@@ -39,17 +41,6 @@ pub struct OriginAnswers {
     pub text: Vec<u8>,
     /// Whether a route is invalid.
     pub invalid: bool,
-}
-
-/// The word of the validity.
-fn word_of(validity: Validity) -> &'static [u8]
-    ensures { result.now ≡ validity_word validity }
-{
-    match validity {
-        Validity::Valid => b"valid",
-        Validity::Invalid => b"invalid",
-        Validity::NotFound => b"not-found",
-    }
 }
 
 /// Whether a route of this validity is printed.
@@ -127,22 +118,31 @@ impl Judge {
         push_vrps(self.alloc, text, covering.as_slice())
     }
 
-    /// Appends the line of a route with this text, network and validity. Fails if memory runs out.
+    /// Appends the line of a route with this text, network and state. Fails if memory runs out.
     fn push_line(
         &self,
         out: &mut Vec<u8>,
         text: &[u8],
         network: &IpNet,
-        validity: Validity,
+        state: RouteState,
     ) -> Result<(), AllocError>
         ensures { OnOk result (AddsLine (payloads_of self.now.table) self.now.request.why text.now
-            (ip_network network.now) validity out.old.items out.new.items) }
+            (ip_network network.now) state out.old.items out.new.items) }
     {
         out.extend_from_slice(text)?;
         out.extend_from_slice(b"\t")?;
-        out.extend_from_slice(word_of(validity))?;
+        out.extend_from_slice(state.words())?;
         self.push_why(out, network)?;
         out.extend_from_slice(b"\n")
+    }
+
+    /// Returns the state of the route, with the reason if it is asked for. Fails if memory runs out.
+    fn state_of(&self, route: RouteLine) -> Result<RouteState, AllocError>
+        ensures { IfOk result (IsState (payloads_of self.now.table) self.now.request.why (ip_network route.network)
+            route.origin) }
+    {
+        let why = self.request.why;
+        state_of(self.alloc, &self.table, &route.network, route.origin, why)
     }
 
     /// Appends the line of the route, which is written so. Fails if memory runs out.
@@ -155,10 +155,11 @@ impl Judge {
         ensures { OnOk result (AddsRoute (payloads_of self.now.table) self.now.request (route_in text.now route)
             answers.old answers.new) }
     {
-        let validity = self.table.validity(&route.network, route.origin);
+        let state = self.state_of(route)?;
+        let validity = state.validity();
         answers.invalid = is_invalid(answers.invalid, validity);
         if is_shown(self.request.only, validity) {
-            return self.push_line(&mut answers.text, text, &route.network, validity);
+            return self.push_line(&mut answers.text, text, &route.network, state);
         }
         Ok(())
     }
@@ -227,7 +228,8 @@ fn judge_routes(
 /// A line of the routes has a network, blanks or a comma, and an AS number, or a set of AS numbers in braces. Comments
 /// are as in lists of entries.
 ///
-/// With `why`, each VRP that covers the route follows after a TAB, the longest networks first. With `only`, the other
+/// With `why`, the reason follows an invalid route after a TAB: `length` if a VRP of the route's AS covers it, and else
+/// `as`. Then each VRP that covers the route follows after a TAB, the longest networks first. With `only`, the other
 /// routes are left out.
 ///
 /// The error is `Refused` if lines of the routes are refused, and `Memory` if memory runs out.

@@ -1,8 +1,10 @@
-//! The command `origins` of the program.
+//! The command `origins` of the program, and its counts.
 ghost use Rattle.std.specs.Prelude.{◌≡◌, not, List, ℕ};
 ghost use Rattle.netset_origins.specs.OriginAnswers.{IsOriginAnswer, IsRoutesFailure};
+ghost use Rattle.netset_origins.specs.OriginCounts.{IsCountAnswer};
 
 use crate::answer::{OriginsRequest, origin_answers};
+use crate::counts::{CountsRequest, origin_counts};
 use crate::route_line::RouteCause;
 use ipnet_lists::ListFailure;
 use ipnet_origins::Payload;
@@ -52,5 +54,42 @@ impl<'a> TextCommand for OriginsCommand<'a> {
     fn answer(self) -> Result<(Vec<u8>, bool), ListFailure<RouteCause>> {
         let answers = origin_answers(self.alloc, self.vrps, self.routes, self.request)?;
         Ok((answers.text, !answers.invalid))
+    }
+}
+
+/// How many routes of a list have each state, by these VRPs, as `origin_counts` finds it. The names and the statuses
+/// are as for `OriginsCommand`.
+///
+/// ```text
+/// 192.0.2.0/24 with 24 and AS 64496, and "192.0.2.0/24 64497\n", with `why`: status 1, and out gets
+///     "valid\t0\ninvalid\tlength\t0\ninvalid\tas\t1\nnot-found\t0\n"
+/// ```
+#[derive(Drop)]
+pub struct OriginCountsCommand<'a> {
+    /// The allocator of the lines.
+    pub alloc: Global,
+    /// The VRPs.
+    pub vrps: Vec<Payload>,
+    /// The routes.
+    pub routes: &'a [u8],
+    /// The question.
+    pub request: CountsRequest,
+}
+
+impl<'a> TextCommand for OriginCountsCommand<'a> {
+    type Text = Vec<u8>;
+
+    type Failure = ListFailure<RouteCause>;
+
+    ghost is_answer = { λ c text. (invalid : _) × IsCountAnswer c.request c.vrps.items c.routes.now invalid text };
+
+    ghost is_outcome = { λ c accepted. (invalid : _) × (accepted ≡ not invalid)
+        × ((text : List ℕ) × IsCountAnswer c.request c.vrps.items c.routes.now invalid text) };
+
+    ghost is_failure = { λ c. IsRoutesFailure c.request.grammar c.routes.now };
+
+    fn answer(self) -> Result<(Vec<u8>, bool), ListFailure<RouteCause>> {
+        let counts = origin_counts(self.alloc, self.vrps, self.routes, self.request)?;
+        Ok((counts.text, !counts.invalid))
     }
 }

@@ -2,3 +2,4 @@
 pub mod ShortenLaws
 pub mod AllRouteLaws
 pub mod RefusedLaws
+pub mod RedundantLaws

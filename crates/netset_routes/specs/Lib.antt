@@ -2,3 +2,4 @@
 pub mod Shortening
 pub mod AllRoutes
 pub mod AllRouteSteps
+pub mod Redundant

@@ -59,7 +59,7 @@ pub(crate) fn push_route(text: &mut String, network: &IpNet, value: &str) -> Res
 }
 
 /// The lines of the routes.
-fn routes_text(alloc: Global, routes: &[(IpNet, &str)]) -> Result<String, AllocError>
+pub(crate) fn routes_text(alloc: Global, routes: &[(IpNet, &str)]) -> Result<String, AllocError>
     ensures { IfOk result (λ text. string_bytes text ≡ route_lines (ip_routes routes.now)) }
 {
     let mut text = String::new(alloc);
