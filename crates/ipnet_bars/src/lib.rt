@@ -22,5 +22,5 @@ pub use part::{
     count_in, host_bits_of, last_place, level_in, levels_in, share_of, size_of, subnets_of,
 };
 pub use share::{Level, Share, level_of, rounded_share, share_of_count, tenths_of};
-pub use short::shorten;
+pub use short::{MOST_ENTRIES, shorten};
 pub use summary::{free_in, largest_of, push_count};

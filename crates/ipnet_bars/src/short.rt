@@ -1,8 +1,11 @@
-//! Texts in a picture, which are cut if they are long.
+//! Limits of pictures: long texts are cut, and so are long lists of entries.
 ghost use Rattle.std.specs.Prelude.{IfOk, string_bytes};
 ghost use Rattle.ipnet_bars.specs.ShortTexts.{IsShortened};
 
 use std::alloc::{AllocError, Global};
+
+/// How many entries of each family a map has at most.
+pub const MOST_ENTRIES: usize = 1_500;
 
 /// How many bytes of a text a picture shows at most.
 const MOST_BYTES: usize = 100;

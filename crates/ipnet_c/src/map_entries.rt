@@ -5,12 +5,10 @@ ghost use Rattle.ipnet_sets.specs.Members.{IsMember};
 ghost use Rattle.ipnet_c.specs.Pictures.{IsPlainEntry, AreEntriesIn};
 
 use ipnet::IpNet;
+use ipnet_bars::MOST_ENTRIES;
 use ipnet_sets::IpSet;
 use std::alloc::{AllocError, Global};
 use svg_maps::MapEntry;
-
-/// How many entries a map has at most, as the maps of `netset`.
-const MOST: usize = 1_500;
 
 /// Returns the entry of the network: its title is the text of the network.
 fn entry_of(alloc: Global, network: IpNet) -> Result<MapEntry, AllocError>
@@ -49,7 +47,7 @@ pub(crate) fn entries_in(
 {
     let mut networks = set.within(alloc, frame)?.networks(alloc)?;
     networks.sort_by_key(|network| network.prefix_len())?;
-    networks.truncate(MOST);
+    networks.truncate(MOST_ENTRIES);
     let entries = entries_of(alloc, networks)?;
     Ok(entries)
 }

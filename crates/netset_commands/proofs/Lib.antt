@@ -1,7 +1,6 @@
 pub mod CommandLaws
 -- Lemmas of this crate.
 pub mod MapLaws
-pub mod CommentLaws
 pub mod WordLaws
 pub mod OnceLaws
 pub mod EntryLaws

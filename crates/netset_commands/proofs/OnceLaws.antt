@@ -5,7 +5,7 @@ use Rattle.std.proofs.lemmas.List.{map-append}
 use Rattle.std.specs.List.{dedup, dedup_from}
 use Rattle.ipnet.specs.contracts.net.IpNetPartialEq.TheImpl.{eq-value}
 use Rattle.ipnet.specs.declared.net.IpNet.{IpNet}
-use Rattle.netset_commands.specs.MapTitles.{each_once, ends_with, is_that, networks_of}
+use Rattle.netset_commands.specs.MapEntries.{each_once, ends_with, is_that, networks_of}
 use Rattle.svg_maps.specs.declared.entry.MapEntry.{MapEntry}
 
 -- the networks and this one, unless it is the last of them

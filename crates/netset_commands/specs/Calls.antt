@@ -9,7 +9,7 @@ use Rattle.netset_commands.specs.declared.arguments.ArgumentFailure.TheVariants.
 use Rattle.netset_commands.specs.declared.arguments.ArgumentFailure.TheVariants.{NoCommand, LineBreak, Memory}
 use Rattle.netset_commands.specs.declared.named_lists.TwoNames.{TwoNames}
 use Rattle.netset_files.specs.Files.{standard_input}
-use Rattle.netset_lib.specs.declared.command.Flags.{Flags}
+use Rattle.netset_lib.specs.declared.flags.Flags.{Flags}
 
 -- These are the flags of the command line.
 pub record AreFlags (matches : ArgMatches) (flags : Flags) : Type 0 where

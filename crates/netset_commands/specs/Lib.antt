@@ -6,8 +6,7 @@ pub mod Calls
 pub mod CommandLines
 pub mod EntryOptions
 pub mod FitOptions
-pub mod MapTitles
-pub mod Comments
+pub mod MapEntries
 pub mod Words
 pub mod InfoWords
 pub mod FindOptions

@@ -12,7 +12,7 @@ use Rattle.netset_entries.specs.declared.selection.Selection.{Selection}
 use Rattle.netset_files.specs.ListReads.{Left}
 use Rattle.netset_lib.specs.Commands.{grammar_of, families_of}
 use Rattle.netset_lib.specs.PlanAnswers.{IsLengthText}
-use Rattle.netset_lib.specs.declared.command.Flags.{Flags}
+use Rattle.netset_lib.specs.declared.flags.Flags.{Flags}
 
 -- The value of the option with this id is this prefix length, or there is neither. Example: 24 for `--longer 24`.
 abbrev pub IsLengthGiven : ArgMatches → List ℕ → Option ℕ → Type 0

@@ -6,7 +6,7 @@ use Rattle.netset_commands.specs.Arguments.{IsFlag}
 use Rattle.netset_commands.specs.Calls.{AreFlags}
 use Rattle.netset_commands.specs.SelectOptions.{IsLengthGiven, IsAtMost}
 use Rattle.netset_lib.specs.Commands.{grammar_of}
-use Rattle.netset_lib.specs.declared.command.Flags.{Flags}
+use Rattle.netset_lib.specs.declared.flags.Flags.{Flags}
 use Rattle.netset_words.specs.declared.tally.TallyRequest.{TallyRequest}
 
 -- The prefix length of a family: the value of the option with this id, which is at most the greatest length of the

@@ -24,7 +24,7 @@ use Rattle.netset_lib.specs.NetworkEntries.{IsArgumentCause}
 use Rattle.netset_lib.specs.PlanWords.{IsPlanWord, IsPlanWordCause, IsLengthFor}
 use Rattle.netset_lib.specs.declared.plan_word.PlanWord.{PlanWord}
 use Rattle.netset_lib.specs.declared.plan_word.PlanWordCause.{PlanWordCause}
-use Rattle.netset_lib.specs.declared.command.Flags.{Flags}
+use Rattle.netset_lib.specs.declared.flags.Flags.{Flags}
 use Rattle.netset_lib.specs.declared.network_entry.ArgumentCause.{ArgumentCause}
 use Rattle.ipnet_origins.specs.declared.origins.Validity.{Validity}
 use Rattle.netset_origins.specs.OriginStates.{validity_word}

@@ -4,7 +4,7 @@ ghost use Rattle.ipnet_lists.specs.Reports.{escaped};
 ghost use Rattle.netset_commands.specs.Arguments.{IsFlag, empties_of};
 ghost use Rattle.netset_commands.specs.Calls.{AreFlags};
 ghost use Rattle.netset_lib.specs.Commands.{families_of};
-ghost use Rattle.netset_lib.specs.declared.command.Flags.{Flags};
+ghost use Rattle.netset_lib.specs.declared.flags.Flags.{Flags};
 
 use crate::table::{ARGUMENT, Argument, Form};
 use clap::ArgMatches;

@@ -1,5 +1,5 @@
 //! The commands of the program, in the order in which help lists them.
-ghost use Rattle.std.specs.Prelude.{◌≡◌, ◌++◌, IfOk};
+ghost use Rattle.std.specs.Prelude.{◌≡◌, ◌↔◌, ◌++◌, Some, IfOk};
 ghost use Rattle.clap.specs.Built.{IsParsedFrom};
 ghost use Rattle.clap.specs.declared.builder.command.Command.{Command};
 ghost use Rattle.netset_commands.specs.CommandLines.{all_commands, command_names, count_names, entry_names};

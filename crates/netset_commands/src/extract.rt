@@ -3,7 +3,7 @@ ghost use Rattle.std.specs.Prelude.{◌≡◌, ◌≤◌, codes, IfErr};
 ghost use Rattle.netset_commands.specs.Arguments.{IsFlag};
 ghost use Rattle.netset_commands.specs.Calls.{AreFlags};
 ghost use Rattle.netset_lib.specs.Commands.{grammar_of};
-ghost use Rattle.netset_lib.specs.declared.command.Flags.{Flags};
+ghost use Rattle.netset_lib.specs.declared.flags.Flags.{Flags};
 
 use crate::after::{AFTER_OPTION, after_or_report};
 use crate::arguments::{

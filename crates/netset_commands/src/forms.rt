@@ -9,7 +9,7 @@ use crate::arguments::{RANGES_FLAG, is_set};
 use crate::select::length_of;
 use crate::table::{ARGUMENT, Argument, Form};
 use clap::ArgMatches;
-use netset_forms::{Expectation, FormOptions, FormRequest, GivenLengths, SetNames};
+use netset_forms::{Expectation, FORM_NAMES, FormOptions, FormRequest, GivenLengths, SetNames};
 use std::io::Write;
 
 /// The ids and the names of the options.
@@ -48,17 +48,12 @@ const STATUS: &str = "status";
 
 const EXPECT_NONE: &str = "expect-none";
 
-/// The values of `--format`.
-const FORMATS: &[&str] = &[
-    "plain", "ranges", "json", "csv", "nft", "ipset", "frr", "bird", "iptables",
-];
-
 /// The arguments for the form of an answer that is a set.
 pub const ANSWER_FORM: &[Argument] = &[
     RANGES_FLAG,
     Argument {
         id: FORMAT,
-        form: Form::Choice(FORMAT, "FORM", FORMATS),
+        form: Form::Choice(FORMAT, "FORM", FORM_NAMES),
         help: "How the answer is written; ranges is --ranges",
         conflicts: &[RANGES],
         ..ARGUMENT

@@ -1,28 +1,19 @@
 //! The lists of a map: a reader that notes the largest entries of each list.
-ghost use Rattle.std.specs.Prelude.{◌≡◌, ◌≤◌, ◌↔◌, ◌<◌, ◌++◌, codes, length, string_bytes, IsTrue, IfOk, OnOk};
-ghost use Rattle.netset_commands.specs.Comments.{IsAfterColon, IsComment, ends_in_colon};
-ghost use Rattle.netset_commands.specs.MapTitles.{listed_title, longer_title, longer_count, is_v4, AreFew, AreFirst};
-ghost use Rattle.netset_commands.specs.MapTitles.{each_once, ends_with, networks_of};
+ghost use Rattle.std.specs.Prelude.{◌≡◌, IfOk, OnOk};
+ghost use Rattle.netset_commands.specs.MapEntries.{is_v4, AreFew, AreFirst, IsEntryFor};
+ghost use Rattle.netset_commands.specs.MapEntries.{each_once, ends_with, networks_of};
 
 use ipnet::{Grammar, IpNet};
+use ipnet_bars::MOST_ENTRIES;
 use ipnet_lists::ReadFailure;
 use ipnet_sets::IpSet;
-use netset_entries::{EntryNotes, NotedEntry};
+use netset_entries::{EntryNotes, NotedEntry, map_title, push_title};
 use netset_files::ListReader;
 use netset_lib::SetReader;
 use std::alloc::{AllocError, Global};
 use std::io;
 use std::io::Read;
 use svg_maps::MapEntry;
-
-/// A title to which the text of one more entry is added has fewer bytes before.
-const MOST_BYTES: usize = 300;
-
-/// All titles together have fewer bytes of such texts before one more is added.
-const MOST_ADDED: usize = 50_000;
-
-/// How many entries of each family a map has at most.
-const MOST: usize = 1_500;
 
 /// A reader of lists, and the largest entries of each list.
 #[derive(Drop)]
@@ -115,68 +106,26 @@ pub struct TitledEntries {
     pub count: usize,
 }
 
-/// The text of an entry after the name of its list.
-fn title_after(alloc: Global, name: &str, title: &str) -> Result<String, AllocError>
-    ensures { IfOk result (λ text. string_bytes text ≡ name.now ++ codes ": " ++ title.now) }
-{
-    let mut text = String::from_str(alloc, name)?;
-    text.push_str(": ")?;
-    text.push_str(title)?;
-    Ok(text)
-}
-
-/// The text of an entry of the list at this place; after the name of the list, if there are several.
-fn listed_title(
+/// The entry of a map for what was noted of the list at this place.
+fn entry_for(
     alloc: Global,
     names: &[&str],
     place: usize,
-    title: String,
-) -> Result<String, AllocError>
-    ensures { IfOk result (λ text. string_bytes text ≡ listed_title names.now place (string_bytes title)) }
+    noted: NotedEntry,
+) -> Result<MapEntry, AllocError>
+    ensures { IfOk result (IsEntryFor names.now place noted) }
 {
-    if names.len() <= 1 {
-        return Ok(title);
-    }
-    match names.get(place) {
-        Some(name) => title_after(alloc, name, title.as_str()),
-        None => Ok(title),
-    }
-}
-
-/// Whether the text ends with one colon.
-#[tactic(auto, using(crate::proofs::CommentLaws::after_one, crate::proofs::CommentLaws::after_none))]
-fn ends_in_colon(text: &str) -> bool
-    ensures { result ≡ ends_in_colon text.now }
-{
-    text.ends_with(":") && !text.ends_with("::")
-}
-
-/// The text after the first colon that a blank follows; empty if there is none.
-fn after_colon(text: &str) -> &str
-    ensures { IsAfterColon text.now result.now }
-{
-    match text.split_once(": ") {
-        Some((_, rest)) => rest,
-        None => "",
-    }
-}
-
-/// The comment in the title of an entry, which is its text, or its text and its comment with a colon between them.
-//
-// A range of IPv6 may have a colon before a blank too, as in `2001:db8:: - 2001:db8::9`. The front is then `2001:db8:`.
-fn comment_in(title: &str) -> &str
-    ensures { IsComment title.now result.now }
-{
-    match title.split_once(": ") {
-        Some((front, rest)) => {
-            if ends_in_colon(front) {
-                after_colon(rest)
-            } else {
-                rest
-            }
-        }
-        None => "",
-    }
+    let title = map_title(alloc, &noted, names, place)?;
+    let NotedEntry {
+        network,
+        comment,
+        ..
+    } = noted;
+    Ok(MapEntry {
+        network,
+        title,
+        comment,
+    })
 }
 
 /// The entries of all the lists, the largest first, and entries of one network one after the other. `names` are the
@@ -190,34 +139,13 @@ fn all_entries(
     let mut place: usize = 0;
     for notes in lists {
         for noted in notes.into_entries()? {
-            let NotedEntry { network, title } = noted;
-            let comment = String::from_str(alloc, comment_in(title.as_str()))?;
-            let title = listed_title(alloc, names, place, title)?;
-            entries.push(MapEntry {
-                network,
-                title,
-                comment,
-            })?;
+            entries.push(entry_for(alloc, names, place, noted)?)?;
         }
         place = place.saturating_add(1);
     }
     entries.sort_by_key(|entry| entry.network)?;
     entries.sort_by_key(|entry| entry.network.prefix_len())?;
     Ok(entries)
-}
-
-/// Adds the text of another entry of the network, if neither the title nor all that was added is too long. Returns how
-/// many bytes were added to all titles by then.
-fn push_title(title: &mut String, other: &str, added: usize) -> Result<usize, AllocError>
-    ensures title { OnOk result (string_bytes title.new ≡ longer_title (string_bytes title.old) other.now added) }
-    ensures count { IfOk result (λ count. count ≡ longer_count (string_bytes title.old) other.now added) }
-{
-    if title.len() >= MOST_BYTES || added >= MOST_ADDED {
-        return Ok(added);
-    }
-    title.push_str("; ")?;
-    title.push_str(other)?;
-    Ok(added.saturating_add(other.len()))
 }
 
 /// Whether the last of the entries is of this network.
@@ -277,11 +205,11 @@ fn first_entries(alloc: Global, entries: Vec<MapEntry>) -> Result<Vec<MapEntry>,
     let mut ipv6: usize = 0;
     for entry in entries {
         if is_ipv4(&entry.network) {
-            if ipv4 < MOST {
+            if ipv4 < MOST_ENTRIES {
                 ipv4 += 1;
                 first.push(entry)?;
             }
-        } else if ipv6 < MOST {
+        } else if ipv6 < MOST_ENTRIES {
             ipv6 += 1;
             first.push(entry)?;
         }

@@ -5,6 +5,7 @@ ghost use Rattle.netset_lib.specs.declared.operation.Combination.TheVariants.{Un
 ghost use Rattle.netset_lib.specs.declared.operation.Combination.TheVariants.{SymmetricDifference, Complement};
 
 use crate::arguments::{ArgumentFailure, families_of, report_argument_failure};
+use crate::commands::{COMPLEMENT, DIFFERENCE, INTERSECTION, SYMMETRIC_DIFFERENCE, UNION};
 use crate::entry_options::entries_or_report;
 use crate::except::{EXCEPT, EXCEPT_OPTION};
 use crate::forms::{expectation_of, form_of};
@@ -86,14 +87,14 @@ fn combination_of(name: &str, families: Families, sets: Vec<IpSet>) -> Option<Co
         → result ≡ Some (Complement families set) }
 {
     match name {
-        "union" => Some(Combination::Union(sets)),
-        "intersection" => Some(Combination::Intersection(sets)),
-        "difference" => Some(Combination::Difference(sets)),
-        "symmetric-difference" => {
+        UNION => Some(Combination::Union(sets)),
+        INTERSECTION => Some(Combination::Intersection(sets)),
+        DIFFERENCE => Some(Combination::Difference(sets)),
+        SYMMETRIC_DIFFERENCE => {
             let (first, second) = two_of(sets)?;
             Some(Combination::SymmetricDifference(first, second))
         }
-        "complement" => Some(Combination::Complement(families, only_of(sets)?)),
+        COMPLEMENT => Some(Combination::Complement(families, only_of(sets)?)),
         _ => None,
     }
 }

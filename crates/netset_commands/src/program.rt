@@ -4,7 +4,7 @@ ghost use Rattle.netset_commands.specs.Arguments.{IsFlag};
 ghost use Rattle.netset_commands.specs.Calls.{AreFlags};
 ghost use Rattle.netset_files.specs.Statuses.{IsExitStatus, IsUsualStatus};
 ghost use Rattle.netset_lib.specs.Commands.{side_of};
-ghost use Rattle.netset_lib.specs.declared.command.Flags.{Flags};
+ghost use Rattle.netset_lib.specs.declared.flags.Flags.{Flags};
 ghost use Rattle.netset_lib.specs.declared.query.Query.TheVariants.{Filter};
 
 use crate::apply::{APPLY, apply_changes};

@@ -7,7 +7,7 @@ ghost use Rattle.netset_commands.specs.Calls.{AreFlags};
 ghost use Rattle.netset_commands.specs.EntryOptions.{entry_lines};
 ghost use Rattle.netset_lib.specs.Commands.{grammar_of};
 ghost use Rattle.netset_lib.specs.SetReaders.{WereRead};
-ghost use Rattle.netset_lib.specs.declared.command.Flags.{Flags};
+ghost use Rattle.netset_lib.specs.declared.flags.Flags.{Flags};
 
 use crate::arguments::{ArgumentFailure, flags_of, report_argument_failure};
 use crate::entry_options::entries_or_report;

@@ -12,7 +12,7 @@ use Rattle.ipnet_base.specs.Network.{Network}
 use Rattle.ipnet.specs.NetworkOf.{ip_network}
 use Rattle.ipnet_rules.proofs.VerdictLaws.{any_append}
 use Rattle.ipnet_sets.proofs.JoinLaws.{any_push}
-use Rattle.netset_entries.specs.NotedEntries.{IsNotedAs}
+use Rattle.netset_entries.specs.NotedEntries.{IsNotedAs, Title}
 use Rattle.netset_entries.specs.NoteSteps.{blocks_in, AreFiled}
 use Rattle.netset_entries.specs.declared.largest.NotedEntry.{NotedEntry}
 
@@ -237,7 +237,7 @@ module _ (Is : NotedEntry → Type 0) where
   filed_drop (x ∷ lists) len (suc k) from e h = filed_drop lists (len + 1) k from (omega (arith, e)) h.1
 
   -- a block before the index is in all lists that are the same before it
-  pub any_front : (lists others : List (Vec NotedEntry)) (k : ℕ) (n : Network) (title : List ℕ) → AreFiled Is 0 lists
+  pub any_front : (lists others : List (Vec NotedEntry)) (k : ℕ) (n : Network) (title : Title) → AreFiled Is 0 lists
       → take k others ≡ take k lists → n.prefix_len < k → Any (IsNotedAs n title) (blocks_in lists)
       → Any (IsNotedAs n title) (blocks_in others)
   any_front lists others k n title h same small any =

@@ -2,7 +2,6 @@
 use Rattle.std.proofs.Common.{Bool, true, false}
 use Rattle.std.proofs.Common.{◌≡◌, ◌⊎◌, ℕ, zero, suc, ◌+◌, ◌-◌, ◌<◌, ◌≤◌, List, [], ◌∷◌, ◌++◌, length, get_or, set}
 use Rattle.std.proofs.Common.{take, drop, All, Any, Option, None, Some, refl, sym, ap, ◌∙◌, subst, arith, inl, inr}
-use Rattle.std.proofs.Common.{string_bytes}
 use Rattle.std.specs.Global.{Vec}
 use Rattle.std.specs.Option.{option_to_list, is_some}
 use Rattle.std.proofs.lemmas.Bool.{cases_lt}
@@ -13,7 +12,7 @@ use Rattle.ipnet_base.specs.Network.{Network}
 use Rattle.ipnet.specs.NetworkOf.{ip_network}
 use Rattle.ipnet.specs.declared.net.IpNet.{IpNet}
 use Rattle.ipnet.specs.declared.parser.Grammar.{Grammar}
-use Rattle.netset_entries.specs.NotedEntries.{IsNotedAs, AreLargerFirst}
+use Rattle.netset_entries.specs.NotedEntries.{IsNotedAs, AreLargerFirst, Title, title_of}
 use Rattle.netset_entries.specs.NoteSteps.{blocks_in, AreFiled, AreLargest, AreNone, IsOfFamily, IsHeld}
 use Rattle.netset_entries.specs.NoteSteps.{TakesBlock, DropsOne, DropsSmallest}
 use Rattle.netset_entries.specs.declared.largest.Largest.{Largest}
@@ -52,7 +51,7 @@ largest_each family Is l h =
     (members_filed Is l.by_len.items 0 h.filed)
 
 -- a block that is not among them is not larger than any, and they are 1,500
-pub largest_or_held : (family : Family) (Is : NotedEntry → Type 0) (l : Largest) (n : Network) (title : List ℕ)
+pub largest_or_held : (family : Family) (Is : NotedEntry → Type 0) (l : Largest) (n : Network) (title : Title)
     → AreLargest family Is l → n.prefix_len ≤ width family → IsHeld n title l
     → Any (IsNotedAs n title) (blocks_in l.by_len.items)
     ⊎ ((length (blocks_in l.by_len.items) ≡ 1500)
@@ -141,7 +140,7 @@ push_kept old new block m few = λ grammar frame lines family is h.
       held = λ n title held less.
           more_any (IsNotedAs n title) old new block m (inl (held (omega (arith, less, m.same_end))));
       has = λ less.
-          more_any (IsNotedAs (ip_network block.network) (string_bytes block.title)) old new block m
+          more_any (IsNotedAs (ip_network block.network) (title_of block)) old new block m
           (inr (refl, refl));
     }
 
@@ -189,8 +188,8 @@ push_dropped old now new block drop_one m many = λ grammar frame lines family i
           (inl (held (omega (arith, less, drop_below old now new block family Is m h drops)))));
       has = λ less.
           any_front Is now.by_len.items new.by_len.items new.end (ip_network block.network)
-          (string_bytes block.title) filed drops.larger less
-          (more_any (IsNotedAs (ip_network block.network) (string_bytes block.title)) old now block m
+          (title_of block) filed drops.larger less
+          (more_any (IsNotedAs (ip_network block.network) (title_of block)) old now block m
           (inr (refl, refl)));
     }
 

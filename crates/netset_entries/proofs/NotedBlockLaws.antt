@@ -1,5 +1,5 @@
 -- The blocks of both families, as the lines of lists are read.
-use Rattle.std.proofs.Common.{◌≡◌, ◌≤◌, ◌⊎◌, ℕ, List, [], ◌∷◌, ◌++◌, All, Any, Contains, Option, string_bytes}
+use Rattle.std.proofs.Common.{◌≡◌, ◌≤◌, ◌⊎◌, ℕ, List, [], ◌∷◌, ◌++◌, All, Any, Contains, Option}
 use Rattle.std.proofs.Common.{sym, ap, ◌∙◌, subst, arith, inl, inr, refl}
 use Rattle.std.proofs.lemmas.List.Elements.{All-append, All-weaker}
 use Rattle.std.proofs.lemmas.List.Quantifiers.{Any-push}
@@ -12,7 +12,7 @@ use Rattle.ipnet.specs.declared.parser.Grammar.{Grammar}
 use Rattle.ipnet_rules.proofs.VerdictLaws.{any_append}
 use Rattle.ipnet_sets.proofs.JoinLaws.{any_push}
 use Rattle.netset_entries.specs.NotedEntries.{IsTitledBlock, IsTitledIn, IsNotedOf, HaveLargest, AreNoted, lines_of_all}
-use Rattle.netset_entries.specs.NotedEntries.{AreLargerFirst, MeetsFrame}
+use Rattle.netset_entries.specs.NotedEntries.{AreLargerFirst, MeetsFrame, Title, title_of}
 use Rattle.netset_entries.specs.NoteSteps.{blocks_in, AreLargest, AreNone, IsOfFamily, IsHeld, KeepsHeld, TakesBlock}
 use Rattle.netset_entries.specs.NoteSteps.{AreBlocksOf, AreKept, KeepsBlock, ReadsLine, IsSmallLine}
 use Rattle.netset_entries.specs.NoteSteps.{largest_of}
@@ -51,7 +51,7 @@ nothing_kept grammar frame b same_grammar same_frame ipv4 ipv6 = record {
 
 -- ---- more lines
 
-titled_more : (grammar : Grammar) (frame : Option IpNet) (lines more : List (List ℕ)) (n : Network) (title : List ℕ)
+titled_more : (grammar : Grammar) (frame : Option IpNet) (lines more : List (List ℕ)) (n : Network) (title : Title)
     → IsTitledIn grammar frame lines n title → IsTitledIn grammar frame (lines ++ more) n title
 titled_more grammar frame lines more n title h = record {
   block = (any_append (IsTitledBlock grammar n title) lines more).1 (inl h.block);
@@ -62,7 +62,7 @@ family_more : (grammar : Grammar) (frame : Option IpNet) (lines more : List (Lis
     (e : NotedEntry) → IsOfFamily grammar frame lines family e → IsOfFamily grammar frame (lines ++ more) family e
 family_more grammar frame lines more family e h = record {
   same_family = h.same_family;
-  noted = titled_more grammar frame lines more (ip_network e.network) (string_bytes e.title) h.noted;
+  noted = titled_more grammar frame lines more (ip_network e.network) (title_of e) h.noted;
 }
 
 blocks_more : (grammar : Grammar) (frame : Option IpNet) (lines more : List (List ℕ)) (b : NotedBlocks)
@@ -88,7 +88,7 @@ same_blocks grammar frame lines old new same_grammar same_frame same h = record 
 
 -- a block of the lines is one of those before the last, or of the last
 one_of : (grammar : Grammar) (frame : Option IpNet) (lines : List (List ℕ)) (line : List ℕ) (n : Network)
-    (title : List ℕ) → IsTitledIn grammar frame (lines ++ line ∷ []) n title
+    (title : Title) → IsTitledIn grammar frame (lines ++ line ∷ []) n title
     → IsTitledIn grammar frame lines n title ⊎ IsTitledBlock grammar n title line
 one_of grammar frame lines line n title h =
     elim ((any_push (IsTitledBlock grammar n title) lines line).0 h.block) [
@@ -119,14 +119,14 @@ line_skipped old new line same_grammar same_frame same_ipv4 same_ipv6 small = λ
 
 -- a line without an entry
 pub line_empty : (old : NotedBlocks) (line : List ℕ)
-    → ((n : Network) → (title : List ℕ) → ¬ (IsTitledBlock old.grammar n title line)) → ReadsLine old old line
+    → ((n : Network) → (title : Title) → ¬ (IsTitledBlock old.grammar n title line)) → ReadsLine old old line
 line_empty old line none =
     line_skipped old old line refl refl refl refl (λ n title h. absurd (none n title h))
 
 -- ---- a block
 
 -- a block outside the frame
-pub block_outside : (old new : NotedBlocks) (n : Network) (title : List ℕ) → new.grammar ≡ old.grammar
+pub block_outside : (old new : NotedBlocks) (n : Network) (title : Title) → new.grammar ≡ old.grammar
     → new.frame ≡ old.frame → new.ipv4 ≡ old.ipv4 → new.ipv6 ≡ old.ipv6
     → ¬ (MeetsFrame old.frame n) → KeepsBlock old new n title
 block_outside old new n title same_grammar same_frame same_ipv4 same_ipv6 outside = λ grammar frame lines any h.
@@ -139,7 +139,7 @@ block_outside old new n title same_grammar same_frame same_ipv4 same_ipv6 outsid
     }
 
 -- a block that is too small
-pub block_past : (old new : NotedBlocks) (n : Network) (title : List ℕ) → new.grammar ≡ old.grammar
+pub block_past : (old new : NotedBlocks) (n : Network) (title : Title) → new.grammar ≡ old.grammar
     → new.frame ≡ old.frame → new.ipv4 ≡ old.ipv4 → new.ipv6 ≡ old.ipv6
     → (largest_of n.family new).end ≤ n.prefix_len → KeepsBlock old new n title
 block_past old new n title same_grammar same_frame same_ipv4 same_ipv6 past = λ grammar frame lines any h.
@@ -151,8 +151,8 @@ block_past old new n title same_grammar same_frame same_ipv4 same_ipv6 past = λ
     }
 
 -- the block is of the family and in the frame
-module _ (old new : NotedBlocks) (block : NotedEntry) (title : List ℕ) (same_grammar : new.grammar ≡ old.grammar)
-    (same_frame : new.frame ≡ old.frame) (same_title : string_bytes block.title ≡ title)
+module _ (old new : NotedBlocks) (block : NotedEntry) (title : Title) (same_grammar : new.grammar ≡ old.grammar)
+    (same_frame : new.frame ≡ old.frame) (same_title : title_of block ≡ title)
     (inside : MeetsFrame old.frame (ip_network block.network))
   where
     is_of : (family : Family) → (ip_network block.network).family ≡ family → (grammar : Grammar)
@@ -168,7 +168,7 @@ module _ (old new : NotedBlocks) (block : NotedEntry) (title : List ℕ) (same_g
     }
 
     held_as : (family : Family) → (ip_network block.network).family ≡ family
-        → IsHeld (ip_network block.network) (string_bytes block.title) (largest_of family new)
+        → IsHeld (ip_network block.network) (title_of block) (largest_of family new)
         → IsHeld (ip_network block.network) title (largest_of (ip_network block.network).family new)
     held_as family same_family has =
         subst (λ f. IsHeld (ip_network block.network) title (largest_of f new)) (sym same_family)
@@ -214,7 +214,7 @@ pub record HasReadPart (grammar : Grammar) (frame : Option IpNet) (lines : List 
     (line : List ℕ) (left : List Network) : Type 0 where
   pub blocks : AreBlocksOf grammar frame (lines ++ line ∷ []) now
   pub held : (family : Family) → KeepsHeld (largest_of family old) (largest_of family now)
-  pub all : (n : Network) → (title : List ℕ) → IsTitledBlock grammar n title line
+  pub all : (n : Network) → (title : Title) → IsTitledBlock grammar n title line
       → MeetsFrame frame n → Contains left n ⊎ IsHeld n title (largest_of n.family now)
 
 abbrev pub ReadsPart : NotedBlocks → NotedBlocks → List ℕ → List Network → Type 0
@@ -223,7 +223,7 @@ ReadsPart old now line left = (grammar : Grammar) → (frame : Option IpNet) →
 
 -- all of them are left
 pub part_none : (old : NotedBlocks) (line : List ℕ) (left : List Network)
-    → ((n : Network) → (title : List ℕ) → IsTitledBlock old.grammar n title line → Contains left n)
+    → ((n : Network) → (title : Title) → IsTitledBlock old.grammar n title line → Contains left n)
     → ReadsPart old old line left
 part_none old line left each = λ grammar frame lines h. record {
   blocks = blocks_more grammar frame lines (line ∷ []) old h;
@@ -233,9 +233,9 @@ part_none old line left each = λ grammar frame lines h. record {
 }
 
 -- the next is noted
-pub part_more : (old now new : NotedBlocks) (line title : List ℕ) (n : Network) (left : List Network)
+pub part_more : (old now new : NotedBlocks) (line : List ℕ) (title : Title) (n : Network) (left : List Network)
     → IsTitledBlock old.grammar n title line
-    → ((k : Network) → (other : List ℕ) → IsTitledBlock old.grammar k other line → other ≡ title)
+    → ((k : Network) → (other : Title) → IsTitledBlock old.grammar k other line → other ≡ title)
     → ReadsPart old now line (n ∷ left) → KeepsBlock now new n title → ReadsPart old new line left
 part_more old now new line title n left block one reads keeps = λ grammar frame lines h.
     let part = reads grammar frame lines h in
@@ -251,12 +251,12 @@ part_more old now new line title n left block one reads keeps = λ grammar frame
             | inl is_left ↦ elim (contains_cases n left k is_left) [
               | inr later ↦ inl later
               | inl same ↦
-                  let title_of : other ≡ title =
+                  let same_title : other ≡ title =
                   one k other (subst (λ g. IsTitledBlock g k other line) (sym h.same_grammar) titled) in
                   let here : MeetsFrame frame n =
                   subst (λ z. MeetsFrame frame z) (sym same) inside in
                   inr (subst (λ z. IsHeld z other (largest_of z.family new)) same
-                  (subst (λ z. IsHeld n z (largest_of n.family new)) (sym title_of) (kept.has here)))
+                  (subst (λ z. IsHeld n z (largest_of n.family new)) (sym same_title) (kept.has here)))
             ]
           ];
     }

@@ -10,39 +10,42 @@ use Rattle.ipnet_sets.specs.SetRanges.{IsInRange}
 use Rattle.ipnet_lists.specs.Entries.{IsEntryText}
 use Rattle.ipnet_lists.specs.Lists.{IsContents}
 use Rattle.ipnet_lists.proofs.OneReading.{one_contents, one_entry}
-use Rattle.netset_entries.specs.NotedEntries.{IsCommentOf, IsTitleOf, IsTitledBlock}
+use Rattle.netset_entries.specs.NotedEntries.{IsCommentOf, IsShownComment, IsTitledBlock, Title, title_from}
 use Rattle.netset_entries.specs.NoteSteps.{HasLength, IsSmallLine, largest_of}
 use Rattle.netset_entries.specs.declared.noted.NotedBlocks.{NotedBlocks}
-use Rattle.netset_entries.proofs.TitleLaws.{one_comment, one_title}
+use Rattle.netset_entries.proofs.TitleLaws.{one_comment, one_shown}
+
+same_title : (one other : Title) → one.text ≡ other.text → one.comment ≡ other.comment → one ≡ other
+same_title one other text comment = λ i. record { text = text i; comment = comment i }
 
 -- ---- its blocks
 
 module _ (grammar : Grammar) (line text : List ℕ) (contents : IsContents line text) where
   -- the contents of the line are its entry
-  same_writes : (n : Network) (title : List ℕ) (h : IsTitledBlock grammar n title line)
+  same_writes : (n : Network) (title : Title) (h : IsTitledBlock grammar n title line)
       → IsEntryText grammar text h.range
   same_writes n title h =
-      subst (λ z. IsEntryText grammar z h.range) (one_contents line h.text text h.contents contents) h.writes
+      subst (λ z. IsEntryText grammar z h.range) (one_contents line title.text text h.contents contents) h.writes
 
   -- a line whose contents are not an entry
-  pub none_titled : ((range : AddressRange) → ¬ (IsEntryText grammar text range)) → (n : Network) (title : List ℕ)
+  pub none_titled : ((range : AddressRange) → ¬ (IsEntryText grammar text range)) → (n : Network) (title : Title)
       → ¬ (IsTitledBlock grammar n title line)
   none_titled none n title h = none h.range (same_writes n title h)
 
   pub titled_in : (range : AddressRange) (blocks : List Network) → IsEntryText grammar text range
-      → AreMaximalBlocks (IsInRange range) 0 blocks → (n : Network) (title : List ℕ)
+      → AreMaximalBlocks (IsInRange range) 0 blocks → (n : Network) (title : Title)
       → IsTitledBlock grammar n title line → Contains blocks n
   titled_in range blocks writes are n title h =
       (are.members n).1
       (subst (λ r. IsMaximal (IsInRange r) 0 n) (one_entry grammar text h.range range (same_writes n title h) writes)
       h.block)
 
-  pub titled_as : (comment title : List ℕ) → IsCommentOf line comment → IsTitleOf text comment title
-      → (n : Network) (other : List ℕ) → IsTitledBlock grammar n other line → other ≡ title
-  titled_as comment title has is n other h =
-      one_title text comment other title
-      (subst (λ z. IsTitleOf z comment other) (one_contents line h.text text h.contents contents)
-      (subst (λ z. IsTitleOf h.text z other) (one_comment line h.comment comment h.has_comment has) h.titled)) is
+  pub titled_as : (comment shown : List ℕ) → IsCommentOf line comment → IsShownComment comment shown
+      → (n : Network) (other : Title) → IsTitledBlock grammar n other line → other ≡ title_from text shown
+  titled_as comment shown has is n other h =
+      same_title other (title_from text shown) (one_contents line other.text text h.contents contents)
+      (one_shown comment other.comment shown
+      (subst (λ z. IsShownComment z other.comment) (one_comment line h.comment comment h.has_comment has) h.shown) is)
 
 -- a line with one network that is too small
 pub small_line : (b : NotedBlocks) (line text : List ℕ) (family : Family) (len : ℕ) → IsContents line text

@@ -12,6 +12,7 @@ pub mod Overlaps
 pub mod Sweeps
 pub mod NotedEntries
 pub mod NoteSteps
+pub mod Titles
 pub mod WriteFailures
 pub mod WriteReports
 pub mod Finds

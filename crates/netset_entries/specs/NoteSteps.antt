@@ -1,7 +1,7 @@
 -- Notes of lists that are read in pieces, and the private steps of noting their entries.
 -- Public contracts use only HaveNoted and IsBroken.
 use Rattle.std.specs.Prelude.{◌≡◌, ◌≢◌, ◌⊎◌, ◌<◌, ◌≤◌, ℕ, ◌+◌, ◌-◌, Bool, true, false, List, [], ◌∷◌, ◌++◌, length}
-use Rattle.std.specs.Prelude.{All, Any, Option, ⊤, take, drop, string_bytes, ◌==◌, ◌||◌, cond, nat_lt}
+use Rattle.std.specs.Prelude.{All, Any, Option, ⊤, take, drop, ◌==◌, ◌||◌, cond, nat_lt}
 use Rattle.std.specs.Char.{digit_value}
 use Rattle.std.specs.Global.{Vec}
 use Rattle.std.specs.List.{flat_map}
@@ -17,7 +17,7 @@ use Rattle.ipnet.specs.declared.parser.Grammar.{Grammar}
 use Rattle.ipnet.specs.declared.parser.Grammar.TheVariants.{Strict}
 use Rattle.ipnet_sets.specs.SetRanges.{IsInRange}
 use Rattle.netset_entries.specs.NotedEntries.{IsTitledBlock, IsTitledIn, IsNotedAs, IsNotedOf, MeetsFrame}
-use Rattle.netset_entries.specs.NotedEntries.{list_lines, lines_of_all}
+use Rattle.netset_entries.specs.NotedEntries.{Title, list_lines, lines_of_all, title_of}
 use Rattle.netset_entries.specs.declared.largest.Largest.{Largest}
 use Rattle.netset_entries.specs.declared.largest.NotedEntry.{NotedEntry}
 use Rattle.netset_entries.specs.declared.noted.EntryNotes.{EntryNotes}
@@ -62,19 +62,19 @@ pub record AreNone (lengths : ℕ) (l : Largest) : Type 0 where
   pub end : l.end ≡ lengths
 
 -- The block is kept with its title, unless it is too small.
-abbrev pub IsHeld : Network → List ℕ → Largest → Type 0
+abbrev pub IsHeld : Network → Title → Largest → Type 0
 IsHeld n title l = n.prefix_len < l.end → Any (IsNotedAs n title) (blocks_in l.by_len.items)
 
 -- The blocks that were kept are kept, unless they are too small now.
 abbrev pub KeepsHeld : Largest → Largest → Type 0
-KeepsHeld old new = (n : Network) → (title : List ℕ) → IsHeld n title old → IsHeld n title new
+KeepsHeld old new = (n : Network) → (title : Title) → IsHeld n title old → IsHeld n title new
 
 -- The block was taken, unless it is too small.
 pub record HasTaken (family : Family) (Is : NotedEntry → Type 0) (old new : Largest) (block : NotedEntry) : Type
     0 where
   pub largest : AreLargest family Is new
   pub held : KeepsHeld old new
-  pub has : IsHeld (ip_network block.network) (string_bytes block.title) new
+  pub has : IsHeld (ip_network block.network) (title_of block) new
 
 -- A block of an entry of the lines was taken, unless it is too small.
 abbrev pub TakesBlock : Largest → Largest → NotedEntry → Type 0
@@ -116,18 +116,18 @@ pub record AreBlocksOf (grammar : Grammar) (frame : Option IpNet) (lines : List 
 -- The blocks are noted of these lines, and none is missing, unless it is too small.
 pub record AreKept (grammar : Grammar) (frame : Option IpNet) (lines : List (List ℕ)) (b : NotedBlocks) : Type 0 where
   pub blocks : AreBlocksOf grammar frame lines b
-  pub all : (n : Network) → (title : List ℕ) → IsTitledIn grammar frame lines n title
+  pub all : (n : Network) → (title : Title) → IsTitledIn grammar frame lines n title
       → IsHeld n title (largest_of n.family b)
 
 -- The blocks that were kept are kept, and this block is too, unless it is outside the frame.
 pub record HasKept (grammar : Grammar) (frame : Option IpNet) (lines : List (List ℕ)) (old new : NotedBlocks)
-    (n : Network) (title : List ℕ) : Type 0 where
+    (n : Network) (title : Title) : Type 0 where
   pub blocks : AreBlocksOf grammar frame lines new
   pub held : (family : Family) → KeepsHeld (largest_of family old) (largest_of family new)
   pub has : MeetsFrame frame n → IsHeld n title (largest_of n.family new)
 
 -- A block of an entry of the lines was noted, unless it is too small or outside the frame.
-abbrev pub KeepsBlock : NotedBlocks → NotedBlocks → Network → List ℕ → Type 0
+abbrev pub KeepsBlock : NotedBlocks → NotedBlocks → Network → Title → Type 0
 KeepsBlock old new n title = (grammar : Grammar) → (frame : Option IpNet) → (lines : List (List ℕ))
     → Any (IsTitledBlock grammar n title) lines → AreBlocksOf grammar frame lines old
     → HasKept grammar frame lines old new n title
@@ -139,7 +139,7 @@ ReadsLine old new line = (grammar : Grammar) → (frame : Option IpNet) → (lin
 
 -- All blocks of the entry of the line are too small.
 abbrev pub IsSmallLine : NotedBlocks → List ℕ → Type 0
-IsSmallLine b line = (n : Network) → (title : List ℕ) → IsTitledBlock b.grammar n title line
+IsSmallLine b line = (n : Network) → (title : Title) → IsTitledBlock b.grammar n title line
     → (largest_of n.family b).end ≤ n.prefix_len
 
 -- ---- texts of one network or address

@@ -1,5 +1,5 @@
--- The entries of lists that are noted: their titles, their blocks, and the lines that they are of.
-use Rattle.std.specs.Prelude.{◌≡◌, ◌⊎◌, ◌≤◌, ℕ, ◌+◌, List, [], ◌∷◌, ◌++◌, codes, drop, length, All}
+-- The entries of lists that are noted: their texts and comments, their blocks, and the lines that they are of.
+use Rattle.std.specs.Prelude.{◌≡◌, ◌⊎◌, ◌≤◌, ℕ, ◌+◌, List, [], ◌∷◌, ◌++◌, drop, length, All}
 use Rattle.std.specs.Prelude.{AllPairs, Any, Option, IfSome, string_bytes}
 use Rattle.std.specs.List.{flat_map}
 use Rattle.std.specs.Str.Lossy.{utf8_lossy}
@@ -25,26 +25,34 @@ pub record IsCommentOf (line comment : List ℕ) : Type 0 where
   pub begins : IsCommentAt line start
   pub is : comment ≡ without_blanks (drop (start + 1) line)
 
--- The title of an entry with this text and this comment. Bytes of the comment that are not UTF-8 are replaced by
--- U+FFFD, and then it is cut if it is long.
--- Example: `10.20.168.9/22: dhcp-246` of `10.20.168.9/22` and `dhcp-246`; `10.0.0.1` of `10.0.0.1` and nothing.
-abbrev pub IsTitleOf : List ℕ → List ℕ → List ℕ → Type 0
-IsTitleOf text [] title = title ≡ text
-IsTitleOf text (b ∷ comment) title =
-    (short : List ℕ) × IsShortened (utf8_lossy (b ∷ comment)) short × (title ≡ text ++ codes ": " ++ short)
+-- The comment as a map shows it. Bytes that are not UTF-8 are replaced by U+FFFD, and then it is cut if it is long.
+abbrev pub IsShownComment : List ℕ → List ℕ → Type 0
+IsShownComment comment shown = IsShortened (utf8_lossy comment) shown
+
+-- The words of a map about an entry: its text, and its comment as a map shows it.
+pub record Title : Type 0 where
+  pub text : List ℕ
+  pub comment : List ℕ
+
+-- The title with this text and this comment.
+abbrev pub title_from : List ℕ → List ℕ → Title
+title_from text comment = record { text = text; comment = comment }
+
+-- The title of the note.
+abbrev pub title_of : NotedEntry → Title
+title_of e = title_from (string_bytes e.text) (string_bytes e.comment)
 
 -- The network is a block of the entry of the line, and this is the title of the entry. The blocks of an entry are the
 -- fewest networks with its addresses.
--- Example: 10.0.0.2/32 and `10.0.0.0-10.0.0.2: x`, for the line `10.0.0.0-10.0.0.2 # x`.
-pub record IsTitledBlock (grammar : Grammar) (n : Network) (title line : List ℕ) : Type 0 where
-  pub text : List ℕ
-  pub contents : IsContents line text
+-- Example: 10.0.0.2/32 with `10.0.0.0-10.0.0.2` and `x`, for the line `10.0.0.0-10.0.0.2 # x`.
+pub record IsTitledBlock (grammar : Grammar) (n : Network) (title : Title) (line : List ℕ) : Type 0 where
+  pub contents : IsContents line title.text
   pub range : AddressRange
-  pub writes : IsEntryText grammar text range
+  pub writes : IsEntryText grammar title.text range
   pub block : IsMaximal (IsInRange range) 0 n
   pub comment : List ℕ
   pub has_comment : IsCommentOf line comment
-  pub titled : IsTitleOf text comment title
+  pub shown : IsShownComment comment title.comment
 
 -- The network is in the frame, or the frame is in the network. Without a frame, this is so of each network.
 -- Example: of 10.20.0.0/16: 10.20.3.0/24 and 10.0.0.0/8, and not 10.21.0.0/16.
@@ -54,17 +62,17 @@ MeetsFrame frame n = IfSome frame (λ f. IsSubnetOf n (ip_network f) ⊎ IsSubne
 -- The network is a block of the entry of one of the lines, with the title of this entry. If there is a frame, the block
 -- meets it.
 pub record IsTitledIn (grammar : Grammar) (frame : Option IpNet) (lines : List (List ℕ)) (n : Network)
-    (title : List ℕ) : Type 0 where
+    (title : Title) : Type 0 where
   pub block : Any (IsTitledBlock grammar n title) lines
   pub inside : MeetsFrame frame n
 
 -- The note is of such a block, with its title.
 abbrev pub IsNotedOf : Grammar → Option IpNet → List (List ℕ) → NotedEntry → Type 0
-IsNotedOf grammar frame lines e = IsTitledIn grammar frame lines (ip_network e.network) (string_bytes e.title)
+IsNotedOf grammar frame lines e = IsTitledIn grammar frame lines (ip_network e.network) (title_of e)
 
 -- The note is of this network, with this title.
-abbrev pub IsNotedAs : Network → List ℕ → NotedEntry → Type 0
-IsNotedAs n title e = (ip_network e.network ≡ n) × (string_bytes e.title ≡ title)
+abbrev pub IsNotedAs : Network → Title → NotedEntry → Type 0
+IsNotedAs n title e = (ip_network e.network ≡ n) × (title_of e ≡ title)
 
 -- The lines, the first without a byte order mark at its start.
 abbrev pub without_mark : List (List ℕ) → List (List ℕ)
@@ -87,13 +95,13 @@ pub record AreLargerFirst (family : Family) (entries : List NotedEntry) : Type 0
 
 -- Each such block of this family is noted with its title, or 1,500 blocks are noted that are not smaller.
 abbrev pub HaveLargest : Grammar → Option IpNet → List (List ℕ) → Family → List NotedEntry → Type 0
-HaveLargest grammar frame lines family entries = (n : Network) → (title : List ℕ) → n.family ≡ family
+HaveLargest grammar frame lines family entries = (n : Network) → (title : Title) → n.family ≡ family
     → IsTitledIn grammar frame lines n title → Any (IsNotedAs n title) entries
     ⊎ ((length entries ≡ 1500) × All (λ e. (ip_network e.network).prefix_len ≤ n.prefix_len) entries)
 
 -- These are the notes of these lists: of each family the blocks of all entries, or the largest 1,500. IPv4 comes
 -- first.
--- Example: 10.0.0.0/8 and 10.1.0.0/16 with the titles `10.0.0.0/8: a` and `10.1.0.0/16`, of the one list
+-- Example: 10.0.0.0/8 with `10.0.0.0/8` and `a`, and 10.1.0.0/16 with `10.1.0.0/16` and nothing, of the one list
 -- `"10.1.0.0/16\n10.0.0.0/8 # a\n"`.
 pub record AreNoted (grammar : Grammar) (frame : Option IpNet) (lists : List (List ℕ)) (entries : List NotedEntry) :
     Type 0 where

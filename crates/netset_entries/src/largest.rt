@@ -3,23 +3,23 @@ ghost use Rattle.std.specs.Prelude.{◌≡◌, IfOk, OnOk};
 ghost use Rattle.netset_entries.specs.NoteSteps.{AreNone, TakesBlock, DropsOne, blocks_in};
 
 use ipnet::IpNet;
+use ipnet_bars::MOST_ENTRIES;
 use std::alloc::{AllocError, Global};
 
-/// How many blocks of a family are noted at most.
-const MOST: usize = 1_500;
-
-/// A block of an entry, with its title.
+/// A block of an entry, with the text and the comment of the entry.
 ///
 /// ```text
-/// of the line "10.20.168.9/22 # dhcp-246": 10.20.168.0/22 with "10.20.168.9/22: dhcp-246"
+/// of the line "10.20.168.9/22 # dhcp-246": 10.20.168.0/22, "10.20.168.9/22" and "dhcp-246"
 /// ```
 #[derive(Debug, Drop)]
 pub struct NotedEntry {
     /// The block: an entry is the fewest networks with its addresses.
     pub network: IpNet,
-    /// The entry as written, and its comment, if there is one. If the comment has more than 100 bytes, it is cut at the
-    /// end of a character, and two dots follow.
-    pub title: String,
+    /// The entry as written.
+    pub text: String,
+    /// The comment of the entry, or an empty text. If it has more than 100 bytes, it is cut at the end of a character,
+    /// and two dots follow.
+    pub comment: String,
 }
 
 /// Returns the blocks of the lists, in one list.
@@ -75,7 +75,7 @@ impl Largest {
         }
         self.by_len[len].push(block)?;
         self.kept = self.kept.saturating_add(1);
-        if self.kept > MOST {
+        if self.kept > MOST_ENTRIES {
             self.drop_smallest();
         }
         Ok(())

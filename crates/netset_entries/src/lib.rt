@@ -39,6 +39,7 @@ pub mod shares_program;
 mod span;
 pub mod supernet;
 pub mod supernet_program;
+mod titles;
 
 pub use choice::{EntryChoice, LengthBounds};
 pub use find::{EntryRelation, EntrySearch};
@@ -63,3 +64,4 @@ pub use selection::Selection;
 pub use shares_program::SharesCommand;
 pub use supernet::supernet_text;
 pub use supernet_program::SupernetCommand;
+pub use titles::{map_title, push_title};

@@ -8,7 +8,7 @@ ghost use Rattle.ipnet_lists.specs.EntryOf.{entry_range};
 ghost use Rattle.ipnet.specs.NetworkOf.{ip_network};
 ghost use Rattle.ipnet.specs.declared.net.IpNet.{IpNet};
 ghost use Rattle.ipnet.specs.declared.parser.Grammar.{Grammar};
-ghost use Rattle.netset_entries.specs.NotedEntries.{AreNoted, IsCommentOf, IsTitleOf, MeetsFrame};
+ghost use Rattle.netset_entries.specs.NotedEntries.{AreNoted, IsCommentOf, IsShownComment, MeetsFrame, title_from};
 ghost use Rattle.netset_entries.specs.NoteSteps.{AreKept, IsSmallLine, KeepsBlock, ReadsLine, first_text};
 ghost use Rattle.netset_entries.specs.NoteSteps.{HaveNoted, IsBroken, IsAtEnd, ReadsNext, ReadsBegun, EndsLine};
 ghost use Rattle.netset_entries.specs.NoteSteps.{counted_blocks, family_if, largest_of};
@@ -33,20 +33,13 @@ fn comment_of(line: &[u8]) -> &[u8]
     line[start + 1..].trim_ascii()
 }
 
-/// Returns the title of the entry that is written so. Bytes of the comment that are not UTF-8 are replaced by U+FFFD,
-/// and then the comment is cut if it has more than 100 bytes.
-fn title_of(alloc: Global, text: &str, comment: &[u8]) -> Result<String, AllocError>
-    ensures { IfOk result (λ title. IsTitleOf text.now comment.now (string_bytes title)) }
+/// Returns the comment as a map shows it. Bytes that are not UTF-8 are replaced by U+FFFD, and then it is cut if it has
+/// more than 100 bytes.
+fn shown_comment(alloc: Global, comment: &[u8]) -> Result<String, AllocError>
+    ensures { IfOk result (λ shown. IsShownComment comment.now (string_bytes shown)) }
 {
-    let mut title = String::from_str(alloc, text)?;
-    if comment.is_empty() {
-        return Ok(title);
-    }
-    let comment = String::from_utf8_lossy(alloc, comment)?;
-    let short = shorten(alloc, comment.as_str())?;
-    title.push_str(": ")?;
-    title.push_str(short.as_str())?;
-    Ok(title)
+    let text = String::from_utf8_lossy(alloc, comment)?;
+    shorten(alloc, text.as_str())
 }
 
 /// Whether the network lies in the frame or contains it. Without a frame, each network does.
@@ -129,9 +122,10 @@ impl NotedBlocks {
         }
     }
 
-    /// Notes a block of an entry, if it lies in the network or contains it.
-    fn note_block(&mut self, network: IpNet, title: &str) -> Result<(), AllocError>
-        ensures { OnOk result (KeepsBlock self.old self.new (ip_network network) title.now) }
+    /// Notes a block of an entry with this text and this comment, if it lies in the network or contains it.
+    fn note_block(&mut self, network: IpNet, text: &str, comment: &str) -> Result<(), AllocError>
+        ensures { OnOk result
+            (KeepsBlock self.old self.new (ip_network network) (title_from text.now comment.now)) }
     {
         self.count = self.count.saturating_add(1);
         if self.is_too_small(&network) {
@@ -140,8 +134,13 @@ impl NotedBlocks {
         if !meets_frame(&self.frame, &network) {
             return Ok(());
         }
-        let title = String::from_str(self.alloc, title)?;
-        let block = NotedEntry { network, title };
+        let text = String::from_str(self.alloc, text)?;
+        let comment = String::from_str(self.alloc, comment)?;
+        let block = NotedEntry {
+            network,
+            text,
+            comment,
+        };
         match network {
             IpNet::V4(_) => self.ipv4.push(block),
             IpNet::V6(_) => self.ipv6.push(block),
@@ -165,7 +164,7 @@ impl NotedBlocks {
 
     /// Notes the entry of the line, if it is one.
     //
-    // Most entries of a long list are too small, so a title is made only for others.
+    // Most entries of a long list are too small, so a comment is read only of others.
     fn note_entry(&mut self, line: &[u8]) -> Result<(), AllocError>
         ensures { OnOk result (ReadsLine self.old self.new line.now) }
     {
@@ -177,9 +176,9 @@ impl NotedBlocks {
             self.count = self.count.saturating_add(count);
             return Ok(());
         }
-        let title = title_of(self.alloc, found.text, comment_of(line))?;
+        let comment = shown_comment(self.alloc, comment_of(line))?;
         for network in found.entry.walk() {
-            self.note_block(network, title.as_str())?;
+            self.note_block(network, found.text, comment.as_str())?;
         }
         Ok(())
     }
@@ -284,7 +283,8 @@ impl EntryNotes {
     /// if memory runs out, or if a call before failed.
     ///
     /// ```text
-    /// "10.0.0.0/8 # a\n10.1", and then ".0.0/16\n": 10.0.0.0/8 with "10.0.0.0/8: a", 10.1.0.0/16 with "10.1.0.0/16"
+    /// "10.0.0.0/8 # a\n10.1", and then ".0.0/16\n": 10.0.0.0/8 with "10.0.0.0/8" and "a", 10.1.0.0/16 with
+    /// "10.1.0.0/16" and ""
     /// ```
     pub fn take(&mut self, bytes: &[u8]) -> Result<(), AllocError>
         ensures noted { OnOk result ((grammar : Grammar) → (frame : Option IpNet) → (lists : List (List ℕ))

@@ -1,11 +1,19 @@
--- The values of options: numbers, prefix lengths and names of sets.
+-- The values of options: formats, numbers, prefix lengths and names of sets.
 use Rattle.std.proofs.Common.{◌≡◌, ◌↔◌, ◌∙◌, ℕ, List, sym, subst, Option, Some, None}
 use Rattle.std.specs.Borrow.{Bor}
 use Rattle.std.specs.Option.{IsSomeAnd}
+use Rattle.netset_forms.specs.FormOptions.{form_text}
+use Rattle.netset_forms.specs.declared.options.FormName.{FormName}
 
--- if no number was read, the text is not one
-pub none_read : (P : ℕ → Type 0) (r : Option ℕ) → ((n : ℕ) → (r ≡ Some n) ↔ P n) → r ≡ None → (n : ℕ) → ¬ (P n)
+-- if nothing was read, the text does not say it
+pub none_read : {A : Type 0} (P : A → Type 0) (r : Option A) → ((n : A) → (r ≡ Some n) ↔ P n) → r ≡ None → (n : A)
+    → ¬ (P n)
 none_read P r reads none n h = let clash : None ≡ Some n = sym none ∙ (reads n).1 h in absurd cc
+
+-- a word that names no form
+pub no_form : (word : List ℕ) (r : Option FormName) → ((form : FormName) → (r ≡ Some form) ↔ (word ≡ form_text form))
+    → r ≡ None → (form : FormName) → ¬ (word ≡ form_text form)
+no_form word r reads none = none_read (λ form. word ≡ form_text form) r reads none
 
 -- the value of an option is the number that was read
 pub some_read : (P : List ℕ → ℕ → Type 0) (option : Option (Bor (List ℕ))) (word : Bor (List ℕ)) (r : Option ℕ) (n : ℕ)

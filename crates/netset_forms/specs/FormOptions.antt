@@ -57,10 +57,10 @@ HasSets Bird = Unit {0}
 HasSets Iptables = ⊥
 
 -- The options name this form: by `--format`, or ranges by `--ranges`; without both it is plain.
-pub record IsFormNamed (options : FormOptions) (form : FormName) : Type 0 where
-  pub given : (named : FormName) → option_map (λ word. word.now) options.format ≡ Some (form_text named)
-      → form ≡ named
-  pub absent : options.format ≡ None → form ≡ cond options.ranges Ranges Plain
+abbrev pub IsFormNamed : FormOptions → FormName → Type 0
+IsFormNamed options form =
+    ((word : Bor (List ℕ)) × (options.format ≡ Some word) × (word.now ≡ form_text form))
+    ⊎ ((options.format ≡ None) × (form ≡ cond options.ranges Ranges Plain))
 
 -- A set has a name.
 abbrev pub HasNames : FormOptions → Type 0
@@ -186,6 +186,7 @@ pub record IsRequestOf (options : FormOptions) (request : FormRequest) : Type 0 
 
 -- This is a reason why the options of this form do not go together.
 abbrev pub IsFormFault : FormName → FormOptions → FormFault → Type 0
+IsFormFault form options (Faults.Format word) = ⊥
 IsFormFault form options Faults.Prefix = IsSome options.prefix × ¬ (HasLines form)
 IsFormFault form options Faults.LineBreak =
     IsSomeAnd options.prefix (λ text. list_any is_line_break text.now ≡ true)
@@ -229,8 +230,19 @@ IsFormFault form options Faults.LongIpv4 = IsSomeAnd options.lengths.ipv4 (λ n.
 IsFormFault form options Faults.LongIpv6 = IsSomeAnd options.lengths.ipv6 (λ n. 128 < n)
 IsFormFault form options Faults.OtherDeclaration = (options.declares ≡ true) × (form ≢ Nft)
 
+-- The fault is that `--format` names no form.
+abbrev pub IsUnknownFormat : FormOptions → FormFault → Type 0
+IsUnknownFormat options fault = (word : Bor (List ℕ)) × (fault ≡ Faults.Format word)
+    × (options.format ≡ Some word) × ((form : FormName) → ¬ (word.now ≡ form_text form))
+
+-- This is a reason why the options do not go together.
+abbrev pub IsFaultOf : FormOptions → FormFault → Type 0
+IsFaultOf options fault = IsUnknownFormat options fault
+    ⊎ ((form : FormName) × IsFormNamed options form × IsFormFault form options fault)
+
 -- The value of the option, if the fault is about one.
 abbrev pub fault_value : FormFault → Option (List ℕ)
+fault_value (Faults.Format word) = Some word.now
 fault_value (Faults.Length word) = Some word.now
 fault_value (Faults.NftName word) = Some word.now
 fault_value (Faults.IpsetName word) = Some word.now

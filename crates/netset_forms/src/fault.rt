@@ -5,6 +5,9 @@ ghost use Rattle.netset_forms.specs.FormOptions.{fault_value};
 /// Why the options of a form do not go together.
 #[derive(Clone, Copy, Debug, PartialEq, Eq, Drop, thiserror::Error)]
 pub enum FormFault<'a> {
+    /// The text does not name a form.
+    #[error("not a format")]
+    Format(&'a str),
     /// A text before each line, and the form has no such lines.
     #[error("--prefix is for the formats plain and ranges")]
     Prefix,
@@ -104,6 +107,7 @@ impl<'a> FormFault<'a> {
         ensures { option_map (λ text. text.now) result ≡ fault_value self.entry }
     {
         match self {
+            FormFault::Format(value) => Some(value),
             FormFault::Length(value) => Some(value),
             FormFault::NftName(value) => Some(value),
             FormFault::IpsetName(value) => Some(value),

@@ -25,6 +25,6 @@ pub use names::{
     is_nft_name, is_target_name,
 };
 pub use newly_permitted::{NewlyPermittedCommand, RulePairFailure};
-pub use options::{FormName, FormOptions, GivenLengths};
+pub use options::{FORM_NAMES, FormName, FormOptions, GivenLengths};
 pub use program::{FormCommand, PermittedCommand};
 pub use write::write_form;

@@ -2,7 +2,8 @@
 ghost use Rattle.std.specs.Prelude.{◌≡◌, ◌↔◌, ◌⊎◌, ◌==◌, ℕ, true, Some, IsTrue, IfOk, IfErr, OnOk};
 ghost use Rattle.std.specs.List.{list_any};
 ghost use Rattle.netset_forms.specs.FormOptions.{form_text, HasLines, HasSets, HasNames, IsMaxelem, IsRequestOf};
-ghost use Rattle.netset_forms.specs.FormOptions.{IsFormNamed, IsFormOf, IsMostElements, IsMinLength, IsGoodText};
+ghost use Rattle.netset_forms.specs.FormOptions.{IsFaultOf, IsFormNamed, IsUnknownFormat};
+ghost use Rattle.netset_forms.specs.FormOptions.{IsFormOf, IsMostElements, IsMinLength, IsGoodText};
 ghost use Rattle.netset_forms.specs.FormOptions.{AreGoodSets, IsGoodName, AreGoodBoth, AreRulesOf, IsFormFault};
 ghost use Rattle.netset_forms.specs.FormOptions.{HasOtherFamily, IsForList, is_line_break};
 ghost use Rattle.netset_forms.specs.declared.options.FormName.{FormName};
@@ -82,6 +83,11 @@ pub struct FormOptions<'a> {
     pub ipv6_only: bool,
 }
 
+/// The names of all forms.
+pub const FORM_NAMES: &[&str] = &[
+    "plain", "ranges", "json", "csv", "nft", "ipset", "frr", "bird", "iptables",
+];
+
 impl FormName {
     /// Returns the form of this name, or `None` if there is none.
     ///
@@ -149,13 +155,18 @@ fn read_maxelem(digits: &str) -> Option<u32>
 
 impl<'a> FormOptions<'a> {
     /// The form that the options name: plain, if none does.
-    fn name(self) -> FormName
-        ensures { IsFormNamed self.entry result }
+    #[tactic(auto, using(crate::proofs::OptionLaws::no_form))]
+    fn name(self) -> Result<FormName, FormFault<'a>>
+        ensures good { IfOk result (IsFormNamed self.entry) }
+        ensures fault { IfErr result (IsUnknownFormat self.entry) }
     {
         match self.format {
-            Some(word) => FormName::from_name(word).unwrap_or(FormName::Plain),
-            None if self.ranges => FormName::Ranges,
-            None => FormName::Plain,
+            Some(word) => match FormName::from_name(word) {
+                Some(form) => Ok(form),
+                None => Err(FormFault::Format(word)),
+            },
+            None if self.ranges => Ok(FormName::Ranges),
+            None => Ok(FormName::Plain),
         }
     }
 
@@ -403,16 +414,16 @@ impl<'a> FormOptions<'a> {
     /// ```text
     /// no option:                        Networks("", ""), of any prefix length, of both families
     /// --format json --min-length 24:    Json, of prefix lengths from 24
+    /// --format yaml:                    Err(Format("yaml"))
     /// --format json --prefix x:         Err(Prefix)
     /// --format iptables --chain x:      Err(NoChain)
     /// --format nft -4 --ipv6-set x:     Err(OtherFamily)
     /// ```
     pub fn request(self) -> Result<FormRequest<'a>, FormFault<'a>>
         ensures request { IfOk result (IsRequestOf self.entry) }
-        ensures fault { IfErr result (λ fault. (form : FormName) × IsFormNamed self.entry form
-            × IsFormFault form self.entry fault) }
+        ensures fault { IfErr result (IsFaultOf self.entry) }
     {
-        let name = self.name();
+        let name = self.name()?;
         let most = self.most_elements(name)?;
         self.check_prefix(name)?;
         self.check_suffix(name)?;

@@ -1,6 +1,6 @@
 -- the entries that were kept are the first of each family of those that came
 use Rattle.std.proofs.Common.{not}
-use Rattle.netset_commands.specs.MapTitles.{is_v4}
+use Rattle.netset_commands.specs.MapEntries.{is_v4}
 use Rattle.netset_commands.proofs.MapLaws.{HaveTaken}
 use Rattle.netset_commands.proofs.noted.first_entries.Given as goal
 

@@ -1,7 +1,7 @@
 use Rattle.std.proofs.Common.{◌≡◌, ◌∙◌, sym, ap, length, true, false}
 use Rattle.std.proofs.lemmas.List.{length-map, with_items_is}
 use Rattle.std.specs.Vec.{with_items}
-use Rattle.netset_commands.specs.MapTitles.{ends_with, networks_of}
+use Rattle.netset_commands.specs.MapEntries.{ends_with, networks_of}
 use Rattle.netset_commands.proofs.OnceLaws.{entry_again, entry_kept}
 use Rattle.netset_commands.proofs.noted.join_titles.Goals as goal
 use Rattle.svg_maps.specs.declared.entry.MapEntry.{MapEntry}

@@ -2,8 +2,8 @@ use Rattle.std.proofs.Common.{refl, arith}
 use Rattle.netset_entries.proofs.NoteLaws.{push_kept, push_dropped, push_none}
 use Rattle.netset_entries.proofs.largest.Largest.push.Goals as goal
 
-pub returns-then-self-gt-MOST : goal.returns-then-self-gt-MOST
-returns-then-self-gt-MOST c =
+pub returns-then-self-gt-MOST_ENTRIES : goal.returns-then-self-gt-MOST_ENTRIES
+returns-then-self-gt-MOST_ENTRIES c =
     push_dropped c.args.self.now _ c.drop_smallest.new.self c.args.block c.drop_smallest.ensures record {
       index = c.from-len.result;
       list = c.index_mut.result.now;
@@ -18,8 +18,8 @@ returns-then-self-gt-MOST c =
       same_end = refl;
     } (omega arith)
 
-pub returns-else-self-gt-MOST : goal.returns-else-self-gt-MOST
-returns-else-self-gt-MOST c = push_kept c.args.self.now _ c.args.block record {
+pub returns-else-self-gt-MOST_ENTRIES : goal.returns-else-self-gt-MOST_ENTRIES
+returns-else-self-gt-MOST_ENTRIES c = push_kept c.args.self.now _ c.args.block record {
   index = c.from-len.result;
   list = c.index_mut.result.now;
   longer = c.push.new.self;

@@ -1,11 +1,13 @@
-use Rattle.std.proofs.Common.{rules, ◌∙◌, Contains, refl, sym, subst, string_bytes}
+use Rattle.std.proofs.Common.{rules, ◌∙◌, ap, Contains, refl, sym, subst, string_bytes}
 use Rattle.ipnet_base.specs.Blocks.{AreMaximalBlocks}
 use Rattle.ipnet_base.proofs.ListLaws.{contains_here, contains_there}
 use Rattle.ipnet.specs.NetworkOf.{ip_network}
 use Rattle.ipnet.specs.SubnetsLeft.{ip_subnets_left}
 use Rattle.ipnet_sets.specs.SetRanges.{IsInRange}
 use Rattle.ipnet_lists.specs.EntryOf.{entry_range}
-use Rattle.netset_entries.specs.NotedEntries.{IsTitledBlock, IsTitleOf}
+use Rattle.ipnet_lists.specs.Entries.{IsEntryText}
+use Rattle.ipnet_lists.specs.Lists.{IsContents}
+use Rattle.netset_entries.specs.NotedEntries.{IsTitledBlock, title_from}
 use Rattle.netset_entries.proofs.NotedBlockLaws.{ReadsPart, line_empty, line_skipped, part_none, part_more, part_all}
 use Rattle.netset_entries.proofs.TitledBlocks.{none_titled, small_entry, titled_in, titled_as}
 use Rattle.netset_entries.proofs.noted.NotedBlocks.note_entry.Goals as goal
@@ -30,29 +32,25 @@ pub loop-network-init : goal.loop-network-init
 loop-network-init c =
     let old = c.args.self.now in
     let line = c.args.line.now in
-    let text = c.contents_of-text.result.now in
+    let text = c.in-Some.found.text.now in
     let range = entry_range c.in-Some.found.entry in
-    let comment = c.comment_of.result.now in
-    let blocks = ip_subnets_left c.into_iter-network-iterator.result in
+    let same = sym c.in-Some.ensures.spelled in
+    let contents = subst (IsContents line) same c.contents_of-text.ensures in
+    let writes = subst (λ z. IsEntryText old.grammar z range) same c.in-Some.ensures.reads.some in
     let are = subst (λ w. AreMaximalBlocks (IsInRange range) 0 (ip_subnets_left w))
     (sym c.into_iter-network-iterator.ensures.into_iter_gives) c.walk-network-items.ensures in
-    let titled = subst (λ z. IsTitleOf z comment (string_bytes c.in_ok-title.title)) c.in-Some.ensures.spelled
-    c.in_ok-title.ensures in
     record {
       left = λ n m. record {
-        text = text;
-        contents = c.contents_of-text.ensures;
+        contents = contents;
         range = range;
-        writes = c.in-Some.ensures.reads.some;
+        writes = writes;
         block = (are.members n).0 m;
-        comment = comment;
+        comment = c.comment_of.result.now;
         has_comment = c.comment_of.ensures;
-        titled = titled;
+        shown = c.in_ok-comment.ensures;
       };
-      one = titled_as old.grammar line text c.contents_of-text.ensures comment (string_bytes c.in_ok-title.title)
-          c.comment_of.ensures titled;
-      reads = part_none old line blocks
-          (titled_in old.grammar line text c.contents_of-text.ensures range blocks c.in-Some.ensures.reads.some are);
+      one = titled_as old.grammar line text contents _ _ c.comment_of.ensures c.in_ok-comment.ensures;
+      reads = part_none old line _ (titled_in old.grammar line text contents range _ writes are);
     }
 
 pub loop-network-preserved : goal.loop-network-preserved
@@ -63,11 +61,12 @@ loop-network-preserved c =
     let before = c.loop-network.invariant in
     let after = ip_subnets_left c.next.new.self in
     let steps = sym c.in-Some-network.ensures.steps in
-    let title = sym c.as_str.ensures.value in
+    let text = c.in-Some.found.text.now in
+    let title = ap (title_from text) (sym c.as_str.ensures.value) in
     record {
       left = λ k m. before.left k (subst (λ z. Contains z k) steps (contains_there n after k m));
       one = before.one;
-      reads = part_more old c.loop-network.self c.note_block.new.self line c.as_str.result.now n after
+      reads = part_more old c.loop-network.self c.note_block.new.self line (title_from text c.as_str.result.now) n after
           (subst (λ z. IsTitledBlock old.grammar n z line) title
           (before.left n (subst (λ z. Contains z n) steps (contains_here n after))))
           (λ k other h. before.one k other h ∙ title)
