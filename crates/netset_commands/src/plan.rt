@@ -269,7 +269,7 @@ fn run_plan(
     let out = &mut writers.answer;
     let faults = &mut writers.faults;
     let Some(family) = plan_family(families, &set) else {
-        return end_with(&PlanFailure::Family, &names, faults).status;
+        return end_with(&PlanFailure::Family, &names, faults);
     };
     let words = asked.words.as_slice();
     let lengths = match lengths_of(rt, family, words) {

@@ -132,7 +132,7 @@ pub fn filter_lines(rt: &HostRuntime, matches: &ArgMatches, writers: &mut Writer
 /// Ends a run that printed the lines of the log of this name and has this status, and returns the exit status. If the
 /// log begins like UTF-16, that is reported, and the status is 2, since the entries of such a text are not found. The
 /// report is whole, unless a write to `faults` has failed.
-fn end_log<X: Write>(is_utf16: bool, log: &str, status: u8, faults: &mut Watched<'_, X>) -> u8
+pub fn end_log<X: Write>(is_utf16: bool, log: &str, status: u8, faults: &mut Watched<'_, X>) -> u8
     ensures exact { result ≡ cond is_utf16 2 status }
     ensures status { status ≤ 2 → result ≤ 2 }
     ensures reported { IsTrue is_utf16 → ¬ (HasFailed faults.new)

@@ -1,12 +1,14 @@
 //! The entries of many lists, and the report of their refused lines.
-ghost use Rattle.std.specs.Prelude.{◌≡◌, OnOk, IfOk};
+ghost use Rattle.std.specs.Prelude.{◌≡◌, OnOk, IfOk, IsErr};
 ghost use Rattle.ipnet_text.specs.Outputs.{IsWritten, IsFrontWritten};
+ghost use Rattle.ipnet_text.specs.Watched.{writer_of, HasFailed};
 ghost use Rattle.netset_entries.specs.ManyLists.{AreListsBegun, AreListsReported, AreReadLists};
 ghost use Rattle.netset_entries.specs.ManySteps as steps;
 
 use crate::entry_list::{EntryList, entry_list};
 use ipnet::Grammar;
 use ipnet_lists::report_refused;
+use ipnet_text::Watched;
 use netset_lib::runs::Report;
 use std::alloc::{AllocError, Global};
 use std::io;
@@ -44,11 +46,12 @@ pub(crate) fn are_refused(lists: &[EntryList<'_>]) -> bool
 
 /// Reports the refused lines of the lists, one list after the other. If a write fails, a front of the report has been
 /// written.
-fn report_lists<X: Write>(faults: &mut X, names: &[&str], lists: &[EntryList<'_>]) -> io::Result<()>
+fn report_lists<X: Write>(faults: &mut Watched<'_, X>, names: &[&str], lists: &[EntryList<'_>]) -> io::Result<()>
     ensures whole { OnOk result (IsWritten (AreListsReported names.now lists.now)
-        (X.contents faults.old) (X.contents faults.new)) }
+        (X.contents (writer_of faults.old)) (X.contents (writer_of faults.new))) }
     ensures front { IsFrontWritten (AreListsBegun names.now lists.now)
-        (X.contents faults.old) (X.contents faults.new) }
+        (X.contents (writer_of faults.old)) (X.contents (writer_of faults.new)) }
+    ensures failed { IsErr result → HasFailed faults.new }
 {
     for index in 0..lists.len() {
         report_refused(faults, names, index, &lists[index].refused)?;
@@ -73,7 +76,7 @@ impl<'a> Report for RefusedLists<'a> {
         2
     }
 
-    fn report<X: Write>(&self, names: &[&str], faults: &mut X) -> io::Result<()> {
+    fn report<X: Write>(&self, names: &[&str], faults: &mut Watched<'_, X>) -> io::Result<()> {
         report_lists(faults, names, self.lists.as_slice())
     }
 }

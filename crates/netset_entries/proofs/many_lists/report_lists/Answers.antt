@@ -2,6 +2,7 @@
 use Rattle.std.proofs.Common.{◌≡◌, ◌+◌, ◌-◌, length, refl, sym, subst, arith}
 use Rattle.ipnet_lists.specs.Reports.{ExplainsEntry, IsReport, IsReportBegun}
 use Rattle.ipnet_text.specs.Outputs.{IsWritten}
+use Rattle.ipnet_text.specs.Watched.{writer_of}
 use Rattle.netset_entries.specs.ManyLists.{IsReportAt}
 use Rattle.netset_entries.specs.TextParts.{AreTextParts}
 use Rattle.netset_entries.proofs.ManyListLaws.{nothing_at, reports_begun}
@@ -12,7 +13,7 @@ use Rattle.netset_entries.proofs.many_lists.report_lists.Goals as goal
 pub loop-index-init : goal.loop-index-init
 loop-index-init g c =
     none_written (IsReportAt (IsReport ExplainsEntry) c.args.names.now c.args.lists.now) 0 0
-    (g.X.Write.contents c.args.faults.now) refl
+    (g.X.Write.contents (writer_of c.args.faults.now)) refl
 
 pub loop-index-preserved : goal.loop-index-preserved
 loop-index-preserved g c =
@@ -20,10 +21,10 @@ loop-index-preserved g c =
     let index = c.loop-index.index in
     let list = c.index-lists-index.result in
     part_written (IsReportAt (IsReport ExplainsEntry) c.args.names.now c.args.lists.now) 0 index index (index + 1)
-    (held c.args.faults.now) (held c.loop-index.faults) (held c.report_refused.new.faults) c.loop-index.invariant
+    (held (writer_of c.args.faults.now)) (held (writer_of c.loop-index.faults)) (held (writer_of c.report_refused.new.faults)) c.loop-index.invariant
     (omega arith) refl
     (whole_weaker (λ text of. (list, (c.loop-index-test.true, sym c.index-lists-index.is), of))
-    (held c.loop-index.faults) (held c.report_refused.new.faults) c.in_ok-report_refused.ensures.whole)
+    (held (writer_of c.loop-index.faults)) (held (writer_of c.report_refused.new.faults)) c.in_ok-report_refused.ensures.whole)
 
 pub returns-in_err-report_refused-clause-front : goal.returns-in_err-report_refused-clause-front
 returns-in_err-report_refused-clause-front g c =
@@ -34,11 +35,11 @@ returns-in_err-report_refused-clause-front g c =
     let list = c.index-lists-index.result in
     let less = c.loop-index-test.true in
     part_front (IsReportAt (IsReportBegun ExplainsEntry) names lists) 0 index index (length lists - (index + 1))
-    (length lists) (held c.args.faults.now) (held c.loop-index.faults) (held c.report_refused.new.faults)
-    (reports_begun names lists 0 index (held c.args.faults.now) (held c.loop-index.faults) c.loop-index.invariant)
+    (length lists) (held (writer_of c.args.faults.now)) (held (writer_of c.loop-index.faults)) (held (writer_of c.report_refused.new.faults))
+    (reports_begun names lists 0 index (held (writer_of c.args.faults.now)) (held (writer_of c.loop-index.faults)) c.loop-index.invariant)
     (omega arith) (omega (arith, less))
-    (front_weaker (λ text of. (list, (less, sym c.index-lists-index.is), of)) (held c.loop-index.faults)
-    (held c.report_refused.new.faults) c.in_err-report_refused.ensures.front)
+    (front_weaker (λ text of. (list, (less, sym c.index-lists-index.is), of)) (held (writer_of c.loop-index.faults))
+    (held (writer_of c.report_refused.new.faults)) c.in_err-report_refused.ensures.front)
     (λ k from below. nothing_at names lists list k (omega (arith, below, less)))
 
 pub returns-clause-whole : goal.returns-clause-whole
@@ -47,5 +48,5 @@ returns-clause-whole g c =
     let Is = IsReportAt (IsReport ExplainsEntry) c.args.names.now c.args.lists.now in
     let size : c.loop-index.index ≡ length c.args.lists.now
     = omega (arith, c.loop-index-test.false, c.loop-index.auto.index-end) in
-    subst (λ n. IsWritten (AreTextParts Is 0 n) (held c.args.faults.now) (held c.loop-index.faults)) size
+    subst (λ n. IsWritten (AreTextParts Is 0 n) (held (writer_of c.args.faults.now)) (held (writer_of c.loop-index.faults))) size
     c.loop-index.invariant
