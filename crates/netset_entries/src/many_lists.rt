@@ -46,7 +46,11 @@ pub(crate) fn are_refused(lists: &[EntryList<'_>]) -> bool
 
 /// Reports the refused lines of the lists, one list after the other. If a write fails, a front of the report has been
 /// written.
-fn report_lists<X: Write>(faults: &mut Watched<'_, X>, names: &[&str], lists: &[EntryList<'_>]) -> io::Result<()>
+fn report_lists<X: Write>(
+    faults: &mut Watched<'_, X>,
+    names: &[&str],
+    lists: &[EntryList<'_>],
+) -> io::Result<()>
     ensures whole { OnOk result (IsWritten (AreListsReported names.now lists.now)
         (X.contents (writer_of faults.old)) (X.contents (writer_of faults.new))) }
     ensures front { IsFrontWritten (AreListsBegun names.now lists.now)
