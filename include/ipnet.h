@@ -40,10 +40,10 @@
 extern "C" {
 #endif
 
-/* The version of this header, 1.0.0: a million for each major version, a thousand for each minor version, and one for
+/* The version of this header, 1.1.0: a million for each major version, a thousand for each minor version, and one for
  * each patch. Programs that were compiled with this header run with each library of the same major version that is not
  * older. docs/C.md says what raises which number. */
-#define IPNET_VERSION 1000000
+#define IPNET_VERSION 1001000
 
 /* The version of the library, in the form of IPNET_VERSION. */
 uint32_t ipnet_version(void);

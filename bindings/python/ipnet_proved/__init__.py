@@ -54,7 +54,7 @@ __all__ = [
     "NotANetwork", "Addresses", "ArrowText", "BadRow", "parse_all", "text_all", "truncate_all", "info", "NoPlace",
 ]
 
-__version__ = "1.0.0"
+__version__ = "1.1.0"
 
 BadLine.__module__ = NotANetwork.__module__ = NotASet.__module__ = IpSet.__module__ = __name__
 RouteTable.__module__ = NotATable.__module__ = ValueTable.__module__ = __name__

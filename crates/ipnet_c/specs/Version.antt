@@ -7,7 +7,7 @@ major = 1
 
 -- New calls raise it.
 abbrev pub minor : ℕ
-minor = 0
+minor = 1
 
 -- Repairs raise it.
 abbrev pub patch : ℕ

@@ -6,11 +6,11 @@ ghost use Rattle.ipnet_c.specs.Version.{version_number};
 /// version, and one for each patch. It is `IPNET_VERSION` of the header that belongs to the library.
 ///
 /// ```text
-/// 1000000    version 1.0.0
+/// 1001000    version 1.1.0
 /// ```
 #[unsafe(no_mangle)]
 pub extern "C" fn ipnet_version() -> u32
     ensures { result ≡ version_number }
 {
-    1_000_000
+    1_001_000
 }

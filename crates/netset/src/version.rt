@@ -2,4 +2,4 @@
 //! the name there: it is written into the linked program, and all other bytes stay as they are.
 
 /// The version, and the commit that a release was made of.
-pub const VERSION: &str = "1.0.0 (not-released)";
+pub const VERSION: &str = "1.1.0-preview (not-released)";
