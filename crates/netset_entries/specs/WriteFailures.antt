@@ -1,5 +1,5 @@
--- Why an answer about the entries of lists was not written, or only a part of it. When memory runs out, and when a write
--- fails, is not specified.
+-- Why an answer about the entries of lists was not written, or only a part of it. When memory runs out, and when a
+-- write fails, is not specified.
 use Rattle.std.specs.Prelude.{◌≡◌, ◌≢◌, ◌⊎◌, ℕ, List, [], Option, Some, None}
 use Rattle.std.specs.Borrow.{Bor}
 use Rattle.ipnet.specs.declared.parser.Grammar.{Grammar}

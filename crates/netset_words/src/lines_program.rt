@@ -106,8 +106,8 @@ fn read_log<'a, R: Read, W: Write, X: Write>(
         (W.contents out.old) (W.contents out.new)) }
     ensures appended { (text : List ℕ)
         × Appends (X.contents (writer_of faults.old)) (X.contents (writer_of faults.new)) text }
-    ensures told { IfOk result (λ f. ¬ (HasFailed faults.new) → AreToldSince ExplainsWord names.now filter.entry.undecided
-        f.undecided (X.contents (writer_of faults.old)) (X.contents (writer_of faults.new))) }
+    ensures told { IfOk result (λ f. ¬ (HasFailed faults.new) → AreToldSince ExplainsWord names.now
+        filter.entry.undecided f.undecided (X.contents (writer_of faults.old)) (X.contents (writer_of faults.new))) }
     ensures quiet { IfOk result (λ f. (how : LinesRequest) → (set : IpSet) → IsLogUpTo how set [] 0 [] filter.entry
         → f.undecided.count ≡ 0 → Keeps (X.contents (writer_of faults.old)) (X.contents (writer_of faults.new))) }
 {

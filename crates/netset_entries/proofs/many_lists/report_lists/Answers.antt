@@ -17,36 +17,41 @@ loop-index-init g c =
 
 pub loop-index-preserved : goal.loop-index-preserved
 loop-index-preserved g c =
-    let held = g.X.Write.contents in
+    let start = g.X.Write.contents (writer_of c.args.faults.now) in
+    let now = g.X.Write.contents (writer_of c.loop-index.faults) in
+    let after = g.X.Write.contents (writer_of c.report_refused.new.faults) in
     let index = c.loop-index.index in
     let list = c.index-lists-index.result in
     part_written (IsReportAt (IsReport ExplainsEntry) c.args.names.now c.args.lists.now) 0 index index (index + 1)
-    (held (writer_of c.args.faults.now)) (held (writer_of c.loop-index.faults)) (held (writer_of c.report_refused.new.faults)) c.loop-index.invariant
+    start now after c.loop-index.invariant
     (omega arith) refl
     (whole_weaker (λ text of. (list, (c.loop-index-test.true, sym c.index-lists-index.is), of))
-    (held (writer_of c.loop-index.faults)) (held (writer_of c.report_refused.new.faults)) c.in_ok-report_refused.ensures.whole)
+    now after c.in_ok-report_refused.ensures.whole)
 
 pub returns-in_err-report_refused-clause-front : goal.returns-in_err-report_refused-clause-front
 returns-in_err-report_refused-clause-front g c =
-    let held = g.X.Write.contents in
+    let start = g.X.Write.contents (writer_of c.args.faults.now) in
+    let now = g.X.Write.contents (writer_of c.loop-index.faults) in
+    let after = g.X.Write.contents (writer_of c.report_refused.new.faults) in
     let names = c.args.names.now in
     let lists = c.args.lists.now in
     let index = c.loop-index.index in
     let list = c.index-lists-index.result in
     let less = c.loop-index-test.true in
     part_front (IsReportAt (IsReportBegun ExplainsEntry) names lists) 0 index index (length lists - (index + 1))
-    (length lists) (held (writer_of c.args.faults.now)) (held (writer_of c.loop-index.faults)) (held (writer_of c.report_refused.new.faults))
-    (reports_begun names lists 0 index (held (writer_of c.args.faults.now)) (held (writer_of c.loop-index.faults)) c.loop-index.invariant)
+    (length lists) start now after
+    (reports_begun names lists 0 index start now c.loop-index.invariant)
     (omega arith) (omega (arith, less))
-    (front_weaker (λ text of. (list, (less, sym c.index-lists-index.is), of)) (held (writer_of c.loop-index.faults))
-    (held (writer_of c.report_refused.new.faults)) c.in_err-report_refused.ensures.front)
+    (front_weaker (λ text of. (list, (less, sym c.index-lists-index.is), of)) now
+    after c.in_err-report_refused.ensures.front)
     (λ k from below. nothing_at names lists list k (omega (arith, below, less)))
 
 pub returns-clause-whole : goal.returns-clause-whole
 returns-clause-whole g c =
-    let held = g.X.Write.contents in
+    let start = g.X.Write.contents (writer_of c.args.faults.now) in
+    let now = g.X.Write.contents (writer_of c.loop-index.faults) in
     let Is = IsReportAt (IsReport ExplainsEntry) c.args.names.now c.args.lists.now in
     let size : c.loop-index.index ≡ length c.args.lists.now
     = omega (arith, c.loop-index-test.false, c.loop-index.auto.index-end) in
-    subst (λ n. IsWritten (AreTextParts Is 0 n) (held (writer_of c.args.faults.now)) (held (writer_of c.loop-index.faults))) size
+    subst (λ n. IsWritten (AreTextParts Is 0 n) start now) size
     c.loop-index.invariant
