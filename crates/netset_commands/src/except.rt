@@ -1,4 +1,4 @@
-//! The option `--except`, and the run of a filter by a list without others.
+//! The option `--except` of filters and operations, and the run of a filter by a list without others.
 ghost use Rattle.std.specs.Prelude.{◌≡◌, ◌≤◌, ◌<◌, ◌↔◌, length, codes, IsTrue, IfOk, IfErr};
 ghost use Rattle.netset_commands.specs.Arguments.{values_of};
 ghost use Rattle.netset_commands.specs.Without.{IsFilterWithout};
@@ -27,6 +27,12 @@ pub const EXCEPT_OPTION: Argument = Argument {
     form: Form::Values(EXCEPT, "FILE"),
     help: "A list whose addresses are taken out of SET; any number of times",
     ..ARGUMENT
+};
+
+/// The option for lists that are taken out of the result.
+pub const EXCEPT_LISTS: Argument = Argument {
+    help: "A list whose addresses are taken out of the result; any number of times",
+    ..EXCEPT_OPTION
 };
 
 /// Whether lists are taken out of SET.

@@ -9,7 +9,7 @@ use crate::entry_list::{EntryList, entry_list};
 use ipnet::Grammar;
 use ipnet_lists::report_refused;
 use ipnet_text::Watched;
-use netset_lib::runs::Report;
+use netset_lib::reports::Report;
 use std::alloc::{AllocError, Global};
 use std::io;
 use std::io::Write;
@@ -46,7 +46,11 @@ pub(crate) fn are_refused(lists: &[EntryList<'_>]) -> bool
 
 /// Reports the refused lines of the lists, one list after the other. If a write fails, a front of the report has been
 /// written.
-fn report_lists<X: Write>(faults: &mut Watched<'_, X>, names: &[&str], lists: &[EntryList<'_>]) -> io::Result<()>
+fn report_lists<X: Write>(
+    faults: &mut Watched<'_, X>,
+    names: &[&str],
+    lists: &[EntryList<'_>],
+) -> io::Result<()>
     ensures whole { OnOk result (IsWritten (AreListsReported names.now lists.now)
         (X.contents (writer_of faults.old)) (X.contents (writer_of faults.new))) }
     ensures front { IsFrontWritten (AreListsBegun names.now lists.now)

@@ -9,7 +9,7 @@ ghost use Rattle.svg_maps.specs.Pages.{cell_pixels, FitsPage};
 
 use crate::form::MapForm;
 use crate::label::{Ink, Label, Swatch, label_at};
-use crate::legend::{EDGE, LINE, legend_of};
+use crate::legend::{EDGE, legend_of};
 use crate::lines::lines_of;
 use crate::ring::Rings;
 use crate::sheet::{Sheet, row_after, sheet_of, sides_of};
