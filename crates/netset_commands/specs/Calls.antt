@@ -1,5 +1,5 @@
 -- The flags of a command line, the names of its lists, and the operation that it asks for.
-use Rattle.std.specs.Prelude.{◌≡◌, ◌<◌, ◌++◌, length, map, codes}
+use Rattle.std.specs.Prelude.{◌≡◌, ◌<◌, ◌∷◌, ◌++◌, [], length, map, codes}
 use Rattle.clap.specs.declared.parser.matches.ArgMatches.{ArgMatches}
 use Rattle.ipnet_lists.specs.Names.{Names}
 use Rattle.netset_commands.specs.Arguments.{AreListNames, IsFlag, IsLastName, entries_of, input_count, list_name}
@@ -7,7 +7,6 @@ use Rattle.netset_commands.specs.Arguments.{values_of}
 use Rattle.netset_commands.specs.declared.arguments.ArgumentFailure.{ArgumentFailure}
 use Rattle.netset_commands.specs.declared.arguments.ArgumentFailure.TheVariants.{InputTwice, ControlCharacter}
 use Rattle.netset_commands.specs.declared.arguments.ArgumentFailure.TheVariants.{NoCommand, LineBreak, Memory}
-use Rattle.netset_commands.specs.declared.named_lists.TwoNames.{TwoNames}
 use Rattle.netset_files.specs.Files.{standard_input}
 use Rattle.netset_lib.specs.declared.flags.Flags.{Flags}
 
@@ -21,9 +20,12 @@ pub record AreFlags (matches : ArgMatches) (flags : Flags) : Type 0 where
 
 -- These are the names of the first list of a command line, and of the other.
 -- Example: `a` and `b` of `changes a b`, and `a` and `-e` of `changes a -e ::1`.
-pub record AreTwoNames (matches : ArgMatches) (names : TwoNames) : Type 0 where
-  pub first : names.first.now ≡ list_name matches (codes "first")
-  pub other : IsLastName matches (codes "others") names.other.now
+abbrev pub AreTwoNames : ArgMatches → Names → Type 0
+AreTwoNames matches [] = ⊥
+AreTwoNames matches (first ∷ []) = ⊥
+AreTwoNames matches (first ∷ other ∷ []) = (first.now ≡ list_name matches (codes "first"))
+    × IsLastName matches (codes "others") other.now
+AreTwoNames matches (first ∷ other ∷ name ∷ names) = ⊥
 
 -- Both lists of a command with two lists are standard input. Example: `changes -` and `changes - -`.
 abbrev pub AreBothInput : ArgMatches → Type 0

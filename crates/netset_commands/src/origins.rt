@@ -112,7 +112,7 @@ pub fn validate_origins(rt: &HostRuntime, matches: &ArgMatches, writers: &mut Wr
     ensures { result ≤ 2 }
 {
     let names = match two_or_report(rt, matches) {
-        Ok(names) => names.in_order(),
+        Ok(names) => names,
         Err(status) => return status,
     };
     let (grammar, why) = (flags_of(matches).grammar(), is_set(matches, WHY));

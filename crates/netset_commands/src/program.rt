@@ -337,7 +337,7 @@ fn run_query(rt: &HostRuntime, query: Query, matches: &ArgMatches, writers: &mut
     ensures { result ≤ 2 }
 {
     let names = match two_or_report(rt, matches) {
-        Ok(names) => names.in_order(),
+        Ok(names) => names,
         Err(status) => return status,
     };
     let lists = match set_reader(rt, matches) {
