@@ -1,7 +1,9 @@
 //! The command `apply`: its arguments, and its run.
 ghost use Rattle.std.specs.Prelude.{◌≡◌, ◌≤◌, IfErr};
 
-use crate::arguments::{FIRST_LIST, OTHERS, RANGES_FLAG, SHARED, SKIP_BAD_FLAG, flags_of};
+use crate::arguments::{
+    FIRST_LIST, OTHERS, RANGES, RANGES_FLAG, SHARED, SKIP_BAD_FLAG, grammar_of, is_set,
+};
 use crate::named_lists::two_or_report;
 use crate::reading::{finish_lists, set_reader};
 use crate::table::{ARGUMENT, Argument, Form, Subcommand};
@@ -79,13 +81,12 @@ pub fn apply_changes(rt: &HostRuntime, matches: &ArgMatches, writers: &mut Write
     };
     match read_both(rt, matches, &names, writers) {
         Ok((set, changes)) => {
-            let flags = flags_of(matches);
             let command = ApplyCommand {
                 alloc: rt.alloc(),
                 set,
                 changes: changes.as_slice(),
-                grammar: flags.grammar(),
-                form: flags.form(),
+                grammar: grammar_of(matches),
+                form: form(is_set(matches, RANGES)),
             };
             let (out, faults) = (&mut writers.answer, &mut writers.faults);
             run_text(command, &names, out, faults)

@@ -8,8 +8,8 @@ ghost use Rattle.netset_commands.specs.CommandLines.{rule_names, search_names, s
 
 use crate::apply::APPLY_COMMAND;
 use crate::arguments::{
-    ANY_LISTS, FIRST_LIST, NO_EMPTY, ONE_LIST, OTHER_LIST, OTHERS, OUTPUT, SHARED, SKIP_BAD_FLAG,
-    SKIPPING,
+    ANY_LISTS, FIRST_LIST, NO_EMPTY, ONE_LIST, OTHER_LIST, OTHERS, OUTPUT, OUTSIDE, SHARED,
+    SKIP_BAD_FLAG, SKIPPING, STREAM,
 };
 use crate::bar::BAR_COMMAND;
 use crate::changes::CHANGES_COMMAND;
@@ -55,9 +55,6 @@ pub const COMPARE: &str = "compare";
 pub const FILTER: &str = "filter";
 
 pub const ROUTE: &str = "route";
-
-/// The name of the flag by which the answers are written while the list is read.
-pub const STREAM: &str = "stream";
 
 /// Two lists or more.
 const TWO_LISTS_AND_MORE: &[Argument] = &[
@@ -116,8 +113,8 @@ const FILTER_ARGUMENTS: &[Argument] = &[
         ..SKIP_BAD_FLAG
     },
     Argument {
-        id: "outside",
-        form: Form::Flag("outside"),
+        id: OUTSIDE,
+        form: Form::Flag(OUTSIDE),
         help: "Choose by entries that lie entirely outside SET instead",
         ..ARGUMENT
     },

@@ -8,7 +8,7 @@ ghost use Rattle.svg_maps.specs.declared.style.Theme.{Theme};
 ghost use Rattle.svg_maps.specs.declared.style.Theme.TheVariants.{Auto};
 
 use crate::arguments::{
-    ANY_LISTS, ArgumentFailure, SHARED, flags_of, is_set, report_argument_failure,
+    ANY_LISTS, ArgumentFailure, SHARED, grammar_of, is_set, report_argument_failure,
 };
 use crate::bar::{COMPARE, FRAME, are_compared, frame_of};
 use crate::entry_options::{ENTRY_OPTION, entries_or_report};
@@ -149,7 +149,7 @@ fn noted_lists(
     let reader = NotedReader {
         sets: set_reader(rt, matches)?,
         alloc: rt.alloc(),
-        grammar: flags_of(matches).grammar(),
+        grammar: grammar_of(matches),
         frame,
         notes: Vec::new(rt.alloc()),
     };
@@ -357,7 +357,7 @@ fn draw_named(
     ensures { result ≤ 2 }
 {
     let file = matches.get_str(NAMES).unwrap_or(STANDARD_INPUT);
-    let grammar = flags_of(matches).grammar();
+    let grammar = grammar_of(matches);
     match table_or_report(rt.alloc(), bytes, grammar, file, &mut writers.faults) {
         Some(table) => draw_table(rt, matches, frame, &table, writers),
         None => 2,

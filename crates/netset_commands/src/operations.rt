@@ -41,7 +41,7 @@ fn read_operands(
     let entries = entries_or_report(rt, matches)?;
     let (lists, sets) = lists.read_all(rt, first, entries)?;
     let others = matches.get_strs(EXCEPT).unwrap_or(&[]);
-    let (lists, excepts) = lists.read_all(rt, others, None)?;
+    let (lists, excepts) = lists.read_files(rt, others)?;
     finish_lists(lists, names, writers)?;
     Ok(Operands { sets, excepts })
 }

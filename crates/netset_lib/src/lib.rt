@@ -68,7 +68,7 @@ pub use counts::push_counts;
 pub use counts_program::{CompareCommand, CountCommand};
 pub use failure::Failure;
 pub use filter::Side;
-pub use flags::{Flags, families};
+pub use flags::{families, form, grammar, side};
 pub use length::{read_length, read_number};
 pub use listing_program::{run_hosts, run_split};
 pub use network_entry::{ArgumentCause, NetworkCause, read_network_argument};
