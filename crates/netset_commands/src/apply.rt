@@ -10,7 +10,7 @@ use crate::table::{ARGUMENT, Argument, Form, Subcommand};
 use clap::ArgMatches;
 use ipnet_sets::IpSet;
 use netset_files::{Empties, Lists, Reports, Writers, bytes_of, whole_of};
-use netset_lib::{ApplyCommand, run_text};
+use netset_lib::{ApplyCommand, form, run_text};
 
 /// The name of the command.
 pub const APPLY: &str = "apply";

@@ -186,17 +186,15 @@ fn with_entries<'a>(request: MapRequest<'a>, entries: &'a TitledEntries) -> MapR
     ensures titled { result.look.entries.titled.now ≡ entries.now.entries.items }
     ensures count { result.look.entries.count ≡ entries.now.count }
 {
-    let MapRequest { frame, look } = request;
-    let look = Look {
-        theme: look.theme,
-        shows_free: look.shows_free,
-        names: look.names,
-        entries: MapEntries {
-            titled: entries.entries.as_slice(),
-            count: entries.count,
-        },
+    let entries = MapEntries {
+        titled: entries.entries.as_slice(),
+        count: entries.count,
     };
-    MapRequest { frame, look }
+    let look = Look {
+        entries,
+        ..request.look
+    };
+    MapRequest { look, ..request }
 }
 
 /// Reads the list of this name, prints its map, and returns the exit status.
