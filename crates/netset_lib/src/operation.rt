@@ -15,7 +15,7 @@ use std::alloc::{AllocError, Global};
 /// The families of a complement, of a plan, of a selection or of an answer.
 #[derive(Clone, Copy, Debug, PartialEq, Eq)]
 pub enum Families {
-    /// No family is chosen: those of the list's addresses.
+    /// No family is chosen: the list's addresses name them.
     Named,
     /// Only IPv4.
     Ipv4,
