@@ -1,29 +1,39 @@
 -- The flags of a command line, the names of its lists, and the operation that it asks for.
-use Rattle.std.specs.Prelude.{◌≡◌, ◌<◌, ◌++◌, length, map, codes}
+use Rattle.std.specs.Prelude.{◌≡◌, ◌<◌, ◌∷◌, ◌++◌, Bool, [], length, map, codes}
 use Rattle.clap.specs.declared.parser.matches.ArgMatches.{ArgMatches}
+use Rattle.ipnet.specs.declared.parser.Grammar.{Grammar}
 use Rattle.ipnet_lists.specs.Names.{Names}
 use Rattle.netset_commands.specs.Arguments.{AreListNames, IsFlag, IsLastName, entries_of, input_count, list_name}
 use Rattle.netset_commands.specs.Arguments.{values_of}
 use Rattle.netset_commands.specs.declared.arguments.ArgumentFailure.{ArgumentFailure}
 use Rattle.netset_commands.specs.declared.arguments.ArgumentFailure.TheVariants.{InputTwice, ControlCharacter}
 use Rattle.netset_commands.specs.declared.arguments.ArgumentFailure.TheVariants.{NoCommand, LineBreak, Memory}
-use Rattle.netset_commands.specs.declared.named_lists.TwoNames.{TwoNames}
 use Rattle.netset_files.specs.Files.{standard_input}
-use Rattle.netset_lib.specs.declared.flags.Flags.{Flags}
+use Rattle.netset_lib.specs.Commands.{families_of, grammar_of, side_of}
+use Rattle.netset_lib.specs.declared.filter.Side.{Side}
+use Rattle.netset_lib.specs.declared.operation.Families.{Families}
 
--- These are the flags of the command line.
-pub record AreFlags (matches : ArgMatches) (flags : Flags) : Type 0 where
-  pub legacy : IsFlag matches (codes "legacy") flags.legacy
-  pub ranges : IsFlag matches (codes "ranges") flags.ranges
-  pub ipv4 : IsFlag matches (codes "ipv4") flags.ipv4
-  pub ipv6 : IsFlag matches (codes "ipv6") flags.ipv6
-  pub outside : IsFlag matches (codes "outside") flags.outside
+-- The grammar of entries that the flag `--legacy` chooses.
+abbrev pub IsGrammar : ArgMatches → Grammar → Type 0
+IsGrammar matches grammar = (legacy : Bool) × IsFlag matches (codes "legacy") legacy × (grammar ≡ grammar_of legacy)
+
+-- The side of a filter that the flag `--outside` chooses.
+abbrev pub IsSide : ArgMatches → Side → Type 0
+IsSide matches side = (outside : Bool) × IsFlag matches (codes "outside") outside × (side ≡ side_of outside)
+
+-- The families that the flags `--ipv4` and `--ipv6` choose.
+abbrev pub AreFamilies : ArgMatches → Families → Type 0
+AreFamilies matches families = (ipv4 : Bool) × (ipv6 : Bool) × IsFlag matches (codes "ipv4") ipv4
+    × IsFlag matches (codes "ipv6") ipv6 × (families ≡ families_of ipv4 ipv6)
 
 -- These are the names of the first list of a command line, and of the other.
 -- Example: `a` and `b` of `changes a b`, and `a` and `-e` of `changes a -e ::1`.
-pub record AreTwoNames (matches : ArgMatches) (names : TwoNames) : Type 0 where
-  pub first : names.first.now ≡ list_name matches (codes "first")
-  pub other : IsLastName matches (codes "others") names.other.now
+abbrev pub AreTwoNames : ArgMatches → Names → Type 0
+AreTwoNames matches [] = ⊥
+AreTwoNames matches (first ∷ []) = ⊥
+AreTwoNames matches (first ∷ other ∷ []) = (first.now ≡ list_name matches (codes "first"))
+    × IsLastName matches (codes "others") other.now
+AreTwoNames matches (first ∷ other ∷ name ∷ names) = ⊥
 
 -- Both lists of a command with two lists are standard input. Example: `changes -` and `changes - -`.
 abbrev pub AreBothInput : ArgMatches → Type 0

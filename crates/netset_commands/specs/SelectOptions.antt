@@ -4,15 +4,13 @@ use Rattle.clap.specs.declared.parser.matches.ArgMatches.{ArgMatches}
 use Rattle.clap.specs.Matches.{found_of, first_value}
 use Rattle.ipnet_text.specs.Inputs.{GaveWhole}
 use Rattle.netset_commands.specs.Arguments.{IsFlag}
-use Rattle.netset_commands.specs.Calls.{AreFlags}
+use Rattle.netset_commands.specs.Calls.{AreFamilies, IsGrammar}
 use Rattle.netset_entries.specs.declared.choice.LengthBounds.{LengthBounds}
 use Rattle.netset_entries.specs.SelectSteps.{WereSelected, IsNoted, has_entry}
 use Rattle.netset_entries.specs.declared.selected.SelectRequest.{SelectRequest}
 use Rattle.netset_entries.specs.declared.selection.Selection.{Selection}
 use Rattle.netset_files.specs.ListReads.{Left}
-use Rattle.netset_lib.specs.Commands.{grammar_of, families_of}
 use Rattle.netset_lib.specs.PlanAnswers.{IsLengthText}
-use Rattle.netset_lib.specs.declared.flags.Flags.{Flags}
 
 -- The value of the option with this id is this prefix length, or there is neither. Example: 24 for `--longer 24`.
 abbrev pub IsLengthGiven : ArgMatches → List ℕ → Option ℕ → Type 0
@@ -48,10 +46,8 @@ pub record AreBoundsGiven (matches : ArgMatches) (longer_id shorter_id : List �
 -- Example: `select -4 --longer 24` asks for IPv4 and the lengths 24 to 128, and `select --ipv6-shorter 48` for all IPv4
 -- entries and the IPv6 entries of the lengths 0 to 48.
 pub record IsSelectRequest (matches : ArgMatches) (request : SelectRequest) : Type 0 where
-  pub flags : Flags
-  pub set : AreFlags matches flags
-  pub grammar : request.grammar ≡ grammar_of flags.legacy
-  pub families : request.choice.families ≡ families_of flags.ipv4 flags.ipv6
+  pub grammar : IsGrammar matches request.grammar
+  pub families : AreFamilies matches request.choice.families
   pub lengths : AreBoundsGiven matches (codes "longer") (codes "shorter") 128 request.choice.lengths
   pub ipv4_lengths : AreBoundsGiven matches (codes "ipv4-longer") (codes "ipv4-shorter") 32
       request.choice.ipv4_lengths

@@ -3,10 +3,8 @@ use Rattle.std.specs.Prelude.{◌≡◌, ℕ, List, Option, codes, unwrap_or}
 use Rattle.clap.specs.declared.parser.matches.ArgMatches.{ArgMatches}
 use Rattle.netset_commands.specs.AfterTexts.{IsAfterText}
 use Rattle.netset_commands.specs.Arguments.{IsFlag}
-use Rattle.netset_commands.specs.Calls.{AreFlags}
+use Rattle.netset_commands.specs.Calls.{IsGrammar}
 use Rattle.netset_commands.specs.SelectOptions.{IsLengthGiven, IsAtMost}
-use Rattle.netset_lib.specs.Commands.{grammar_of}
-use Rattle.netset_lib.specs.declared.flags.Flags.{Flags}
 use Rattle.netset_words.specs.declared.tally.TallyRequest.{TallyRequest}
 
 -- The prefix length of a family: the value of the option with this id, which is at most the greatest length of the
@@ -21,9 +19,7 @@ pub record IsFamilyLength (matches : ArgMatches) (id : List ℕ) (greatest lengt
 -- Example: `tally --ipv4 24 --after DST=` cuts IPv4 networks to the length 24, IPv6 networks to 128, and reads what
 -- follows `DST=`.
 pub record IsTallyRequest (matches : ArgMatches) (request : TallyRequest) : Type 0 where
-  pub flags : Flags
-  pub set : AreFlags matches flags
-  pub grammar : request.grammar ≡ grammar_of flags.legacy
+  pub grammar : IsGrammar matches request.grammar
   pub mapped : IsFlag matches (codes "mapped") request.mapped
   pub after : IsAfterText matches request.after.now
   pub ipv4 : IsFamilyLength matches (codes "ipv4-length") 32 request.ipv4

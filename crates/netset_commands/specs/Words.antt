@@ -12,19 +12,17 @@ use Rattle.ipnet_bars.specs.declared.frame.Frame.{Frame}
 use Rattle.ipnet_bars.specs.declared.frame.Frame.TheVariants.{Named, Ipv6, FirstFamily}
 use Rattle.ipnet_lists.specs.Entries.{IsNetworkOrMasked}
 use Rattle.netset_commands.specs.Arguments.{IsFlag, input_count}
-use Rattle.netset_commands.specs.Calls.{AreFlags}
+use Rattle.netset_commands.specs.Calls.{IsGrammar}
 use Rattle.netset_commands.specs.SelectOptions.{IsLengthGiven}
 use Rattle.netset_forms.specs.declared.expected.Expectation.{Expectation}
 use Rattle.netset_forms.specs.declared.expected.Expectation.TheVariants.{Anything, SomeAddress, NoAddress}
 use Rattle.netset_forms.specs.declared.options.FormOptions.{FormOptions}
 use Rattle.netset_forms.specs.declared.options.GivenLengths.{GivenLengths}
-use Rattle.netset_lib.specs.Commands.{grammar_of}
 use Rattle.ipnet_lists.specs.Names.{Names}
 use Rattle.netset_lib.specs.NetworkEntries.{IsArgumentCause}
 use Rattle.netset_lib.specs.PlanWords.{IsPlanWord, IsPlanWordCause, IsLengthFor}
 use Rattle.netset_lib.specs.declared.plan_word.PlanWord.{PlanWord}
 use Rattle.netset_lib.specs.declared.plan_word.PlanWordCause.{PlanWordCause}
-use Rattle.netset_lib.specs.declared.flags.Flags.{Flags}
 use Rattle.netset_lib.specs.declared.network_entry.ArgumentCause.{ArgumentCause}
 use Rattle.ipnet_origins.specs.declared.origins.Validity.{Validity}
 use Rattle.netset_origins.specs.OriginStates.{validity_word}
@@ -38,7 +36,7 @@ word_of matches id = unwrap_or (first_value (found_of matches) id) []
 -- The word is this network, in the grammar that the flag `--legacy` chooses.
 abbrev pub IsNetworkWord : ArgMatches → List ℕ → IpNet → Type 0
 IsNetworkWord matches word n =
-    (flags : Flags) × AreFlags matches flags × IsNetworkOrMasked (grammar_of flags.legacy) word (ip_network n)
+    (grammar : Grammar) × IsGrammar matches grammar × IsNetworkOrMasked grammar word (ip_network n)
 
 -- The word with this id is this network.
 abbrev pub IsNetworkGiven : ArgMatches → List ℕ → IpNet → Type 0
@@ -51,7 +49,7 @@ IsNoNetwork grammar word = (cause : ArgumentCause) × IsArgumentCause grammar wo
 -- The word with this id is no network, in the grammar that the flag `--legacy` chooses.
 abbrev pub IsNoNetworkGiven : ArgMatches → List ℕ → Type 0
 IsNoNetworkGiven matches id =
-    (flags : Flags) × AreFlags matches flags × IsNoNetwork (grammar_of flags.legacy) (word_of matches id)
+    (grammar : Grammar) × IsGrammar matches grammar × IsNoNetwork grammar (word_of matches id)
 
 -- The network that is drawn: the one of `--in`; or the smallest around the IPv6 addresses, with `--ipv6`; or the
 -- smallest around the addresses of the first family that has any.

@@ -1,14 +1,16 @@
 //! The command `apply`: its arguments, and its run.
 ghost use Rattle.std.specs.Prelude.{◌≡◌, ◌≤◌, IfErr};
 
-use crate::arguments::{FIRST_LIST, OTHERS, RANGES_FLAG, SHARED, SKIP_BAD_FLAG, flags_of};
+use crate::arguments::{
+    FIRST_LIST, OTHERS, RANGES, RANGES_FLAG, SHARED, SKIP_BAD_FLAG, grammar_of, is_set,
+};
 use crate::named_lists::two_or_report;
 use crate::reading::{finish_lists, set_reader};
 use crate::table::{ARGUMENT, Argument, Form, Subcommand};
 use clap::ArgMatches;
 use ipnet_sets::IpSet;
 use netset_files::{Empties, Lists, Reports, Writers, bytes_of, whole_of};
-use netset_lib::{ApplyCommand, run_text};
+use netset_lib::{ApplyCommand, form, run_text};
 
 /// The name of the command.
 pub const APPLY: &str = "apply";
@@ -74,18 +76,17 @@ pub fn apply_changes(rt: &HostRuntime, matches: &ArgMatches, writers: &mut Write
     ensures { result ≤ 2 }
 {
     let names = match two_or_report(rt, matches) {
-        Ok(names) => names.in_order(),
+        Ok(names) => names,
         Err(status) => return status,
     };
     match read_both(rt, matches, &names, writers) {
         Ok((set, changes)) => {
-            let flags = flags_of(matches);
             let command = ApplyCommand {
                 alloc: rt.alloc(),
                 set,
                 changes: changes.as_slice(),
-                grammar: flags.grammar(),
-                form: flags.form(),
+                grammar: grammar_of(matches),
+                form: form(is_set(matches, RANGES)),
             };
             let (out, faults) = (&mut writers.answer, &mut writers.faults);
             run_text(command, &names, out, faults)

@@ -2,16 +2,15 @@
 ghost use Rattle.std.specs.Prelude.{◌≡◌, Bool, map, codes, IfOk, IfErr, length, string_bytes};
 ghost use Rattle.ipnet_lists.specs.Reports.{escaped};
 ghost use Rattle.netset_commands.specs.Arguments.{IsFlag, empties_of};
-ghost use Rattle.netset_commands.specs.Calls.{AreFlags};
-ghost use Rattle.netset_lib.specs.Commands.{families_of};
-ghost use Rattle.netset_lib.specs.declared.flags.Flags.{Flags};
+ghost use Rattle.netset_commands.specs.Calls.{AreFamilies, IsGrammar, IsSide};
 
 use crate::table::{ARGUMENT, Argument, Form};
 use clap::ArgMatches;
+use ipnet::Grammar;
 use ipnet_lists::{Part, write_parts};
 use ipnet_text::Watched;
 use netset_files::{Empties, Reports};
-use netset_lib::{Families, Flags, families};
+use netset_lib::{Families, Side, families, grammar, side};
 use std::alloc::{AllocError, Global};
 use std::env;
 use std::env::Env;
@@ -20,11 +19,23 @@ use std::io::{ErrorKind, Write};
 /// The id of the list that is named first.
 pub const FIRST: &str = "first";
 
+/// The id and the name of the flag for the grammar.
+const LEGACY: &str = "legacy";
+
+/// The id and the name of the flag for the side of a filter.
+pub const OUTSIDE: &str = "outside";
+
 /// The id and the name of the flag for IPv4-mapped addresses.
 pub const MAPPED: &str = "mapped";
 
 /// The id and the name of the option for the output.
 pub const OUTPUT: &str = "output";
+
+/// The id and the name of the flag for ranges.
+pub const RANGES: &str = "ranges";
+
+/// The id and the name of the flag by which the answers are written while the list is read.
+pub const STREAM: &str = "stream";
 
 /// The names of the flags for files without an entry.
 const ALLOW_EMPTY: &str = "allow-empty";
@@ -36,8 +47,8 @@ pub const OTHERS: &str = "others";
 
 /// The flag for the grammar.
 pub const LEGACY_FLAG: Argument = Argument {
-    id: "legacy",
-    form: Form::Flag("legacy"),
+    id: LEGACY,
+    form: Form::Flag(LEGACY),
     help: "Accept leading zeros (numbers stay decimal), and a :: that replaces no group",
     ..ARGUMENT
 };
@@ -93,8 +104,8 @@ pub const SHARED: &[Argument] = &[
 
 /// The flag for ranges.
 pub const RANGES_FLAG: Argument = Argument {
-    id: "ranges",
-    form: Form::Flag("ranges"),
+    id: RANGES,
+    form: Form::Flag(RANGES),
     help: "Print the fewest ranges, such as 10.0.0.0-10.0.0.5, instead of networks",
     ..ARGUMENT
 };
@@ -250,6 +261,13 @@ pub fn is_set(matches: &ArgMatches, id: &str) -> bool
     matches.get_flag(id)
 }
 
+/// Whether the answers are written while the last list is read.
+pub fn is_streamed(matches: &ArgMatches) -> bool
+    ensures { IsFlag matches.now (codes "stream") result }
+{
+    is_set(matches, STREAM)
+}
+
 /// The choice for files without an entry: whether they are refused, and otherwise whether they are allowed.
 fn chosen_empties(refuses: bool, allows: bool) -> Empties
     ensures { result ≡ empties_of refuses allows }
@@ -278,28 +296,25 @@ pub fn reports_of(matches: &ArgMatches) -> Reports
     }
 }
 
-/// The flags that are set. A flag that the command does not have is not set.
-pub fn flags_of(matches: &ArgMatches) -> Flags
-    ensures { AreFlags matches.now result }
+/// The grammar of entries, by the flag `--legacy`.
+pub fn grammar_of(matches: &ArgMatches) -> Grammar
+    ensures { IsGrammar matches.now result }
 {
-    let legacy = is_set(matches, "legacy");
-    let ranges = is_set(matches, "ranges");
-    let ipv4 = is_set(matches, "ipv4");
-    let ipv6 = is_set(matches, "ipv6");
-    let outside = is_set(matches, "outside");
-    Flags {
-        legacy,
-        ranges,
-        ipv4,
-        ipv6,
-        outside,
-    }
+    grammar(is_set(matches, LEGACY))
 }
 
-/// The families of a complement or of a plan, by the flags `--ipv4` and `--ipv6`.
-pub fn families_of(matches: &ArgMatches) -> Families
-    ensures { (flags : Flags) × AreFlags matches.now flags × (result ≡ families_of flags.ipv4 flags.ipv6) }
+/// The side of a filter, by the flag `--outside`.
+pub fn side_of(matches: &ArgMatches) -> Side
+    ensures { IsSide matches.now result }
 {
-    let flags = flags_of(matches);
-    families(flags.ipv4, flags.ipv6)
+    side(is_set(matches, OUTSIDE))
+}
+
+/// The families of a complement, of a plan or of a selection, by the flags `--ipv4` and `--ipv6`.
+pub fn families_of(matches: &ArgMatches) -> Families
+    ensures { AreFamilies matches.now result }
+{
+    let ipv4 = is_set(matches, "ipv4");
+    let ipv6 = is_set(matches, "ipv6");
+    families(ipv4, ipv6)
 }

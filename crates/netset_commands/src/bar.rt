@@ -8,7 +8,7 @@ ghost use Rattle.netset_commands.specs.Words.{IsFrameOf, ArePictured, mark_choic
 ghost use Rattle.netset_pictures.specs.BarAnswers.{width_text};
 
 use crate::arguments::{
-    ANY_LISTS, ArgumentFailure, SHARED, SKIPPING, flags_of, is_set, report_argument_failure,
+    ANY_LISTS, ArgumentFailure, SHARED, SKIPPING, grammar_of, is_set, report_argument_failure,
 };
 use crate::entry_options::ENTRY_OPTION;
 use crate::listing::network_or_report;
@@ -226,7 +226,7 @@ pub fn frame_of(rt: &HostRuntime, matches: &ArgMatches) -> Result<Frame, u8>
     ensures failed { IfErr result (λ status. status ≡ 2) }
 {
     match matches.get_str(IN) {
-        Some(word) => match network_or_report(rt, word, flags_of(matches).grammar()) {
+        Some(word) => match network_or_report(rt, word, grammar_of(matches)) {
             Some(network) => Ok(Frame::Named(network)),
             None => Err(2),
         },

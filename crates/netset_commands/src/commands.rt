@@ -8,14 +8,14 @@ ghost use Rattle.netset_commands.specs.CommandLines.{rule_names, search_names, s
 
 use crate::apply::APPLY_COMMAND;
 use crate::arguments::{
-    ANY_LISTS, FIRST_LIST, NO_EMPTY, ONE_LIST, OTHER_LIST, OTHERS, OUTPUT, SHARED, SKIP_BAD_FLAG,
-    SKIPPING,
+    ANY_LISTS, FIRST_LIST, NO_EMPTY, ONE_LIST, OTHER_LIST, OTHERS, OUTPUT, OUTSIDE, SHARED,
+    SKIP_BAD_FLAG, SKIPPING, STREAM,
 };
 use crate::bar::BAR_COMMAND;
 use crate::changes::CHANGES_COMMAND;
 use crate::entries::{OVERLAPS_COMMAND, REDUNDANT_COMMAND, SUPERNET_COMMAND};
 use crate::entry_options::{ENTRY, ENTRY_OPTION, ENTRY_OR_FIRST, ENTRY_OR_OTHER};
-use crate::except::EXCEPT_OPTION;
+use crate::except::{EXCEPT_LISTS, EXCEPT_OPTION};
 use crate::extract::EXTRACT_COMMAND;
 use crate::find::FIND_COMMAND;
 use crate::fit::FIT_COMMAND;
@@ -23,7 +23,6 @@ use crate::forms::ANSWER_FORM;
 use crate::info::INFO_COMMAND;
 use crate::listing::{HOSTS_COMMAND, SPLIT_COMMAND};
 use crate::map::MAP_COMMAND;
-use crate::operations::EXCEPT_LISTS;
 use crate::origins::ORIGINS_COMMAND;
 use crate::pairs::{BY_OPTION, LENGTHS_FLAG};
 use crate::plan::PLAN_COMMAND;
@@ -56,9 +55,6 @@ pub const COMPARE: &str = "compare";
 pub const FILTER: &str = "filter";
 
 pub const ROUTE: &str = "route";
-
-/// The name of the flag by which the answers are written while the list is read.
-pub const STREAM: &str = "stream";
 
 /// Two lists or more.
 const TWO_LISTS_AND_MORE: &[Argument] = &[
@@ -117,8 +113,8 @@ const FILTER_ARGUMENTS: &[Argument] = &[
         ..SKIP_BAD_FLAG
     },
     Argument {
-        id: "outside",
-        form: Form::Flag("outside"),
+        id: OUTSIDE,
+        form: Form::Flag(OUTSIDE),
         help: "Choose by entries that lie entirely outside SET instead",
         ..ARGUMENT
     },

@@ -2,7 +2,7 @@
 ghost use Rattle.std.specs.Prelude.{◌≡◌, ◌≤◌, IfOk, IfErr};
 
 use crate::arguments::{
-    ANY_LISTS, ArgumentFailure, FIRST, ONE_LIST, SHARED, SKIPPING, flags_of,
+    ANY_LISTS, ArgumentFailure, FIRST, ONE_LIST, SHARED, SKIPPING, grammar_of,
     report_argument_failure,
 };
 use crate::entry_options::{ENTRY_OPTION, ENTRY_OR_FIRST};
@@ -90,7 +90,7 @@ pub fn print_redundant(rt: &HostRuntime, matches: &ArgMatches, writers: &mut Wri
         Ok(bytes) => bytes,
         Err(status) => return status,
     };
-    let (alloc, grammar) = (rt.alloc(), flags_of(matches).grammar());
+    let (alloc, grammar) = (rt.alloc(), grammar_of(matches));
     let (list, out, faults) = (bytes.as_slice(), &mut writers.answer, &mut writers.faults);
     if !has_text_flag(matches) {
         let command = RedundantCommand {
@@ -125,7 +125,7 @@ fn print_overlaps_of_one(
                 alloc: rt.alloc(),
                 list: bytes.as_slice(),
                 other: None,
-                grammar: flags_of(matches).grammar(),
+                grammar: grammar_of(matches),
             };
             run(command, &[name], &mut writers.answer, &mut writers.faults)
         }
@@ -151,7 +151,7 @@ fn print_overlaps_of_two(
         alloc: rt.alloc(),
         list: bytes.as_slice(),
         other: Some(others.as_slice()),
-        grammar: flags_of(matches).grammar(),
+        grammar: grammar_of(matches),
     };
     let (out, faults) = (&mut writers.answer, &mut writers.faults);
     run(command, names, out, faults)
@@ -180,7 +180,7 @@ fn print_overlaps_of_many(
         alloc: rt.alloc(),
         names,
         lists: lists.as_slice(),
-        grammar: flags_of(matches).grammar(),
+        grammar: grammar_of(matches),
     };
     let (out, faults) = (&mut writers.answer, &mut writers.faults);
     Ok(run(command, names, out, faults))

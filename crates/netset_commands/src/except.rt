@@ -1,10 +1,10 @@
-//! The option `--except`, and the run of a filter by a list without others.
+//! The option `--except` of filters and operations, and the run of a filter by a list without others.
 ghost use Rattle.std.specs.Prelude.{◌≡◌, ◌≤◌, ◌<◌, ◌↔◌, length, codes, IsTrue, IfOk, IfErr};
 ghost use Rattle.netset_commands.specs.Arguments.{values_of};
 ghost use Rattle.netset_commands.specs.Without.{IsFilterWithout};
 ghost use Rattle.netset_lib.specs.declared.failure.Failure.TheVariants.{Memory};
 
-use crate::arguments::{FIRST, OTHERS, flags_of};
+use crate::arguments::{FIRST, OTHERS, is_streamed, side_of};
 use crate::entry_options::entries_or_report;
 use crate::named_lists::{last_name, name_of_list};
 use crate::reading::{finish, set_reader};
@@ -27,6 +27,12 @@ pub const EXCEPT_OPTION: Argument = Argument {
     form: Form::Values(EXCEPT, "FILE"),
     help: "A list whose addresses are taken out of SET; any number of times",
     ..ARGUMENT
+};
+
+/// The option for lists that are taken out of the result.
+pub const EXCEPT_LISTS: Argument = Argument {
+    help: "A list whose addresses are taken out of the result; any number of times",
+    ..EXCEPT_OPTION
 };
 
 /// Whether lists are taken out of SET.
@@ -61,8 +67,8 @@ fn read_answerer(
     ensures { IfErr result (λ status. status ≡ 2) }
 {
     let lists = Lists::new(set_reader(rt, matches)?, writers.reports);
-    let (lists, sets) = lists.read_all(rt, names, None)?;
-    match answerer_without(rt.alloc(), flags_of(matches).side(), sets) {
+    let (lists, sets) = lists.read_files(rt, names)?;
+    match answerer_without(rt.alloc(), side_of(matches), sets) {
         Ok(answerer) => Ok((lists, answerer)),
         Err(failure) => {
             let _ = end_with(&failure, names, &mut writers.faults);
@@ -77,16 +83,15 @@ fn print_kept(
     rt: &HostRuntime,
     matches: &ArgMatches,
     names: &[&str],
-    streamed: bool,
+    file: &str,
     writers: &mut Writers<'_>,
 ) -> Result<u8, u8>
     ensures kept { IfOk result (λ status. status ≤ 2) }
     ensures failed { IfErr result (λ status. status ≡ 2) }
 {
-    let file = last_name(matches, OTHERS);
     let first_names = &names[..names.len().saturating_sub(1)];
     let (lists, answerer) = read_answerer(rt, matches, first_names, writers)?;
-    if streamed {
+    if is_streamed(matches) {
         let lists = lists.end()?;
         let stream = Stream { lists, answerer };
         return Ok(stream_list(rt, stream, names, file, writers));
@@ -101,14 +106,9 @@ fn print_kept(
 }
 
 /// Reads the lists, prints the entries that lie in SET without the lists that are taken out of it, and returns the
-/// exit status. If they are streamed, the answer to an entry is written before more of FILE is read.
+/// exit status. With `--stream`, the answer to an entry is written before more of FILE is read.
 #[inline(never)]
-pub fn filter_without(
-    rt: &HostRuntime,
-    matches: &ArgMatches,
-    streamed: bool,
-    writers: &mut Writers<'_>,
-) -> u8
+pub fn filter_without(rt: &HostRuntime, matches: &ArgMatches, writers: &mut Writers<'_>) -> u8
     ensures { result ≤ 2 }
 {
     let file = last_name(matches, OTHERS);
@@ -117,7 +117,7 @@ pub fn filter_without(
         Ok(names) => names,
         Err(status) => return status,
     };
-    match print_kept(rt, matches, names.as_slice(), streamed, writers) {
+    match print_kept(rt, matches, names.as_slice(), file, writers) {
         Ok(status) => status,
         Err(status) => status,
     }

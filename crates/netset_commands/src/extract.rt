@@ -1,13 +1,12 @@
 //! The command `extract`: its arguments, and its run.
 ghost use Rattle.std.specs.Prelude.{◌≡◌, ◌≤◌, codes, IfErr};
 ghost use Rattle.netset_commands.specs.Arguments.{IsFlag};
-ghost use Rattle.netset_commands.specs.Calls.{AreFlags};
-ghost use Rattle.netset_lib.specs.Commands.{grammar_of};
-ghost use Rattle.netset_lib.specs.declared.flags.Flags.{Flags};
+ghost use Rattle.netset_commands.specs.Calls.{IsGrammar};
 
 use crate::after::{AFTER_OPTION, after_or_report};
 use crate::arguments::{
-    ANY_LISTS, ArgumentFailure, FIRST, MAPPED, SHARED, flags_of, is_set, report_argument_failure,
+    ANY_LISTS, ArgumentFailure, FIRST, MAPPED, RANGES, RANGES_FLAG, SHARED, grammar_of, is_set,
+    report_argument_failure,
 };
 use crate::named_lists::reads_input_twice;
 use crate::reading::report_only;
@@ -23,9 +22,6 @@ pub const EXTRACT: &str = "extract";
 /// The id of the flag `--first`. The id `first` belongs to the first list.
 const FIRST_ENTRY: &str = "first-entry";
 
-/// The name of the flag for ranges.
-const RANGES: &str = "ranges";
-
 /// The command `extract`.
 pub const EXTRACT_COMMAND: Subcommand = Subcommand {
     name: EXTRACT,
@@ -40,10 +36,8 @@ pub const EXTRACT_COMMAND: Subcommand = Subcommand {
                 ..ARGUMENT
             },
             Argument {
-                id: RANGES,
-                form: Form::Flag(RANGES),
                 help: "Read two addresses around a - with blanks as a range; without it, as two addresses",
-                ..ARGUMENT
+                ..RANGES_FLAG
             },
             Argument {
                 id: MAPPED,
@@ -59,14 +53,14 @@ pub const EXTRACT_COMMAND: Subcommand = Subcommand {
 
 /// Which entries the flags ask for, after this text.
 fn request_of<'a>(matches: &ArgMatches, after: &'a [u8]) -> ExtractRequest<'a>
-    ensures grammar { (flags : Flags) × AreFlags matches.now flags × (result.grammar ≡ grammar_of flags.legacy) }
+    ensures grammar { IsGrammar matches.now result.grammar }
     ensures first { IsFlag matches.now (codes "first-entry") result.first }
     ensures ranges { IsFlag matches.now (codes "ranges") result.ranges }
     ensures mapped { IsFlag matches.now (codes "mapped") result.mapped }
     ensures after { result.after.now ≡ after.now }
 {
     ExtractRequest {
-        grammar: flags_of(matches).grammar(),
+        grammar: grammar_of(matches),
         first: is_set(matches, FIRST_ENTRY),
         ranges: is_set(matches, RANGES),
         mapped: is_set(matches, MAPPED),

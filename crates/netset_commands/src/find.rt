@@ -5,7 +5,7 @@ ghost use Rattle.ipnet_lists.specs.EntryOf.{IsWrittenAs, entry_range};
 ghost use Rattle.netset_commands.specs.FindOptions.{chosen_relation};
 
 use crate::arguments::{
-    ArgumentFailure, FIRST, OTHERS, SHARED, flags_of, is_set, report_argument_failure,
+    ArgumentFailure, FIRST, OTHERS, SHARED, grammar_of, is_set, report_argument_failure,
 };
 use crate::named_lists::{check_names, reads_input_twice};
 use crate::table::{ARGUMENT, Argument, Form, Subcommand};
@@ -166,7 +166,7 @@ fn search_files(
 pub fn find_entries(rt: &HostRuntime, matches: &ArgMatches, writers: &mut Writers<'_>) -> u8
     ensures { result ≤ 2 }
 {
-    let grammar = flags_of(matches).grammar();
+    let grammar = grammar_of(matches);
     let word = matches.get_str(FIRST).unwrap_or_default();
     let Some(wanted) = entry_or_report(rt, word, grammar) else {
         return 2;

@@ -5,7 +5,7 @@ ghost use Rattle.netset_commands.specs.Words.{AreFormOptions, AreLengthsGiven, e
 ghost use Rattle.netset_forms.specs.FormOptions.{IsRequestOf};
 ghost use Rattle.netset_forms.specs.declared.options.FormOptions.{FormOptions};
 
-use crate::arguments::{RANGES_FLAG, is_set};
+use crate::arguments::{RANGES, RANGES_FLAG, is_set};
 use crate::select::length_of;
 use crate::table::{ARGUMENT, Argument, Form};
 use clap::ArgMatches;
@@ -13,8 +13,6 @@ use netset_forms::{Expectation, FORM_NAMES, FormOptions, FormRequest, GivenLengt
 use std::io::Write;
 
 /// The ids and the names of the options.
-const RANGES: &str = "ranges";
-
 const FORMAT: &str = "format";
 
 const PREFIX: &str = "prefix";

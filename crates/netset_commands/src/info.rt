@@ -5,7 +5,7 @@ ghost use Rattle.netset_commands.specs.InfoWords.{AreNetworkWords, IsNetworkOrAd
 ghost use Rattle.netset_commands.specs.Words.{IsNoNetwork};
 
 use crate::arguments::{
-    ArgumentFailure, FIRST, LEGACY_FLAG, OUTPUT_OPTION, flags_of, is_set, report_argument_failure,
+    ArgumentFailure, FIRST, LEGACY_FLAG, OUTPUT_OPTION, grammar_of, is_set, report_argument_failure,
 };
 use crate::listing::network_or_report;
 use crate::table::{ARGUMENT, Argument, Form, Subcommand};
@@ -92,7 +92,7 @@ pub fn print_facts(rt: &HostRuntime, matches: &ArgMatches, writers: &mut Writers
     ensures { result ≤ 2 }
 {
     let words = matches.get_strs(FIRST).unwrap_or(&[]);
-    let networks = match networks_of(rt, words, flags_of(matches).grammar()) {
+    let networks = match networks_of(rt, words, grammar_of(matches)) {
         Ok(networks) => networks,
         Err(status) => return status,
     };

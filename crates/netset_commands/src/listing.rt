@@ -5,7 +5,7 @@ ghost use Rattle.ipnet_lists.specs.Entries.{IsNetworkOrMasked};
 ghost use Rattle.netset_lib.specs.PlanAnswers.{IsLengthText};
 ghost use Rattle.netset_commands.specs.Words.{word_of, IsNetworkGiven, IsNoNetwork, IsNoNetworkGiven};
 
-use crate::arguments::{FIRST, LEGACY_FLAG, OTHERS, OUTPUT_OPTION, flags_of};
+use crate::arguments::{FIRST, LEGACY_FLAG, OTHERS, OUTPUT_OPTION, grammar_of};
 use crate::table::{ARGUMENT, Argument, Form, Subcommand};
 use clap::ArgMatches;
 use ipnet::{Grammar, IpNet};
@@ -104,7 +104,7 @@ fn network_of(rt: &HostRuntime, matches: &ArgMatches) -> Option<IpNet>
     ensures none { IfNone result (IsNoNetworkGiven matches.now (codes "first")) }
 {
     let word = word_of(matches, FIRST);
-    network_or_report(rt, word, flags_of(matches).grammar())
+    network_or_report(rt, word, grammar_of(matches))
 }
 
 /// Reads a prefix length. If the word is not one, it is reported, and the result is `None`.

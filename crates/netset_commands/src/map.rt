@@ -8,7 +8,7 @@ ghost use Rattle.svg_maps.specs.declared.style.Theme.{Theme};
 ghost use Rattle.svg_maps.specs.declared.style.Theme.TheVariants.{Auto};
 
 use crate::arguments::{
-    ANY_LISTS, ArgumentFailure, SHARED, flags_of, is_set, report_argument_failure,
+    ANY_LISTS, ArgumentFailure, SHARED, grammar_of, is_set, report_argument_failure,
 };
 use crate::bar::{COMPARE, FRAME, are_compared, frame_of};
 use crate::entry_options::{ENTRY_OPTION, entries_or_report};
@@ -149,7 +149,7 @@ fn noted_lists(
     let reader = NotedReader {
         sets: set_reader(rt, matches)?,
         alloc: rt.alloc(),
-        grammar: flags_of(matches).grammar(),
+        grammar: grammar_of(matches),
         frame,
         notes: Vec::new(rt.alloc()),
     };
@@ -186,17 +186,15 @@ fn with_entries<'a>(request: MapRequest<'a>, entries: &'a TitledEntries) -> MapR
     ensures titled { result.look.entries.titled.now ≡ entries.now.entries.items }
     ensures count { result.look.entries.count ≡ entries.now.count }
 {
-    let MapRequest { frame, look } = request;
-    let look = Look {
-        theme: look.theme,
-        shows_free: look.shows_free,
-        names: look.names,
-        entries: MapEntries {
-            titled: entries.entries.as_slice(),
-            count: entries.count,
-        },
+    let entries = MapEntries {
+        titled: entries.entries.as_slice(),
+        count: entries.count,
     };
-    MapRequest { frame, look }
+    let look = Look {
+        entries,
+        ..request.look
+    };
+    MapRequest { look, ..request }
 }
 
 /// Reads the list of this name, prints its map, and returns the exit status.
@@ -357,7 +355,7 @@ fn draw_named(
     ensures { result ≤ 2 }
 {
     let file = matches.get_str(NAMES).unwrap_or(STANDARD_INPUT);
-    let grammar = flags_of(matches).grammar();
+    let grammar = grammar_of(matches);
     match table_or_report(rt.alloc(), bytes, grammar, file, &mut writers.faults) {
         Some(table) => draw_table(rt, matches, frame, &table, writers),
         None => 2,

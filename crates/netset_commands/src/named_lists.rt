@@ -1,5 +1,5 @@
 //! The lists that a command line names.
-ghost use Rattle.std.specs.Prelude.{◌≡◌, ◌<◌, ◌↔◌, ◌∷◌, ◌++◌, [], false, map, IsTrue, IfOk, IfErr, IsErr};
+ghost use Rattle.std.specs.Prelude.{◌≡◌, ◌<◌, ◌↔◌, ◌++◌, false, map, IsTrue, IfOk, IfErr, IsErr};
 ghost use Rattle.std.specs.Prelude.{OnOk, IsOk};
 ghost use Rattle.std.specs.Char.{is_ascii_control};
 ghost use Rattle.std.specs.List.{list_any};
@@ -66,26 +66,8 @@ pub fn names_of<'a>(alloc: Global, matches: &ArgMatches<'a>) -> Result<Vec<&'a s
     Ok(names)
 }
 
-/// The names of the two lists of a command.
-#[derive(Clone, Copy)]
-pub struct TwoNames<'a> {
-    /// The list that is named first.
-    pub first: &'a str,
-    /// The list after it.
-    pub other: &'a str,
-}
-
-impl<'a> TwoNames<'a> {
-    /// The names, in order.
-    pub fn in_order(self) -> [&'a str; 2]
-        ensures { result ≡ self.entry.first ∷ self.entry.other ∷ [] }
-    {
-        [self.first, self.other]
-    }
-}
-
-/// The names of the two lists of a command. They cannot both be standard input.
-fn names_of_two<'a>(matches: &ArgMatches<'a>) -> Result<TwoNames<'a>, ArgumentFailure>
+/// The names of the two lists of a command, in order. They cannot both be standard input.
+fn names_of_two<'a>(matches: &ArgMatches<'a>) -> Result<[&'a str; 2], ArgumentFailure>
     ensures named { IfOk result (AreTwoNames matches.now) }
     ensures twice { IsErr result ↔ AreBothInput matches.now }
     ensures failed { IfErr result (λ failure. failure ≡ InputTwice) }
@@ -95,11 +77,11 @@ fn names_of_two<'a>(matches: &ArgMatches<'a>) -> Result<TwoNames<'a>, ArgumentFa
     if first == STANDARD_INPUT && other == STANDARD_INPUT {
         return Err(ArgumentFailure::InputTwice);
     }
-    Ok(TwoNames { first, other })
+    Ok([first, other])
 }
 
 /// Returns what `names_of_two` does. If that fails, it is reported, and the error is the exit status.
-pub fn two_or_report<'a>(rt: &HostRuntime, matches: &ArgMatches<'a>) -> Result<TwoNames<'a>, u8>
+pub fn two_or_report<'a>(rt: &HostRuntime, matches: &ArgMatches<'a>) -> Result<[&'a str; 2], u8>
     ensures named { IfOk result (AreTwoNames matches.now) }
     ensures twice { IsErr result ↔ AreBothInput matches.now }
     ensures failed { IfErr result (λ status. status ≡ 2) }

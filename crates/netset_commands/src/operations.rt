@@ -1,4 +1,4 @@
-//! The operations on lists: the option for the lists that are taken out of the result, and the runs.
+//! The runs of the operations on lists.
 ghost use Rattle.std.specs.Prelude.{◌≡◌, ◌≤◌, ◌∷◌, [], Some, codes, IfErr};
 ghost use Rattle.ipnet_sets.specs.declared.set.IpSet.{IpSet};
 ghost use Rattle.netset_lib.specs.declared.operation.Combination.TheVariants.{Union, Intersection, Difference};
@@ -7,23 +7,16 @@ ghost use Rattle.netset_lib.specs.declared.operation.Combination.TheVariants.{Sy
 use crate::arguments::{ArgumentFailure, families_of, report_argument_failure};
 use crate::commands::{COMPLEMENT, DIFFERENCE, INTERSECTION, SYMMETRIC_DIFFERENCE, UNION};
 use crate::entry_options::entries_or_report;
-use crate::except::{EXCEPT, EXCEPT_OPTION};
+use crate::except::EXCEPT;
 use crate::forms::{expectation_of, form_of};
 use crate::named_lists::names_or_report;
 use crate::reading::{finish_lists, set_reader};
-use crate::table::Argument;
 use crate::without::names_without_or_report;
 use clap::ArgMatches;
 use ipnet_sets::IpSet;
 use netset_files::{Lists, Writers};
 use netset_forms::FormCommand;
 use netset_lib::{Combination, Families, run};
-
-/// The option for lists that are taken out of the result.
-pub const EXCEPT_LISTS: Argument = Argument {
-    help: "A list whose addresses are taken out of the result; any number of times",
-    ..EXCEPT_OPTION
-};
 
 /// The sets of the lists that an operation combines, and of those that are taken out of its result.
 #[derive(Drop)]
@@ -48,7 +41,7 @@ fn read_operands(
     let entries = entries_or_report(rt, matches)?;
     let (lists, sets) = lists.read_all(rt, first, entries)?;
     let others = matches.get_strs(EXCEPT).unwrap_or(&[]);
-    let (lists, excepts) = lists.read_all(rt, others, None)?;
+    let (lists, excepts) = lists.read_files(rt, others)?;
     finish_lists(lists, names, writers)?;
     Ok(Operands { sets, excepts })
 }

@@ -2,7 +2,7 @@
 ghost use Rattle.std.specs.Prelude.{◌≡◌, ◌≤◌, IfErr};
 ghost use Rattle.netset_commands.specs.Words.{IsOnly};
 
-use crate::arguments::{FIRST_LIST, OTHER_LIST, SHARED, flags_of, is_set};
+use crate::arguments::{FIRST_LIST, OTHER_LIST, SHARED, grammar_of, is_set};
 use crate::named_lists::two_or_report;
 use crate::table::{ARGUMENT, Argument, Form, Subcommand};
 use clap::ArgMatches;
@@ -112,10 +112,10 @@ pub fn validate_origins(rt: &HostRuntime, matches: &ArgMatches, writers: &mut Wr
     ensures { result ≤ 2 }
 {
     let names = match two_or_report(rt, matches) {
-        Ok(names) => names.in_order(),
+        Ok(names) => names,
         Err(status) => return status,
     };
-    let (grammar, why) = (flags_of(matches).grammar(), is_set(matches, WHY));
+    let (grammar, why) = (grammar_of(matches), is_set(matches, WHY));
     let (vrps, routes) = match read_both(rt, &names, grammar, writers) {
         Ok(lists) => lists,
         Err(status) => return status,

@@ -3,7 +3,7 @@ ghost use Rattle.std.specs.Prelude.{◌≡◌, ◌≤◌, codes, option_map};
 ghost use Rattle.clap.specs.Matches.{first_value, found_of};
 ghost use Rattle.netset_commands.specs.Arguments.{IsFlag};
 
-use crate::arguments::{ArgumentFailure, SKIP_BAD, flags_of, is_set, report_argument_failure};
+use crate::arguments::{ArgumentFailure, SKIP_BAD, grammar_of, is_set, report_argument_failure};
 use crate::named_lists::{check_names, names_or_report, reads_input};
 use crate::reading::read_sets;
 use crate::table::{ARGUMENT, Argument, Form};
@@ -99,7 +99,7 @@ pub fn print_shares(
             let command = SharesCommand {
                 alloc: rt.alloc(),
                 list: list.as_slice(),
-                grammar: flags_of(matches).grammar(),
+                grammar: grammar_of(matches),
                 sets,
             };
             run_text(command, &[pools], &mut writers.answer, &mut writers.faults)

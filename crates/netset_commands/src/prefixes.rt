@@ -4,7 +4,7 @@ ghost use Rattle.clap.specs.Matches.{first_value, found_of};
 ghost use Rattle.netset_commands.specs.Arguments.{IsFlag};
 ghost use Rattle.netset_lib.specs.PrefixEntryOf.{lent_text};
 
-use crate::arguments::{FIRST_LIST, OTHER_LIST, OTHERS, SHARED, flags_of, is_set};
+use crate::arguments::{FIRST_LIST, OTHER_LIST, OTHERS, SHARED, grammar_of, is_set};
 use crate::entry_options::{ENTRY, ENTRY_OPTION};
 use crate::named_lists::two_or_report;
 use crate::reading::two_bytes;
@@ -100,7 +100,7 @@ fn compare_lists(
         first: first.as_slice(),
         second: second.as_slice(),
         name: name_of(matches),
-        grammar: flags_of(matches).grammar(),
+        grammar: grammar_of(matches),
     };
     let (out, faults) = (&mut writers.answer, &mut writers.faults);
     run_text(command, names, out, faults)
@@ -112,7 +112,7 @@ pub fn judge_networks(rt: &HostRuntime, matches: &ArgMatches, writers: &mut Writ
     ensures { result ≤ 2 }
 {
     let names = match two_or_report(rt, matches) {
-        Ok(names) => names.in_order(),
+        Ok(names) => names,
         Err(status) => return status,
     };
     if is_comparison(matches) {
@@ -127,7 +127,7 @@ pub fn judge_networks(rt: &HostRuntime, matches: &ArgMatches, writers: &mut Writ
         prefixes: prefixes.as_slice(),
         name: name_of(matches),
         networks: networks.as_slice(),
-        grammar: flags_of(matches).grammar(),
+        grammar: grammar_of(matches),
     };
     let (out, faults) = (&mut writers.answer, &mut writers.faults);
     run_text(command, &names, out, faults)

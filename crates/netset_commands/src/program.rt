@@ -1,10 +1,9 @@
 //! A run of the program: its arguments, its output and its command.
 ghost use Rattle.std.specs.Prelude.{◌≡◌, ◌≤◌, ◌⊎◌, true, codes, IfErr};
 ghost use Rattle.netset_commands.specs.Arguments.{IsFlag};
-ghost use Rattle.netset_commands.specs.Calls.{AreFlags};
+ghost use Rattle.netset_commands.specs.Calls.{IsSide};
 ghost use Rattle.netset_files.specs.Statuses.{IsExitStatus, IsUsualStatus};
-ghost use Rattle.netset_lib.specs.Commands.{side_of};
-ghost use Rattle.netset_lib.specs.declared.flags.Flags.{Flags};
+ghost use Rattle.netset_lib.specs.declared.filter.Side.{Side};
 ghost use Rattle.netset_lib.specs.declared.query.Query.TheVariants.{Filter};
 
 use crate::apply::APPLY;
@@ -12,10 +11,10 @@ use crate::apply::apply_changes;
 use crate::arguments::ArgumentFailure;
 use crate::arguments::OUTPUT;
 use crate::arguments::escaped;
-use crate::arguments::flags_of;
-use crate::arguments::is_set;
+use crate::arguments::is_streamed;
 use crate::arguments::report_argument_failure;
 use crate::arguments::reports_of;
+use crate::arguments::side_of;
 use crate::arguments::words;
 use crate::bar::BAR;
 use crate::bar::draw_bar;
@@ -28,7 +27,6 @@ use crate::commands::DIFFERENCE;
 use crate::commands::FILTER;
 use crate::commands::INTERSECTION;
 use crate::commands::ROUTE;
-use crate::commands::STREAM;
 use crate::commands::SYMMETRIC_DIFFERENCE;
 use crate::commands::UNION;
 use crate::commands::matches_of;
@@ -106,6 +104,7 @@ use netset_lib::CompareCommand;
 use netset_lib::CountCommand;
 use netset_lib::Query;
 use netset_lib::SetReader;
+use netset_lib::reports::UNWRITABLE;
 use netset_lib::run_text;
 use std::io::ErrorKind;
 use std::io::Write;
@@ -153,7 +152,7 @@ fn print_usage(rt: &HostRuntime, error: &clap::Error) -> u8
         Ok(()) => 0,
         Err(fault) if fault.kind() == ErrorKind::BrokenPipe => CLOSED,
         Err(_) => {
-            let _ = writeln!(rt.stderr(), "netset: output cannot be written");
+            let _ = writeln!(rt.stderr(), "netset: {UNWRITABLE}");
             2
         }
     }
@@ -233,7 +232,7 @@ fn run_filter(rt: &HostRuntime, matches: &ArgMatches, writers: &mut Writers<'_>)
     if matches.get_flag(LINES) {
         filter_lines(rt, matches, writers)
     } else if has_excepts(matches) {
-        filter_without(rt, matches, is_streamed(matches), writers)
+        filter_without(rt, matches, writers)
     } else {
         run_query(rt, filter_query(matches), matches, writers)
     }
@@ -317,18 +316,11 @@ fn compare_two(
     }
 }
 
-/// Whether the answers are written while the second list is read.
-fn is_streamed(matches: &ArgMatches) -> bool
-    ensures { IsFlag matches.now (codes "stream") result }
-{
-    is_set(matches, STREAM)
-}
-
 /// The query of `filter`.
 fn filter_query(matches: &ArgMatches) -> Query
-    ensures { (flags : Flags) × AreFlags matches.now flags × (result ≡ Filter (side_of flags.outside)) }
+    ensures { (side : Side) × IsSide matches.now side × (result ≡ Filter side) }
 {
-    Query::Filter(flags_of(matches).side())
+    Query::Filter(side_of(matches))
 }
 
 /// Reads the lists, prints the answer to the query, and returns the status.
@@ -337,7 +329,7 @@ fn run_query(rt: &HostRuntime, query: Query, matches: &ArgMatches, writers: &mut
     ensures { result ≤ 2 }
 {
     let names = match two_or_report(rt, matches) {
-        Ok(names) => names.in_order(),
+        Ok(names) => names,
         Err(status) => return status,
     };
     let lists = match set_reader(rt, matches) {

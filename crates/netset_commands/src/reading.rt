@@ -1,15 +1,14 @@
 //! The sets of the lists of a command, which are read with a report if that fails.
 ghost use Rattle.std.specs.Prelude.{◌≡◌, ◌<◌, ◌⊎◌, [], true, false, length, IsTrue, IsOk, IsErr, IfOk, IfErr, OnOk};
 ghost use Rattle.std.specs.Prelude.{map};
+ghost use Rattle.ipnet.specs.declared.parser.Grammar.{Grammar};
 ghost use Rattle.netset_commands.specs.Arguments.{entries_of};
 ghost use Rattle.netset_commands.specs.BadLines.{HasBadLine, HasNoBadLine};
-ghost use Rattle.netset_commands.specs.Calls.{AreFlags};
+ghost use Rattle.netset_commands.specs.Calls.{IsGrammar};
 ghost use Rattle.netset_commands.specs.EntryOptions.{entry_lines};
-ghost use Rattle.netset_lib.specs.Commands.{grammar_of};
 ghost use Rattle.netset_lib.specs.SetReaders.{WereRead};
-ghost use Rattle.netset_lib.specs.declared.flags.Flags.{Flags};
 
-use crate::arguments::{ArgumentFailure, flags_of, report_argument_failure};
+use crate::arguments::{ArgumentFailure, grammar_of, report_argument_failure};
 use crate::entry_options::entries_or_report;
 use clap::ArgMatches;
 use ipnet_sets::IpSet;
@@ -23,11 +22,11 @@ use std::alloc::{AllocError, Global};
 /// Returns a reader of lists in the grammar of the command line. If memory runs out, it is reported, and the error is
 /// the exit status.
 pub fn set_reader(rt: &HostRuntime, matches: &ArgMatches) -> Result<SetReader, u8>
-    ensures grammar { IfOk result (λ reader. (flags : Flags) × AreFlags matches.now flags
-        × WereRead (grammar_of flags.legacy) [] [] reader) }
+    ensures grammar { IfOk result (λ reader. (grammar : Grammar) × IsGrammar matches.now grammar
+        × WereRead grammar [] [] reader) }
     ensures failed { IfErr result (λ status. status ≡ 2) }
 {
-    match SetReader::new(rt.alloc(), flags_of(matches).grammar()) {
+    match SetReader::new(rt.alloc(), grammar_of(matches)) {
         Ok(reader) => Ok(reader),
         Err(_) => Err(report_argument_failure(rt, ArgumentFailure::Memory)),
     }

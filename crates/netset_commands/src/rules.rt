@@ -2,7 +2,7 @@
 ghost use Rattle.std.specs.Prelude.{◌≡◌, ◌≤◌, IfErr};
 ghost use Rattle.netset_commands.specs.Arguments.{IsDefault};
 
-use crate::arguments::{ArgumentFailure, FIRST, SHARED, flags_of, report_argument_failure};
+use crate::arguments::{ArgumentFailure, FIRST, SHARED, grammar_of, report_argument_failure};
 use crate::forms::{ANSWER_FORM, expectation_of, form_of};
 use crate::named_lists::{name_of_list, reads_input_twice};
 use crate::table::{ARGUMENT, Argument, Form, Subcommand};
@@ -89,7 +89,7 @@ fn read_list(
 ) -> Result<Option<RuleList>, u8>
     ensures { IfErr result (λ status. status ≡ 2) }
 {
-    match read_rules(rt, name, flags_of(matches).grammar(), reports) {
+    match read_rules(rt, name, grammar_of(matches), reports) {
         Ok(list) => Ok(list),
         Err(unread) => Err(report_unread(rt, name, &unread)),
     }

@@ -4,7 +4,7 @@ ghost use Rattle.netset_commands.specs.SelectOptions.{IsLengthGiven, IsAtMost, A
 ghost use Rattle.netset_commands.specs.SelectOptions.{bounds_of};
 
 use crate::arguments::{
-    ANY_LISTS, ArgumentFailure, SHARED, flags_of, is_set, report_argument_failure,
+    ANY_LISTS, ArgumentFailure, SHARED, families_of, grammar_of, is_set, report_argument_failure,
 };
 use crate::entry_options::{ENTRY_OPTION, entries_or_report};
 use crate::listing::length_or_report;
@@ -16,7 +16,7 @@ use ipnet_lists::ReadFailure;
 use netset_entries::{EntryChoice, LengthBounds, SelectRequest, Selection};
 use netset_files::{ListReader, Lists, Reports, Writers};
 use netset_lib::reports::long_words;
-use netset_lib::{families, run_text};
+use netset_lib::run_text;
 use std::io::{Read, Write};
 
 /// The name of the command.
@@ -212,18 +212,17 @@ fn request_of(rt: &HostRuntime, matches: &ArgMatches) -> Result<SelectRequest, u
     ensures request { IfOk result (IsSelectRequest matches.now) }
     ensures failed { IfErr result (λ status. status ≡ 2) }
 {
-    let flags = flags_of(matches);
     let lengths = bounds_given(rt, matches, LONGER, SHORTER, 128)?;
     let ipv4_lengths = bounds_given(rt, matches, IPV4_LONGER, IPV4_SHORTER, 32)?;
     let ipv6_lengths = bounds_given(rt, matches, IPV6_LONGER, IPV6_SHORTER, 128)?;
     let choice = EntryChoice {
-        families: families(flags.ipv4, flags.ipv6),
+        families: families_of(matches),
         lengths,
         ipv4_lengths,
         ipv6_lengths,
     };
     Ok(SelectRequest {
-        grammar: flags.grammar(),
+        grammar: grammar_of(matches),
         choice,
         sort: is_set(matches, SORT),
         unique: is_set(matches, UNIQUE),

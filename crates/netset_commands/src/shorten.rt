@@ -1,7 +1,7 @@
 //! The command `shorten`: its arguments, and its run.
 ghost use Rattle.std.specs.Prelude.{◌≤◌};
 
-use crate::arguments::{FIRST, ONE_LIST, SHARED, flags_of};
+use crate::arguments::{FIRST, ONE_LIST, SHARED, grammar_of};
 use crate::table::{Argument, Form, Subcommand};
 use clap::ArgMatches;
 use netset_files::{STANDARD_INPUT, Writers, bytes_of};
@@ -34,7 +34,7 @@ pub fn shorten_table(rt: &HostRuntime, matches: &ArgMatches, writers: &mut Write
         Ok(bytes) => bytes,
         Err(status) => return status,
     };
-    let (alloc, grammar) = (rt.alloc(), flags_of(matches).grammar());
+    let (alloc, grammar) = (rt.alloc(), grammar_of(matches));
     let (out, faults) = (&mut writers.answer, &mut writers.faults);
     let request = ShortenRequest {
         alloc,

@@ -6,7 +6,7 @@ ghost use Rattle.netset_commands.specs.TallyOptions.{IsFamilyLength, IsTallyRequ
 
 use crate::after::{AFTER_OPTION, after_or_report};
 use crate::arguments::{
-    ArgumentFailure, FIRST, MAPPED, SHARED, flags_of, is_set, report_argument_failure,
+    ArgumentFailure, FIRST, MAPPED, SHARED, grammar_of, is_set, report_argument_failure,
 };
 use crate::fit::number_of;
 use crate::named_lists::name_of_list;
@@ -102,7 +102,7 @@ fn request_of<'a>(rt: &HostRuntime, matches: &ArgMatches<'a>) -> Result<TallyReq
     let ipv4 = family_length(rt, matches, IPV4_LENGTH, 32)?;
     let ipv6 = family_length(rt, matches, IPV6_LENGTH, 128)?;
     Ok(TallyRequest {
-        grammar: flags_of(matches).grammar(),
+        grammar: grammar_of(matches),
         mapped: is_set(matches, MAPPED),
         after,
         ipv4,

@@ -2,7 +2,7 @@
 ghost use Rattle.std.specs.Prelude.{◌≤◌, codes};
 ghost use Rattle.netset_commands.specs.Arguments.{IsFlag};
 
-use crate::arguments::flags_of;
+use crate::arguments::{STREAM, grammar_of};
 use crate::named_lists::two_or_report;
 use crate::reading::two_bytes;
 use crate::table::{ARGUMENT, Argument, Form};
@@ -21,7 +21,7 @@ pub const TEXT_FLAG: Argument = Argument {
     id: TEXT,
     form: Form::Flag(TEXT),
     help: "In TABLE, text may follow the entry of a line; print it after the network. Not with --stream",
-    conflicts: &["stream"],
+    conflicts: &[STREAM],
     ..ARGUMENT
 };
 
@@ -30,7 +30,7 @@ pub const ALL_FLAG: Argument = Argument {
     id: ALL,
     form: Form::Flag(ALL),
     help: "Print each network that contains the entry, the most specific first. Not with --stream",
-    conflicts: &["stream"],
+    conflicts: &[STREAM],
     ..ARGUMENT
 };
 
@@ -54,7 +54,7 @@ pub fn route_with_text(rt: &HostRuntime, matches: &ArgMatches, writers: &mut Wri
     ensures { result ≤ 2 }
 {
     let names = match two_or_report(rt, matches) {
-        Ok(names) => names.in_order(),
+        Ok(names) => names,
         Err(status) => return status,
     };
     let (table, list) = match two_bytes(rt, matches, &names, "entries", writers.reports) {
@@ -65,7 +65,7 @@ pub fn route_with_text(rt: &HostRuntime, matches: &ArgMatches, writers: &mut Wri
         alloc: rt.alloc(),
         table: table.as_slice(),
         list: list.as_slice(),
-        grammar: flags_of(matches).grammar(),
+        grammar: grammar_of(matches),
     };
     let (out, faults) = (&mut writers.answer, &mut writers.faults);
     run_text(command, &names, out, faults)
@@ -77,14 +77,14 @@ pub fn route_all(rt: &HostRuntime, matches: &ArgMatches, writers: &mut Writers<'
     ensures { result ≤ 2 }
 {
     let names = match two_or_report(rt, matches) {
-        Ok(names) => names.in_order(),
+        Ok(names) => names,
         Err(status) => return status,
     };
     let (bytes, list) = match two_bytes(rt, matches, &names, "entries", writers.reports) {
         Ok(lists) => lists,
         Err(status) => return status,
     };
-    let (alloc, grammar) = (rt.alloc(), flags_of(matches).grammar());
+    let (alloc, grammar) = (rt.alloc(), grammar_of(matches));
     let (bytes, list) = (bytes.as_slice(), list.as_slice());
     let (out, faults) = (&mut writers.answer, &mut writers.faults);
     let table = if has_text_flag(matches) {

@@ -3,13 +3,11 @@ ghost use Rattle.std.specs.Prelude.{◌≡◌, ◌≤◌, cond, codes, IfErr, Is
 ghost use Rattle.ipnet_text.specs.Outputs.{IsWritten};
 ghost use Rattle.ipnet_text.specs.Watched.{writer_of, HasFailed};
 ghost use Rattle.netset_commands.specs.Arguments.{IsFlag};
-ghost use Rattle.netset_commands.specs.Calls.{AreFlags};
-ghost use Rattle.netset_lib.specs.Commands.{grammar_of, side_of};
+ghost use Rattle.netset_commands.specs.Calls.{IsGrammar, IsSide};
 ghost use Rattle.netset_lib.specs.Reports.{named_line};
-ghost use Rattle.netset_lib.specs.declared.flags.Flags.{Flags};
 
 use crate::after::{AFTER_OPTION, after_or_report};
-use crate::arguments::{FIRST, MAPPED, OTHERS, flags_of, is_set};
+use crate::arguments::{FIRST, MAPPED, OTHERS, STREAM, grammar_of, is_set, side_of};
 use crate::except::EXCEPT;
 use crate::named_lists::{last_name, name_of_list};
 use crate::reading::read_sets;
@@ -40,7 +38,7 @@ pub const LINE_FLAGS: &[Argument] = &[
         id: LINES,
         form: Form::Flag(LINES),
         help: "Print the whole lines of FILE, any text, whose first entry lies inside SET; not with --stream",
-        conflicts: &["stream"],
+        conflicts: &[STREAM],
         ..ARGUMENT
     },
     Argument {
@@ -73,17 +71,16 @@ pub const LINE_FLAGS: &[Argument] = &[
 
 /// Which lines the flags choose. The entries after this text count.
 fn lines_request<'a>(matches: &ArgMatches, after: &'a [u8]) -> LinesRequest<'a>
-    ensures flags { (flags : Flags) × AreFlags matches.now flags
-        × (result.grammar ≡ grammar_of flags.legacy) × (result.side ≡ side_of flags.outside) }
+    ensures grammar { IsGrammar matches.now result.grammar }
+    ensures side { IsSide matches.now result.side }
     ensures any { IsFlag matches.now (codes "any") result.any }
     ensures others { IsFlag matches.now (codes "other-lines") result.others }
     ensures mapped { IsFlag matches.now (codes "mapped") result.mapped }
     ensures after { result.after.now ≡ after.now }
 {
-    let flags = flags_of(matches);
     LinesRequest {
-        grammar: flags.grammar(),
-        side: flags.side(),
+        grammar: grammar_of(matches),
+        side: side_of(matches),
         any: is_set(matches, ANY),
         others: is_set(matches, OTHER_LINES),
         mapped: is_set(matches, MAPPED),
@@ -124,7 +121,7 @@ pub fn filter_lines(rt: &HostRuntime, matches: &ArgMatches, writers: &mut Writer
         Err(status) => return status,
     };
     match LineFilter::from_set(rt.alloc(), set, how) {
-        Ok(filter) => filter_named(rt, filter, &names, names[1], writers),
+        Ok(filter) => filter_named(rt, filter, &names, writers),
         Err(_) => end_with(&Failure::Memory, &names, &mut writers.faults),
     }
 }
@@ -146,16 +143,17 @@ pub fn end_log<X: Write>(is_utf16: bool, log: &str, status: u8, faults: &mut Wat
     2
 }
 
-/// Opens the log of this name, prints its lines, and returns the exit status. A text of UTF-16 is refused.
+/// Opens the log, which has the second of the names, prints its lines, and returns the exit status. A text of UTF-16 is
+/// refused.
 fn filter_named(
     rt: &HostRuntime,
     filter: LineFilter<'_>,
-    names: &[&str],
-    log: &str,
+    names: &[&str; 2],
     writers: &mut Writers<'_>,
 ) -> u8
     ensures { result ≤ 2 }
 {
+    let log = names[1];
     let mut input = match open_log(rt, log) {
         Ok(input) => input,
         Err(unread) => return report_unread(rt, log, &unread),

@@ -19,8 +19,7 @@ use ipnet_shortest::{
 };
 use ipnet_text::{Watched, lines_of_networks};
 use netset_lib::push_counts;
-use netset_lib::reports::{OUT_OF_MEMORY, report_words};
-use netset_lib::runs::Report;
+use netset_lib::reports::{OUT_OF_MEMORY, Report, report_words};
 use std::alloc::{AllocError, Global};
 use std::error::Error;
 use std::fmt::{Display, Formatter};

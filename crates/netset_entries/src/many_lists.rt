@@ -9,7 +9,7 @@ use crate::entry_list::{EntryList, entry_list};
 use ipnet::Grammar;
 use ipnet_lists::report_refused;
 use ipnet_text::Watched;
-use netset_lib::runs::Report;
+use netset_lib::reports::Report;
 use std::alloc::{AllocError, Global};
 use std::io;
 use std::io::Write;

@@ -307,7 +307,11 @@ impl<L: ListReader> Lists<L> {
 
     /// Reads the lists of these names in order, as `read` does.
     #[tactic(auto, using(crate::proofs::ReadLaws::one_more))]
-    fn read_files(self, rt: &HostRuntime, names: &[&str]) -> Result<(Lists<L>, Vec<L::List>), u8>
+    pub fn read_files(
+        self,
+        rt: &HostRuntime,
+        names: &[&str],
+    ) -> Result<(Lists<L>, Vec<L::List>), u8>
         ensures read { IfOk result (λ r. AreRead L.reads self.reader r.1.items r.0.reader) }
         ensures count { IfOk result (λ r. length r.1.items ≡ length names.now) }
         ensures reports { IfOk result (λ r. r.0.reports ≡ self.reports) }

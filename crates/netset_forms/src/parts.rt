@@ -1,5 +1,5 @@
 //! The parts of an answer: one, or one for each family.
-ghost use Rattle.std.specs.Prelude.{◌≡◌, ◌↔◌, IfOk, IfErr, OnOk, ℕ, None, max};
+ghost use Rattle.std.specs.Prelude.{◌≡◌, ◌↔◌, IfOk, IfErr, OnOk, ℕ, None, Some, max};
 ghost use Rattle.ipnet_base.specs.Address.{IPv4, IPv6, Address};
 ghost use Rattle.ipnet_sets.specs.Members.{IsMember};
 ghost use Rattle.netset_forms.specs.Forms.{ipset_kind, FitsFamilies, IsOfFamily, IsFormText, IsFormFailure, IsTooLong};
@@ -114,16 +114,16 @@ fn item_of(commands: Commands) -> Item
 }
 
 /// The part of the networks of a set, in the frame.
-fn network_part(frame: Frame, item: Item, min_length: u8, set: IpSet) -> Option<Part>
+fn network_part(frame: Frame, item: Item, min_length: u8, set: IpSet) -> Part
     ensures { MakesPart (IsItemsText item (layout_of frame) min_length (IsMember set)) min_length
-        (IsMember set) result }
+        (IsMember set) (Some result) }
 {
-    Some(Part {
+    Part {
         frame,
         item,
         min_length,
         set,
-    })
+    }
 }
 
 /// The part of a set with these commands, if it has a name.
@@ -141,7 +141,7 @@ fn named_part(
         return Ok(None);
     };
     let frame = frame::named(alloc, commands, name)?;
-    Ok(network_part(frame, item_of(commands), min_length, set))
+    Ok(Some(network_part(frame, item_of(commands), min_length, set)))
 }
 
 /// Refuses a least prefix length that is too long for a family of the set.

@@ -4,8 +4,7 @@ ghost use Rattle.ipnet_text.specs.Outputs.{IsWritten, IsFrontWritten};
 ghost use Rattle.netset_lib.specs.Reports.{failure_words, words_line};
 ghost use Rattle.netset_lib.specs.declared.failure.Failure.TheVariants.{Memory};
 
-use crate::reports::{OUT_OF_MEMORY, report_words};
-use crate::runs::Report;
+use crate::reports::{OUT_OF_MEMORY, Report, report_words};
 use ipnet_text::Watched;
 use std::alloc::AllocError;
 use std::io;

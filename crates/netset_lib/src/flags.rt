@@ -1,27 +1,11 @@
-//! The flags of the program netset that several commands share.
+//! The meaning of flags of the program netset that several commands share.
 ghost use Rattle.std.specs.Prelude.{◌≡◌};
-ghost use Rattle.netset_lib.specs.Commands.{families_of};
+ghost use Rattle.netset_lib.specs.Commands.{families_of, form_of, grammar_of, side_of};
 
 use crate::answer::Form;
 use crate::filter::Side;
 use crate::operation::Families;
 use ipnet::Grammar;
-
-/// The flags of a call. A flag that the command does not have is ignored.
-#[derive(Clone, Copy, Debug, PartialEq, Eq)]
-pub struct Flags {
-    /// `--legacy`: entries are read by the legacy grammar.
-    pub legacy: bool,
-    /// `--ranges`: a set is written as ranges. `apply` reads this flag; the form of an operation is a `FormRequest` of
-    /// `netset_forms`.
-    pub ranges: bool,
-    /// `--ipv4`: the complement in IPv4.
-    pub ipv4: bool,
-    /// `--ipv6`: the complement in IPv6.
-    pub ipv6: bool,
-    /// `--outside`: the entries outside are kept.
-    pub outside: bool,
-}
 
 /// Returns the families that the flags `--ipv4` and `--ipv6` choose. Without a flag, the list names them.
 ///
@@ -39,51 +23,39 @@ pub fn families(ipv4: bool, ipv6: bool) -> Families
     }
 }
 
-impl Flags {
-    ghost use Rattle.netset_lib.specs.Commands.{form_of, grammar_of, side_of};
-
-    /// Returns the grammar of entries.
-    ///
-    /// ```text
-    /// --legacy: Legacy; without it: Strict
-    /// ```
-    pub fn grammar(self) -> Grammar
-        ensures { result ≡ grammar_of self.legacy }
-    {
-        if self.legacy {
-            Grammar::Legacy
-        } else {
-            Grammar::Strict
-        }
+/// Returns the grammar of entries that the flag `--legacy` chooses.
+///
+/// ```text
+/// --legacy: Legacy; without it: Strict
+/// ```
+pub fn grammar(legacy: bool) -> Grammar
+    ensures { result ≡ grammar_of legacy }
+{
+    if legacy {
+        Grammar::Legacy
+    } else {
+        Grammar::Strict
     }
+}
 
-    /// Returns the form of a set.
-    ///
-    /// ```text
-    /// --ranges: Ranges; without it: Networks
-    /// ```
-    pub fn form(self) -> Form
-        ensures { result ≡ form_of self.ranges }
-    {
-        if self.ranges {
-            Form::Ranges
-        } else {
-            Form::Networks
-        }
-    }
+/// Returns the form of a set that the flag `--ranges` chooses.
+///
+/// ```text
+/// --ranges: Ranges; without it: Networks
+/// ```
+pub fn form(ranges: bool) -> Form
+    ensures { result ≡ form_of ranges }
+{
+    if ranges { Form::Ranges } else { Form::Networks }
+}
 
-    /// Returns the side of a filter.
-    ///
-    /// ```text
-    /// --outside: Outside; without it: Inside
-    /// ```
-    pub fn side(self) -> Side
-        ensures { result ≡ side_of self.outside }
-    {
-        if self.outside {
-            Side::Outside
-        } else {
-            Side::Inside
-        }
-    }
+/// Returns the side of a filter that the flag `--outside` chooses.
+///
+/// ```text
+/// --outside: Outside; without it: Inside
+/// ```
+pub fn side(outside: bool) -> Side
+    ensures { result ≡ side_of outside }
+{
+    if outside { Side::Outside } else { Side::Inside }
 }

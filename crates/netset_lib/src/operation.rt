@@ -12,10 +12,10 @@ use ipnet::{IpAddr, Ipv4Addr, Ipv6Addr};
 use ipnet_sets::IpSet;
 use std::alloc::{AllocError, Global};
 
-/// The families of a complement, or of a plan.
+/// The families of a complement, of a plan, of a selection or of an answer.
 #[derive(Clone, Copy, Debug, PartialEq, Eq)]
 pub enum Families {
-    /// The families of the list's addresses.
+    /// No family is chosen: the list's addresses name them.
     Named,
     /// Only IPv4.
     Ipv4,

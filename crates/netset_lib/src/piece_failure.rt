@@ -4,8 +4,7 @@ ghost use Rattle.ipnet_text.specs.Outputs.{IsWritten, IsFrontWritten};
 ghost use Rattle.netset_lib.specs.Reports.{piece_words, words_line};
 ghost use Rattle.netset_lib.specs.declared.piece_failure.PieceFailure.TheVariants.{Memory, Unwritable};
 
-use crate::reports::{OUT_OF_MEMORY, UNWRITABLE, report_words};
-use crate::runs::Report;
+use crate::reports::{OUT_OF_MEMORY, Report, UNWRITABLE, report_words};
 use ipnet_text::Watched;
 use std::alloc::AllocError;
 use std::io;

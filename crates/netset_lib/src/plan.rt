@@ -4,23 +4,23 @@ ghost use Rattle.std.specs.Prelude.{IfSome, IfNone, Some, OnOk, drop};
 ghost use Rattle.std.specs.Fmt.{DisplaysOnOk, DisplaysStyledOnOk};
 ghost use Rattle.ipnet_text.specs.Outputs.{IsWritten, IsFrontWritten};
 ghost use Rattle.std.specs.Prelude.{map, string_bytes};
-ghost use Rattle.ipnet_base.specs.Address.{Family, width};
+ghost use Rattle.ipnet_base.specs.Address.{width};
 ghost use Rattle.ipnet.specs.NetworkOf.{ip_network};
 ghost use Rattle.ipnet_sets.specs.Members.{IsMember};
 ghost use Rattle.ipnet_pools.specs.Fits.{HasRoom};
 ghost use Rattle.ipnet_pools.specs.Placements.{CanPlace};
 ghost use Rattle.ipnet_pools.specs.Plans.{requests_of, IsPlan, KeepsRoom};
 ghost use Rattle.ipnet_pools.specs.declared.error.PoolError.TheVariants as Pool;
-ghost use Rattle.netset_lib.specs.PlanAnswers.{HasOnly, IsPlanFamily, IsPlanText, HasNoPlacement, IsPlanFailure};
+ghost use Rattle.netset_lib.specs.PlanAnswers.{IsPlanFamily, IsPlanText, HasNoPlacement, IsPlanFailure};
 ghost use Rattle.netset_lib.specs.PlanAnswers.{first_name, plan_lines};
 ghost use Rattle.netset_lib.specs.Planning.{family_of, exit_of_plan, plan_words};
 ghost use Rattle.netset_lib.specs.Reports.{words_line};
 ghost use Rattle.netset_lib.specs.declared.plan.PlanFailure.TheVariants.{NoPlacement, Memory};
 
 use crate::operation::Families;
+use crate::plan_family::{PlanFamily, plan_family};
 use crate::plan_word::PlanWord;
-use crate::reports::{OUT_OF_MEMORY, Words, long_words, report_words};
-use crate::runs::Report;
+use crate::reports::{OUT_OF_MEMORY, Report, Words, long_words, report_words};
 use crate::text_route::push_with_text;
 use arrayvec::ArrayString;
 use ipnet::IpNet;
@@ -117,58 +117,6 @@ pub struct PlanRequest<'a> {
     pub families: Families,
     /// The prefix lengths, one for each network.
     pub lengths: &'a [u8],
-}
-
-/// The family of the planned networks.
-#[derive(Clone, Copy, Debug, PartialEq, Eq)]
-pub enum PlanFamily {
-    /// IPv4
-    Ipv4,
-    /// IPv6
-    Ipv6,
-}
-
-impl PlanFamily {
-    ghost use Rattle.netset_lib.specs.Planning.{family_of};
-
-    /// The greatest prefix length of the family.
-    fn width(self) -> u8
-        ensures { result ≡ width (family_of self) }
-    {
-        match self {
-            PlanFamily::Ipv4 => 32,
-            PlanFamily::Ipv6 => 128,
-        }
-    }
-}
-
-/// The family of all addresses of the set, if there is one.
-fn only_family(set: &IpSet) -> Option<PlanFamily>
-    ensures some { IfSome result (λ f. HasOnly (IsMember set.now) (family_of f)) }
-    ensures none { IfNone result ((f : Family) → ¬ (HasOnly (IsMember set.now) f)) }
-{
-    match (set.has_ipv4(), set.has_ipv6()) {
-        (true, false) => Some(PlanFamily::Ipv4),
-        (false, true) => Some(PlanFamily::Ipv6),
-        _ => None,
-    }
-}
-
-/// Returns the family of the planned networks, or `None` if it is not chosen: the only family of the set for `Named`.
-///
-/// ```text
-/// Named, and 10.0.0.0/24: Some(Ipv4); Named, and no address: None; Ipv6, and 10.0.0.0/24: Some(Ipv6); Both: None
-/// ```
-pub fn plan_family(families: Families, set: &IpSet) -> Option<PlanFamily>
-    ensures some { IfSome result (λ f. IsPlanFamily families (IsMember set.now) (family_of f)) }
-    ensures none { IfNone result ((f : Family) → ¬ (IsPlanFamily families (IsMember set.now) f)) }
-{
-    match families {
-        Families::Named => only_family(set),
-        Families::Ipv4 => Some(PlanFamily::Ipv4),
-        Families::Ipv6 => Some(PlanFamily::Ipv6),
-        Families::Both => None,
-    }
 }
 
 /// The first of the lengths that is above `greatest`.

@@ -5,7 +5,7 @@ ghost use Rattle.netset_lib.specs.Planning.{family_of};
 ghost use Rattle.netset_lib.specs.PlanWords.{IsHostCount, IsSizeText, IsLengthFor, IsTooLarge};
 
 use crate::length::{read_length, read_u128};
-use crate::plan::PlanFamily;
+use crate::plan_family::PlanFamily;
 use ipnet_info::{ipv4_len_for_hosts, ipv6_len_for_hosts};
 
 /// The size of a network.

@@ -12,8 +12,8 @@ ghost use Rattle.netset_lib.specs.declared.prefix_compare.PrefixCompareFailure.T
 use crate::prefix_answer::{PrefixLines, read_prefixes};
 use crate::prefix_choice::{ChoiceFault, rules_of_list};
 use crate::prefix_line::PrefixCause;
-use crate::reports::{OUT_OF_MEMORY, report_named, report_words};
-use crate::runs::{Report, TextCommand};
+use crate::reports::{OUT_OF_MEMORY, Report, report_named, report_words};
+use crate::runs::TextCommand;
 use ipnet::{Grammar, IpNet};
 use ipnet_lists::{Refusals, name_of, report_refused};
 use ipnet_rules::PrefixList;

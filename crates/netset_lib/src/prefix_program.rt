@@ -7,8 +7,8 @@ ghost use Rattle.netset_lib.specs.PrefixEntryOf.{lent_text};
 ghost use Rattle.netset_lib.specs.PrefixReading.{IsPrefixFailure};
 
 use crate::prefix_answer::{PrefixFailure, prefix_verdicts};
-use crate::reports::{OUT_OF_MEMORY, report_words};
-use crate::runs::{Report, TextCommand};
+use crate::reports::{OUT_OF_MEMORY, Report, report_words};
+use crate::runs::TextCommand;
 use ipnet::Grammar;
 use ipnet_lists::report_refused;
 use ipnet_text::Watched;

@@ -1,6 +1,7 @@
 //! Reports of failures.
-ghost use Rattle.std.specs.Prelude.{◌≡◌, List, ℕ, IsErr, OnOk};
+ghost use Rattle.std.specs.Prelude.{◌≡◌, ◌≤◌, ℕ, List, Option, IsErr, OnOk};
 ghost use Rattle.std.specs.Io.KnownBytes.{Appends, Keeps};
+ghost use Rattle.ipnet_lists.specs.Names.{Names};
 ghost use Rattle.ipnet_lists.specs.Reports.{OfNew, IsReport};
 ghost use Rattle.ipnet_text.specs.Outputs.{IsWritten, IsFrontWritten};
 ghost use Rattle.ipnet_text.specs.Watched.{writer_of, HasFailed};
@@ -19,6 +20,33 @@ pub const OUT_OF_MEMORY: &str = "out of memory";
 
 /// The words of the report if a write fails, or the flush after it.
 pub const UNWRITABLE: &str = "output cannot be written";
+
+/// Why a command has no answer, or only a part of it.
+pub trait Report: Drop {
+    /// The exit status.
+    ghost exit: { Self → ℕ };
+
+    /// Its report on lists with these names was written. A writer had the first bytes before it, and then the others.
+    ghost is_reported: { Self → Names → Option (List ℕ) → Option (List ℕ) → Type 0 };
+
+    /// A front of such a report was written, perhaps all of it.
+    ghost is_begun: { Self → Names → Option (List ℕ) → Option (List ℕ) → Type 0 };
+
+    /// Returns the exit status: 1 or 2.
+    fn status(&self) -> u8
+        ensures status { result ≡ exit self.now }
+        ensures least { 1 ≤ result }
+        ensures most { result ≤ 2 };
+
+    /// Reports it on `faults`. `names` are the names of the lists. If a write fails, a front of the report has been
+    /// written.
+    fn report<X: Write>(&self, names: &[&str], faults: &mut Watched<'_, X>) -> io::Result<()>
+        ensures whole { OnOk result (is_reported self.now names.now
+            (X.contents (writer_of faults.old)) (X.contents (writer_of faults.new))) }
+        ensures front { is_begun self.now names.now (X.contents (writer_of faults.old))
+            (X.contents (writer_of faults.new)) }
+        ensures failed { IsErr result → HasFailed faults.new };
+}
 
 /// Reports these words in one line. If a write fails, a front of the line has been written.
 ///

@@ -1,8 +1,6 @@
 //! Commands as values, and the run of any command over any writers.
-ghost use Rattle.std.specs.Prelude.{◌≡◌, ◌≤◌, ◌⊎◌, ℕ, Bool, true, false, List, Option, IfOk, IfErr, OnOk};
-ghost use Rattle.std.specs.Prelude.{IsErr, string_bytes};
+ghost use Rattle.std.specs.Prelude.{◌≡◌, ◌≤◌, ◌⊎◌, ℕ, Bool, true, false, List, IfOk, IfErr, string_bytes};
 ghost use Rattle.std.specs.Io.KnownBytes.{Keeps};
-ghost use Rattle.ipnet_lists.specs.Names.{Names};
 ghost use Rattle.ipnet_lists.specs.Reports.{OfNew, IsReport};
 ghost use Rattle.ipnet_lists.specs.Reports as lists;
 ghost use Rattle.ipnet_text.specs.Outputs.{IsWritten, IsFrontWritten};
@@ -12,39 +10,12 @@ ghost use Rattle.netset_lib.specs.Reports.{words_line, unwritable};
 ghost use Rattle.netset_lib.specs.Runs.{IsReported, OfFault, exit_of_fault};
 
 use crate::piece_failure::PieceFailure;
-use crate::reports::{OUT_OF_MEMORY, report_words};
+use crate::reports::{OUT_OF_MEMORY, Report, report_words};
 use crate::write::write_and_flush;
 use ipnet_lists::{LineCause, ListFailure, Refusals, report_refused, report_since};
 use ipnet_text::Watched;
 use std::io;
 use std::io::Write;
-
-/// Why a command has no answer, or only a part of it.
-pub trait Report: Drop {
-    /// The exit status.
-    ghost exit: { Self → ℕ };
-
-    /// Its report on lists with these names was written. A writer had the first bytes before it, and then the others.
-    ghost is_reported: { Self → Names → Option (List ℕ) → Option (List ℕ) → Type 0 };
-
-    /// A front of such a report was written, perhaps all of it.
-    ghost is_begun: { Self → Names → Option (List ℕ) → Option (List ℕ) → Type 0 };
-
-    /// Returns the exit status: 1 or 2.
-    fn status(&self) -> u8
-        ensures status { result ≡ exit self.now }
-        ensures least { 1 ≤ result }
-        ensures most { result ≤ 2 };
-
-    /// Reports it on `faults`. `names` are the names of the lists. If a write fails, a front of the report has been
-    /// written.
-    fn report<X: Write>(&self, names: &[&str], faults: &mut Watched<'_, X>) -> io::Result<()>
-        ensures whole { OnOk result (is_reported self.now names.now
-            (X.contents (writer_of faults.old)) (X.contents (writer_of faults.new))) }
-        ensures front { is_begun self.now names.now (X.contents (writer_of faults.old))
-            (X.contents (writer_of faults.new)) }
-        ensures failed { IsErr result → HasFailed faults.new };
-}
 
 /// A command: it writes its answer, or says why there is none.
 pub trait Command {

@@ -11,8 +11,8 @@ ghost use Rattle.netset_lib.specs.ListReports.{IsStreamReport, IsStreamBegun};
 ghost use Rattle.netset_lib.specs.Runs.{IsReportedLast};
 ghost use Rattle.netset_lib.specs.StepReports.{AreTold};
 
-use crate::reports::{UNWRITABLE, report_named, report_words};
-use crate::runs::{Report, end_with};
+use crate::reports::{Report, UNWRITABLE, report_named, report_words};
+use crate::runs::end_with;
 use crate::stream::{Stream, StreamFailure, Streamed};
 use ipnet_lists::{name_of, report_since};
 use ipnet_text::Watched;

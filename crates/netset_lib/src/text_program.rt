@@ -8,8 +8,8 @@ ghost use Rattle.netset_lib.specs.TextReasons.{ExplainsTextLine};
 ghost use Rattle.netset_lib.specs.TextReplies.{IsTextFailure, IsTableReported};
 ghost use Rattle.netset_lib.specs.TextTables.{IsTextRouteAnswer, IsTableOfTexts};
 
-use crate::reports::{OUT_OF_MEMORY, report_words};
-use crate::runs::{Report, TextCommand, end_with};
+use crate::reports::{OUT_OF_MEMORY, Report, report_words};
+use crate::runs::{TextCommand, end_with};
 use crate::text_line::{NotTextLine, text_cause};
 use crate::text_route::{TextFailure, table_of_texts, text_route_answers};
 use ipnet::Grammar;

@@ -25,8 +25,8 @@ use ipnet_lists::{
 use ipnet_origins::Payload;
 use ipnet_text::Watched;
 use netset_lib::ArgumentCause;
-use netset_lib::reports::{OUT_OF_MEMORY, report_words};
-use netset_lib::runs::{Report, end_with};
+use netset_lib::reports::{OUT_OF_MEMORY, Report, report_words};
+use netset_lib::runs::end_with;
 use std::alloc::{AllocError, Global};
 use std::io;
 use std::io::Write;

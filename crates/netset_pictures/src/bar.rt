@@ -15,8 +15,7 @@ ghost use Rattle.netset_pictures.specs.declared.bar.PictureFailure.TheVariants.{
 use ipnet_bars::{BarForm, Frame, RowWidth, bar_text, comparison_bar_text, frame_of};
 use ipnet_sets::IpSet;
 use ipnet_text::Watched;
-use netset_lib::reports::{OUT_OF_MEMORY, report_words};
-use netset_lib::runs::Report;
+use netset_lib::reports::{OUT_OF_MEMORY, Report, report_words};
 use netset_lib::{Failure, Fault};
 use std::alloc::{AllocError, Global};
 use std::error::Error;

@@ -9,10 +9,10 @@ ghost use Rattle.svg_maps.specs.Pages.{cell_pixels, FitsPage};
 
 use crate::form::MapForm;
 use crate::label::{Ink, Label, Swatch, label_at};
-use crate::legend::{EDGE, LINE, legend_of};
+use crate::legend::{EDGE, legend_of};
 use crate::lines::lines_of;
 use crate::ring::Rings;
-use crate::sheet::{Sheet, row_after, sheet_of, sides_of};
+use crate::sheet::{LINE, Sheet, row_after, sheet_of, sides_of};
 use crate::square::first_bits_of;
 use ipnet::IpNet;
 use ipnet_maps::Drawing;

@@ -4,7 +4,7 @@ ghost use Rattle.svg_maps.specs.Legends.{list_name, class_words, row_of, class_r
 
 use crate::label::{Anchor, Ink, Label, Sign, Swatch};
 use crate::ring::Ring;
-use crate::sheet::row_after;
+use crate::sheet::{LINE, row_after};
 use ipnet_maps::{Class, Layer, Place};
 use std::alloc::{AllocError, Global};
 
@@ -16,9 +16,6 @@ const FIRST: &str = "the first list";
 
 /// The second of two compared lists in the legend, if it has no name.
 const SECOND: &str = "the second list";
-
-/// The height of a line, in pixels.
-pub(crate) const LINE: u32 = 18;
 
 /// The name of the list at this place in the legend.
 #[tactic(auto, using(crate::proofs::LegendLaws::named_at))]

@@ -6,7 +6,6 @@ ghost use Rattle.ipnet_maps.specs.Cuts.{columns_in, rows_in};
 ghost use Rattle.ipnet_maps.specs.Squares.{square_cuts};
 ghost use Rattle.svg_maps.specs.Pages.{cell_pixels, pixels, pixel_rectangle, FitsPage};
 
-use crate::legend::LINE;
 use ipnet::IpNet;
 use ipnet_maps::{Layout, Place, Rectangle, Sides};
 
@@ -18,6 +17,9 @@ const CELL: u32 = 64;
 
 /// The least width of a page, in pixels.
 const LEAST_WIDTH: u32 = 720;
+
+/// The height of a line, in pixels.
+pub(crate) const LINE: u32 = 18;
 
 /// The number of pixels from a map to the first line of the foot.
 const TO_FOOT: u32 = 20;
