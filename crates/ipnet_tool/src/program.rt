@@ -174,7 +174,6 @@ fn after_name(alloc: Global, words: IntoIter<String>) -> Result<Vec<String>, All
 /// ```text
 /// of Failure::Line(2): status 1, and faults gets "line 2: invalid IP address syntax\n"
 /// ```
-#[tactic(auto, using(crate::proofs::ReportLaws::reported))]
 pub fn report<X: Write>(faults: &mut Watched<'_, X>, failure: Failure) -> u8
     ensures status { result ≡ status_of failure }
     ensures line { IsReported failure (X.contents (writer_of faults.old)) (X.contents (writer_of faults.new))

@@ -3,8 +3,8 @@ use Rattle.std.specs.Prelude.{ℕ, List, codes}
 use Rattle.ipnet_base.specs.Address.{Family, IPv4, IPv6}
 use Rattle.netset_lib.specs.declared.plan.PlanFailure.{PlanFailure}
 use Rattle.netset_lib.specs.declared.plan.PlanFailure.TheVariants as Failures
-use Rattle.netset_lib.specs.declared.plan_family.PlanFamily.{PlanFamily}
-use Rattle.netset_lib.specs.declared.plan_family.PlanFamily.TheVariants.{Ipv4, Ipv6}
+use Rattle.netset_lib.specs.declared.family_of_plan.PlanFamily.{PlanFamily}
+use Rattle.netset_lib.specs.declared.family_of_plan.PlanFamily.TheVariants.{Ipv4, Ipv6}
 use Rattle.netset_lib.specs.Reports.{long_words}
 
 -- The family that the value is.

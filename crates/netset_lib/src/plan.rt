@@ -17,8 +17,8 @@ ghost use Rattle.netset_lib.specs.Planning.{family_of, exit_of_plan, plan_words}
 ghost use Rattle.netset_lib.specs.Reports.{words_line};
 ghost use Rattle.netset_lib.specs.declared.plan.PlanFailure.TheVariants.{NoPlacement, Memory};
 
+use crate::family_of_plan::{PlanFamily, plan_family};
 use crate::operation::Families;
-use crate::plan_family::{PlanFamily, plan_family};
 use crate::plan_word::PlanWord;
 use crate::reports::{OUT_OF_MEMORY, Report, Words, long_words, report_words};
 use crate::text_route::push_with_text;
@@ -208,14 +208,13 @@ pub fn plan_networks(
     }
 }
 
-/// The name of the first of the words, and the other words.
-fn first_name<'a, 'b>(words: &'b [PlanWord<'a>]) -> (&'a str, &'b [PlanWord<'a>])
-    ensures name { result.0.now ≡ first_name words.now }
-    ensures others { result.1.now ≡ drop 1 words.now }
+/// The name of the word at this place, or nothing if there is none.
+fn name_at<'a>(words: &[PlanWord<'a>], index: usize) -> &'a str
+    ensures { result.now ≡ first_name (drop index words.now) }
 {
-    match words {
-        [] => ("", words),
-        [word, others @ ..] => (word.name, others),
+    match words.get(index) {
+        Some(word) => word.name,
+        None => "",
     }
 }
 
@@ -228,11 +227,8 @@ fn lines_of_plan(
     ensures { IfOk result (λ text. string_bytes text ≡ plan_lines (map ip_network networks.now) words.now) }
 {
     let mut text = String::new(alloc);
-    let mut others = words;
-    for network in networks {
-        let (name, rest) = first_name(others);
-        push_with_text(&mut text, *network, name)?;
-        others = rest;
+    for index in 0..networks.len() {
+        push_with_text(&mut text, networks[index], name_at(words, index))?;
     }
     Ok(text)
 }

@@ -4,8 +4,8 @@ ghost use Rattle.ipnet_info.specs.Hosts.{IsLengthForHosts, IsAboveAllHosts};
 ghost use Rattle.netset_lib.specs.Planning.{family_of};
 ghost use Rattle.netset_lib.specs.PlanWords.{IsHostCount, IsSizeText, IsLengthFor, IsTooLarge};
 
+use crate::family_of_plan::PlanFamily;
 use crate::length::{read_length, read_u128};
-use crate::plan_family::PlanFamily;
 use ipnet_info::{ipv4_len_for_hosts, ipv6_len_for_hosts};
 
 /// The size of a network.

@@ -100,6 +100,30 @@ pub fn report_named<'a, X: Write>(
     )
 }
 
+/// Reports these words and this reason in one line. If a write fails, a front of the line has been written.
+fn report_reason<'a, X: Write>(
+    faults: &mut Watched<'_, X>,
+    words: &'a str,
+    reason: &'a str,
+) -> io::Result<()>
+    ensures whole { OnOk result (IsWritten (IsReasonLine words.now)
+        (X.contents (writer_of faults.old)) (X.contents (writer_of faults.new))) }
+    ensures front { IsFrontWritten (IsReasonLine words.now)
+        (X.contents (writer_of faults.old)) (X.contents (writer_of faults.new)) }
+    ensures failed { IsErr result → HasFailed faults.new }
+{
+    write_parts(
+        faults,
+        &[
+            Part::Words("netset: "),
+            Part::Plain(words.as_bytes()),
+            Part::Words(": "),
+            Part::Plain(reason.as_bytes()),
+            Part::Words("\n"),
+        ],
+    )
+}
+
 /// Reports these words, and the words of the system for the error, in one line. If a write fails, a front of the line
 /// has been written.
 ///
@@ -117,17 +141,7 @@ pub fn report_error<X: Write>(
         (X.contents (writer_of faults.old)) (X.contents (writer_of faults.new)) }
     ensures failed { IsErr result → HasFailed faults.new }
 {
-    let reason = error_words(error);
-    write_parts(
-        faults,
-        &[
-            Part::Words("netset: "),
-            Part::Plain(words.as_bytes()),
-            Part::Words(": "),
-            Part::Plain(reason.as_str().as_bytes()),
-            Part::Words("\n"),
-        ],
-    )
+    report_reason(faults, words, error_words(error).as_str())
 }
 
 /// Reports the refused lines that are new, as `report_since` does, unless a write to `faults` has failed before. The

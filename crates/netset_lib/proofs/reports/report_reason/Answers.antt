@@ -1,7 +1,7 @@
 use Rattle.std.proofs.Common.{List, ℕ, [], ◌∷◌, codes, ap}
 use Rattle.std.specs.List.{concat}
 use Rattle.std.proofs.lemmas.Result.{on_ok_weaker}
-use Rattle.netset_lib.proofs.reports.report_error.Goals as goal
+use Rattle.netset_lib.proofs.reports.report_reason.Goals as goal
 
 -- the line with these words and this reason
 abbrev line : List ℕ → List ℕ → List ℕ
