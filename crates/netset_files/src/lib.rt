@@ -2,6 +2,7 @@
 #![tactic(auto)]
 
 mod asked;
+mod file_number;
 mod input;
 mod leftovers;
 mod lists;
