@@ -97,7 +97,6 @@ use netset_files::Lists;
 use netset_files::Writers;
 use netset_files::read_answers;
 use netset_files::read_first;
-use netset_files::status_after;
 use netset_files::stream_list;
 use netset_lib::Answer;
 use netset_lib::CompareCommand;
@@ -178,8 +177,7 @@ fn open_and_run(rt: &HostRuntime, name: &str, matches: &ArgMatches) -> u8
         }
     };
     let status = run_command(rt, name, matches, &mut writers);
-    let skipped = reports.skips_bad && writers.skipped;
-    status_after(skipped, writers.end(status))
+    writers.end_run(reports.skips_bad, status)
 }
 
 /// Runs the command of this name, and returns its status.

@@ -1,13 +1,14 @@
 //! The output of a command: standard output, or a file that only a whole answer replaces.
-ghost use Rattle.std.specs.Prelude.{◌≡◌, ◌≢◌, ◌≤◌, ◌⊎◌, ◌↔◌, true, false, IfOk, IfErr, IsTrue};
+ghost use Rattle.std.specs.Prelude.{◌≡◌, ◌≢◌, ◌<◌, ◌≤◌, ◌⊎◌, ◌↔◌, true, false, IfOk, IfErr, IsTrue};
 ghost use Rattle.std.specs.Option.{option_map};
 ghost use Rattle.ipnet_text.specs.Watched.{HasFailed};
 ghost use Rattle.netset_files.specs.Outputs.{IsClosedBy, IsFile, IsNamedFile};
-ghost use Rattle.netset_files.specs.Statuses.{IsUsualStatus};
+ghost use Rattle.netset_files.specs.Statuses.{IsExitStatus, IsUsualStatus};
 
 use crate::input::{ERROR_STREAM, Input, OUTPUT_STREAM};
 use crate::lists::Reports;
 use crate::replacement::{OutputFailure, Replacement};
+use crate::skipped::status_after;
 use ipnet_text::Watched;
 use netset_lib::{Output, finish};
 use std::cell::Cell;
@@ -278,5 +279,16 @@ impl<'a> Writers<'a> {
             return CLOSED;
         }
         status
+    }
+
+    /// Ends a run whose command ended with this status, as `end` does. The exit status is 3 in place of 0 and 1 if bad
+    /// lines were skipped. `skips` says whether bad lines are to be skipped.
+    pub fn end_run(&mut self, skips: bool, status: u8) -> u8
+        ensures exit { status ≤ 2 → IsExitStatus result }
+        ensures skipped { status ≤ 2 → result ≡ 3 → IsTrue skips × IsTrue self.old.skipped }
+        ensures incomplete { IsTrue skips → IsTrue self.old.skipped → 1 < result }
+    {
+        let skipped = skips && self.skipped;
+        status_after(skipped, self.end(status))
     }
 }
