@@ -1,3 +1,4 @@
+pub mod ArgumentLaws
 pub mod CommandLaws
 -- Lemmas of this crate.
 pub mod MapLaws

@@ -1,5 +1,6 @@
 -- The definitions that the contracts of this crate use.
 pub mod AfterTexts
+pub mod ArgumentRules
 pub mod Arguments
 pub mod BadLines
 pub mod Calls
