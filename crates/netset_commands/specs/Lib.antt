@@ -12,5 +12,6 @@ pub mod Words
 pub mod InfoWords
 pub mod FindOptions
 pub mod SelectOptions
+pub mod SetsRead
 pub mod TallyOptions
 pub mod Without

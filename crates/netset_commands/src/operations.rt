@@ -1,20 +1,20 @@
 //! The runs of the operations on lists.
-ghost use Rattle.std.specs.Prelude.{◌≡◌, ◌≤◌, ◌∷◌, [], Some, codes, IfErr};
+ghost use Rattle.std.specs.Prelude.{◌≡◌, ◌≤◌, ◌∷◌, [], Some, codes, length, IfOk, IfErr};
 ghost use Rattle.ipnet_sets.specs.declared.set.IpSet.{IpSet};
+ghost use Rattle.netset_commands.specs.SetsRead.{AreOperands};
 ghost use Rattle.netset_lib.specs.declared.operation.Combination.TheVariants.{Union, Intersection, Difference};
 ghost use Rattle.netset_lib.specs.declared.operation.Combination.TheVariants.{SymmetricDifference, Complement};
 
 use crate::arguments::{ArgumentFailure, families_of, report_argument_failure};
 use crate::commands::{COMPLEMENT, DIFFERENCE, INTERSECTION, SYMMETRIC_DIFFERENCE, UNION};
-use crate::entry_options::entries_or_report;
-use crate::except::EXCEPT;
+use crate::except::{EXCEPT, except_names};
 use crate::forms::{expectation_of, form_of};
 use crate::named_lists::names_or_report;
-use crate::reading::{finish_lists, set_reader};
+use crate::reading::{finish_lists, read_list_sets};
 use crate::without::names_without_or_report;
 use clap::ArgMatches;
 use ipnet_sets::IpSet;
-use netset_files::{Lists, Writers};
+use netset_files::Writers;
 use netset_forms::FormCommand;
 use netset_lib::{Combination, Families, run};
 
@@ -35,14 +35,14 @@ fn read_operands(
     names: &[&str],
     writers: &mut Writers<'_>,
 ) -> Result<Operands, u8>
-    ensures { IfErr result (λ status. status ≡ 2) }
+    ensures operands { IfOk result (λ operands.
+        AreOperands matches.now (length first.now) operands.sets.items operands.excepts.items) }
+    ensures failed { IfErr result (λ status. status ≡ 2) }
 {
-    let lists = Lists::new(set_reader(rt, matches)?, writers.reports);
-    let entries = entries_or_report(rt, matches)?;
-    let (lists, sets) = lists.read_all(rt, first, entries)?;
-    let others = matches.get_strs(EXCEPT).unwrap_or(&[]);
-    let (lists, excepts) = lists.read_files(rt, others)?;
-    finish_lists(lists, names, writers)?;
+    let (read, sets) = read_list_sets(rt, matches, first, writers.reports)?;
+    let others = except_names(matches);
+    let (all, excepts) = read.read_files(rt, others)?;
+    finish_lists(all, names, writers)?;
     Ok(Operands { sets, excepts })
 }
 
