@@ -5,5 +5,6 @@ pub mod MapLaws
 pub mod WordLaws
 pub mod OnceLaws
 pub mod EntryLaws
+pub mod OperationLaws
 pub mod SetsReadLaws
 pub mod WithoutLaws

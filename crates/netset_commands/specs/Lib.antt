@@ -11,6 +11,7 @@ pub mod MapEntries
 pub mod Words
 pub mod InfoWords
 pub mod FindOptions
+pub mod OperationCommands
 pub mod SelectOptions
 pub mod SetsRead
 pub mod TallyOptions
