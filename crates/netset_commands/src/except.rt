@@ -1,5 +1,5 @@
 //! The option `--except` of filters and operations, and the run of a filter by a list without others.
-ghost use Rattle.std.specs.Prelude.{◌≡◌, ◌≤◌, ◌<◌, ◌↔◌, length, codes, map, IsTrue, IfOk, IfErr};
+ghost use Rattle.std.specs.Prelude.{◌≡◌, ◌≤◌, ◌<◌, ◌↔◌, length, codes, IsTrue, IfOk, IfErr};
 ghost use Rattle.netset_commands.specs.Arguments.{values_of};
 ghost use Rattle.netset_commands.specs.Without.{IsFilterWithout};
 ghost use Rattle.netset_lib.specs.declared.failure.Failure.TheVariants.{Memory};
@@ -34,16 +34,6 @@ pub const EXCEPT_LISTS: Argument = Argument {
     help: "A list whose addresses are taken out of the result; any number of times",
     ..EXCEPT_OPTION
 };
-
-/// The names of the lists that are taken out, in order.
-pub fn except_names<'m, 'a>(matches: &'m ArgMatches<'a>) -> &'m [&'a str]
-    ensures { map (λ name. name.now) result.now ≡ values_of matches.now (codes "except") }
-{
-    match matches.get_strs(EXCEPT) {
-        Some(names) => names,
-        None => &[],
-    }
-}
 
 /// Whether lists are taken out of SET.
 pub fn has_excepts(matches: &ArgMatches) -> bool

@@ -8,9 +8,9 @@ ghost use Rattle.netset_lib.specs.declared.operation.Combination.TheVariants.{Sy
 
 use crate::arguments::{ArgumentFailure, families_of, report_argument_failure};
 use crate::commands::{COMPLEMENT, DIFFERENCE, INTERSECTION, SYMMETRIC_DIFFERENCE, UNION};
-use crate::except::{EXCEPT, except_names};
+use crate::except::EXCEPT;
 use crate::forms::{expectation_of, form_of};
-use crate::named_lists::names_or_report;
+use crate::named_lists::{names_or_report, values_of};
 use crate::reading::{finish_lists, read_list_sets};
 use crate::without::names_without_or_report;
 use clap::ArgMatches;
@@ -41,7 +41,7 @@ fn read_operands(
     ensures failed { IfErr result (λ status. status ≡ 2) }
 {
     let (read, sets) = read_list_sets(rt, matches, first, writers.reports)?;
-    let others = except_names(matches);
+    let others = values_of(matches, EXCEPT);
     let (all, excepts) = read.read_files(rt, others)?;
     finish_lists(all, names, writers)?;
     Ok(Operands { sets, excepts })

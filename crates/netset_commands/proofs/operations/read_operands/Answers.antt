@@ -11,6 +11,6 @@ returns-clause-operands c =
       lists = c.in_ok-read.ensures.sets;
       last = all.all.reader;
       taken = all.ensures.read;
-      each = all.ensures.count ∙ sym (length-map c.except_names-others.result.now (λ name. name.now))
-          ∙ ap length c.except_names-others.ensures;
+      each = all.ensures.count ∙ sym (length-map c.values_of-others.result.now (λ name. name.now))
+          ∙ ap length c.values_of-others.ensures;
     }
