@@ -2,7 +2,7 @@
 ghost use Rattle.std.specs.Prelude.{◌≡◌, ◌≢◌, ◌⊎◌, ◌↔◌, ◌-◌, ℕ, Bool, List, true, false, take, length};
 ghost use Rattle.std.specs.Prelude.{None, Some, string_bytes, IsTrue, IsOk, IsErr, IfOk, IfErr, IfSome, IfNone};
 ghost use Rattle.netset_files.specs.Files.{entry_list, standard_input};
-ghost use Rattle.netset_files.specs.ListReads.{AreRead, AreReadThen, Left, MayBeAsItIs};
+ghost use Rattle.netset_files.specs.ListReads.{AreAllowed, AreRead, AreReadThen, Left, MayBeAsItIs};
 ghost use Rattle.netset_files.specs.declared.lists.Empties.TheVariants.{Refuse};
 ghost use Rattle.netset_lib.specs.RuleContentsOf.{WasRuleListRead};
 
@@ -314,6 +314,8 @@ impl<L: ListReader> Lists<L> {
     ) -> Result<(Lists<L>, Vec<L::List>), u8>
         ensures read { IfOk result (λ r. AreRead L.reads self.reader r.1.items r.0.reader) }
         ensures count { IfOk result (λ r. length r.1.items ≡ length names.now) }
+        ensures allowed { IfOk result (λ r. AreAllowed L.reads L.holds L.refused self.reports
+            (self.reader, self.allowed) names.now (r.0.reader, r.0.allowed)) }
         ensures reports { IfOk result (λ r. r.0.reports ≡ self.reports) }
         ensures failed { IfErr result (λ status. status ≡ 2) }
     {
@@ -341,14 +343,16 @@ impl<L: ListReader> Lists<L> {
             × (length r.1.items ≡ length names.now))) }
         ensures entries { IfSome entries (λ text. IfOk result (λ r.
             AreReadThen L.reads (string_bytes text) (length names.now - 1) self.reader r.1.items r.0.reader)) }
+        ensures allowed { IfNone entries (IfOk result (λ r. AreAllowed L.reads L.holds L.refused self.reports
+            (self.reader, self.allowed) names.now (r.0.reader, r.0.allowed))) }
         ensures reports { IfOk result (λ r. r.0.reports ≡ self.reports) }
         ensures failed { IfErr result (λ status. status ≡ 2) }
     {
-        let files = file_names(names, entries.is_some());
-        let (lists, mut all) = self.read_files(rt, files)?;
         let Some(entries) = entries else {
-            return Ok((lists, all));
+            return self.read_files(rt, names);
         };
+        let files = names_before_last(names);
+        let (lists, mut all) = self.read_files(rt, files)?;
         let (lists, list) = lists.read_entries(rt, entries.as_str())?;
         if all.push(list).is_err() {
             return Err(report_unread(rt, ENTRY_LIST, &Unread::of_known_bytes(ReadFailure::Memory)));
@@ -382,16 +386,14 @@ impl<L: ListReader> Lists<L> {
     }
 }
 
-/// Returns the names of files, and of standard input, of these names of lists: all of them, or, if the last list is the
-/// list of entries, those before it.
-fn file_names<'n, 'a>(names: &'n [&'a str], has_entries: bool) -> &'n [&'a str]
-    ensures all { has_entries ≡ false → result.now ≡ names.now }
-    ensures front { has_entries ≡ true → result.now ≡ take (length names.now - 1) names.now }
+/// Returns the names before the last one.
+fn names_before_last<'n, 'a>(names: &'n [&'a str]) -> &'n [&'a str]
+    ensures { result.now ≡ take (length names.now - 1) names.now }
 {
-    if has_entries && !names.is_empty() {
-        &names[..names.len() - 1]
-    } else {
+    if names.is_empty() {
         names
+    } else {
+        &names[..names.len() - 1]
     }
 }
 
