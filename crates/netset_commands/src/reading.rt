@@ -1,6 +1,6 @@
 //! The sets of the lists of a command, which are read with a report if that fails.
-ghost use Rattle.std.specs.Prelude.{◌≡◌, ◌<◌, ◌⊎◌, [], true, false, length, IsTrue, IsOk, IsErr, IfOk, IfErr, OnOk};
-ghost use Rattle.std.specs.Prelude.{map};
+ghost use Rattle.std.specs.Prelude.{◌≡◌, ◌<◌, ◌⊎◌, ◌∷◌, [], true, false, length, IsTrue, IsOk, IsErr, IfOk, IfErr};
+ghost use Rattle.std.specs.Prelude.{OnOk, map};
 ghost use Rattle.ipnet.specs.declared.parser.Grammar.{Grammar};
 ghost use Rattle.netset_commands.specs.Arguments.{entries_of};
 ghost use Rattle.netset_commands.specs.BadLines.{HasBadLine, HasNoBadLine};
@@ -115,12 +115,14 @@ pub fn read_only_set(
     name: &str,
     writers: &mut Writers<'_>,
 ) -> Result<IpSet, u8>
-    ensures { IfErr result (λ status. status ≡ 2) }
+    ensures set { IfOk result (λ set. (last : SetReader) × AreListSets matches.now 1 (set ∷ []) last) }
+    ensures failed { IfErr result (λ status. status ≡ 2) }
 {
-    let lists = Lists::new(set_reader(rt, matches)?, writers.reports);
+    let reader = set_reader(rt, matches)?;
+    let lists = Lists::new(reader, writers.reports);
     let entries = entries_or_report(rt, matches)?;
-    let (lists, set) = lists.read_last(rt, name, entries)?;
-    finish_lists(lists, &[name], writers)?;
+    let (read, set) = lists.read_last(rt, name, entries)?;
+    finish_lists(read, &[name], writers)?;
     Ok(set)
 }
 
@@ -131,13 +133,15 @@ pub fn read_pair(
     names: &[&str; 2],
     writers: &mut Writers<'_>,
 ) -> Result<(IpSet, IpSet), u8>
-    ensures { IfErr result (λ status. status ≡ 2) }
+    ensures sets { IfOk result (λ sets. (last : SetReader) × AreListSets matches.now 2 (sets.0 ∷ sets.1 ∷ []) last) }
+    ensures failed { IfErr result (λ status. status ≡ 2) }
 {
-    let lists = Lists::new(set_reader(rt, matches)?, writers.reports);
+    let reader = set_reader(rt, matches)?;
+    let lists = Lists::new(reader, writers.reports);
     let entries = entries_or_report(rt, matches)?;
-    let (lists, first) = lists.read(rt, names[0])?;
-    let (lists, second) = lists.read_last(rt, names[1], entries)?;
-    finish_lists(lists, names, writers)?;
+    let (after, first) = lists.read(rt, names[0])?;
+    let (read, second) = after.read_last(rt, names[1], entries)?;
+    finish_lists(read, names, writers)?;
     Ok((first, second))
 }
 
