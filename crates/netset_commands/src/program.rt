@@ -89,6 +89,7 @@ use crate::texts::route_with_text;
 use crate::whole_lines::LINES;
 use crate::whole_lines::filter_lines;
 use clap::ArgMatches;
+use ipnet_sets::IpSet;
 use netset_files::CLOSED;
 use netset_files::Ends;
 use netset_files::Faults;
@@ -105,6 +106,7 @@ use netset_lib::Query;
 use netset_lib::SetReader;
 use netset_lib::reports::UNWRITABLE;
 use netset_lib::run_text;
+use std::alloc::Global;
 use std::io::ErrorKind;
 use std::io::Write;
 
@@ -292,6 +294,19 @@ fn compare_lists(rt: &HostRuntime, matches: &ArgMatches, writers: &mut Writers<'
     }
 }
 
+/// The command that prints how the first set and the second differ.
+fn compare_command(alloc: Global, sets: (IpSet, IpSet)) -> CompareCommand
+    ensures first { result.first ≡ sets.0 }
+    ensures second { result.second ≡ sets.1 }
+{
+    let (first, second) = sets;
+    CompareCommand {
+        alloc,
+        first,
+        second,
+    }
+}
+
 /// Prints how the two lists of these names differ, and returns the status.
 fn compare_two(
     rt: &HostRuntime,
@@ -302,12 +317,8 @@ fn compare_two(
     ensures { result ≤ 2 }
 {
     match read_pair(rt, matches, names, writers) {
-        Ok((first, second)) => {
-            let command = CompareCommand {
-                alloc: rt.alloc(),
-                first,
-                second,
-            };
+        Ok(sets) => {
+            let command = compare_command(rt.alloc(), sets);
             run_text(command, names, &mut writers.answer, &mut writers.faults)
         }
         Err(status) => status,
