@@ -69,8 +69,10 @@ fn is_closed_by(destination: &Destination<'_>, error: &io::Error) -> bool
 }
 
 impl AnswerWriter<'_> {
-    /// Returns whether the answer is written to a terminal.
-    pub fn is_terminal(&self) -> bool {
+    /// Returns whether the answer is written to a terminal. A file is not a terminal.
+    pub fn is_terminal(&self) -> bool
+        ensures { IsTrue result → ¬ (IsFile self.now.destination) }
+    {
         match &self.destination {
             Destination::Standard(out) => out.is_terminal(),
             Destination::File(_) => false,
