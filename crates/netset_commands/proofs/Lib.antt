@@ -1,7 +1,10 @@
-pub mod CommandLaws
 -- Lemmas of this crate.
+pub mod ArgumentLaws
+pub mod CommandLaws
 pub mod MapLaws
 pub mod WordLaws
 pub mod OnceLaws
 pub mod EntryLaws
+pub mod OperationLaws
+pub mod SetsReadLaws
 pub mod WithoutLaws

@@ -4,6 +4,7 @@ use Rattle.std.specs.Borrow.{Bor}
 use Rattle.clap.specs.Facts.{args_of, subcommands_of}
 use Rattle.clap.specs.declared.builder.command.Command.{Command}
 use Rattle.clap.specs.declared.builder.command.Command.TheViews.{out-Command}
+use Rattle.netset_commands.specs.ArgumentRules.{conflicts_in_groups, conflicts_of, required_in_groups, required_of}
 use Rattle.netset_commands.specs.declared.table.Argument.{Argument}
 use Rattle.netset_commands.specs.declared.table.Subcommand.{Subcommand}
 
@@ -23,10 +24,13 @@ ids_of command = map (λ arg. arg.id.now) (args_of command)
 abbrev pub command_name : Command → List ℕ
 command_name command = (out-Command command).name.now
 
--- The command has the name and the arguments of a row of the table.
+-- The command has the name and the arguments of a row of the table: their ids, which of them may not be omitted, and
+-- which may not be beside another.
 pub record IsOfRow (row : Subcommand) (command : Command) : Type 0 where
   pub name : command_name command ≡ row.name.now
   pub ids : ids_of command ≡ ids_in_groups row.arguments.now
+  pub conflicts : conflicts_of command ≡ conflicts_in_groups row.arguments.now
+  pub required : required_of command ≡ required_in_groups row.arguments.now
 
 -- The names of the commands in the table.
 abbrev pub names_in : List Subcommand → List (List ℕ)

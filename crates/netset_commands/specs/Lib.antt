@@ -1,5 +1,6 @@
 -- The definitions that the contracts of this crate use.
 pub mod AfterTexts
+pub mod ArgumentRules
 pub mod Arguments
 pub mod BadLines
 pub mod Calls
@@ -10,6 +11,9 @@ pub mod MapEntries
 pub mod Words
 pub mod InfoWords
 pub mod FindOptions
+pub mod OperationCommands
+pub mod PlanCommands
 pub mod SelectOptions
+pub mod SetsRead
 pub mod TallyOptions
 pub mod Without

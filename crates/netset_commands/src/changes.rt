@@ -1,5 +1,5 @@
 //! The command `changes`: its arguments, and its run.
-ghost use Rattle.std.specs.Prelude.{◌≤◌, codes};
+ghost use Rattle.std.specs.Prelude.{◌≡◌, ◌≤◌, codes};
 ghost use Rattle.netset_commands.specs.Arguments.{IsFlag};
 
 use crate::arguments::{FIRST_LIST, OTHER_LIST, SHARED, SKIPPING, is_set};
@@ -8,8 +8,10 @@ use crate::named_lists::two_or_report;
 use crate::reading::read_pair;
 use crate::table::{ARGUMENT, Argument, Form, Subcommand};
 use clap::ArgMatches;
+use ipnet_sets::IpSet;
 use netset_files::Writers;
 use netset_lib::{ChangesCommand, run_text};
+use std::alloc::Global;
 
 /// The name of the command.
 pub const CHANGES: &str = "changes";
@@ -53,6 +55,21 @@ fn are_of_addresses(matches: &ArgMatches) -> bool
     is_set(matches, ADDRESSES)
 }
 
+/// The command that prints the changes from the first set to the second.
+fn changes_command(alloc: Global, matches: &ArgMatches, sets: (IpSet, IpSet)) -> ChangesCommand
+    ensures before { result.before ≡ sets.0 }
+    ensures after { result.after ≡ sets.1 }
+    ensures addresses { IsFlag matches.now (codes "addresses") result.of_addresses }
+{
+    let (before, after) = sets;
+    ChangesCommand {
+        alloc,
+        before,
+        after,
+        of_addresses: are_of_addresses(matches),
+    }
+}
+
 /// Reads the arguments and the lists, prints the changes, and returns the exit status.
 #[inline(never)]
 pub fn print_changes(rt: &HostRuntime, matches: &ArgMatches, writers: &mut Writers<'_>) -> u8
@@ -63,13 +80,8 @@ pub fn print_changes(rt: &HostRuntime, matches: &ArgMatches, writers: &mut Write
         Err(status) => return status,
     };
     match read_pair(rt, matches, &names, writers) {
-        Ok((before, after)) => {
-            let command = ChangesCommand {
-                alloc: rt.alloc(),
-                before,
-                after,
-                of_addresses: are_of_addresses(matches),
-            };
+        Ok(sets) => {
+            let command = changes_command(rt.alloc(), matches, sets);
             let (out, faults) = (&mut writers.answer, &mut writers.faults);
             run_text(command, &names, out, faults)
         }

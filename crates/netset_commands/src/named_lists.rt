@@ -35,6 +35,16 @@ pub fn last_name<'a>(matches: &ArgMatches<'a>, id: &str) -> &'a str
     }
 }
 
+/// Returns the values of the argument with this id, in order; none if it was not given.
+pub fn values_of<'m, 'a>(matches: &'m ArgMatches<'a>, id: &str) -> &'m [&'a str]
+    ensures { map (λ value. value.now) result.now ≡ values_of matches.now id.now }
+{
+    match matches.get_strs(id) {
+        Some(values) => values,
+        None => &[],
+    }
+}
+
 /// Appends the values of the argument with this id to the names, in order.
 pub fn push_values<'a>(
     names: &mut Vec<&'a str>,

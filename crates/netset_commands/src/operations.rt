@@ -1,20 +1,21 @@
 //! The runs of the operations on lists.
-ghost use Rattle.std.specs.Prelude.{◌≡◌, ◌≤◌, ◌∷◌, [], Some, codes, IfErr};
+ghost use Rattle.std.specs.Prelude.{◌≡◌, ◌≤◌, ◌∷◌, [], Some, codes, length, IfOk, IfErr};
 ghost use Rattle.ipnet_sets.specs.declared.set.IpSet.{IpSet};
+ghost use Rattle.netset_commands.specs.OperationCommands.{IsCombination, IsOperationCommand};
+ghost use Rattle.netset_commands.specs.SetsRead.{AreOperands};
 ghost use Rattle.netset_lib.specs.declared.operation.Combination.TheVariants.{Union, Intersection, Difference};
 ghost use Rattle.netset_lib.specs.declared.operation.Combination.TheVariants.{SymmetricDifference, Complement};
 
 use crate::arguments::{ArgumentFailure, families_of, report_argument_failure};
 use crate::commands::{COMPLEMENT, DIFFERENCE, INTERSECTION, SYMMETRIC_DIFFERENCE, UNION};
-use crate::entry_options::entries_or_report;
 use crate::except::EXCEPT;
 use crate::forms::{expectation_of, form_of};
-use crate::named_lists::names_or_report;
-use crate::reading::{finish_lists, set_reader};
+use crate::named_lists::{names_or_report, values_of};
+use crate::reading::{finish_lists, read_list_sets};
 use crate::without::names_without_or_report;
 use clap::ArgMatches;
 use ipnet_sets::IpSet;
-use netset_files::{Lists, Writers};
+use netset_files::Writers;
 use netset_forms::FormCommand;
 use netset_lib::{Combination, Families, run};
 
@@ -35,14 +36,14 @@ fn read_operands(
     names: &[&str],
     writers: &mut Writers<'_>,
 ) -> Result<Operands, u8>
-    ensures { IfErr result (λ status. status ≡ 2) }
+    ensures operands { IfOk result (λ operands.
+        AreOperands matches.now (length first.now) operands.sets.items operands.excepts.items) }
+    ensures failed { IfErr result (λ status. status ≡ 2) }
 {
-    let lists = Lists::new(set_reader(rt, matches)?, writers.reports);
-    let entries = entries_or_report(rt, matches)?;
-    let (lists, sets) = lists.read_all(rt, first, entries)?;
-    let others = matches.get_strs(EXCEPT).unwrap_or(&[]);
-    let (lists, excepts) = lists.read_files(rt, others)?;
-    finish_lists(lists, names, writers)?;
+    let (read, sets) = read_list_sets(rt, matches, first, writers.reports)?;
+    let others = values_of(matches, EXCEPT);
+    let (all, excepts) = read.read_files(rt, others)?;
+    finish_lists(all, names, writers)?;
     Ok(Operands { sets, excepts })
 }
 
@@ -92,6 +93,54 @@ fn combination_of(name: &str, families: Families, sets: Vec<IpSet>) -> Option<Co
     }
 }
 
+/// Returns the operation of the command of this name, on these sets, as `combination_of` does. If it has more or fewer
+/// sets, that is reported, and the error is the exit status.
+fn combination_or_report(
+    rt: &HostRuntime,
+    name: &str,
+    families: Families,
+    sets: Vec<IpSet>,
+) -> Result<Combination, u8>
+    ensures combination { IfOk result (IsCombination name.now families sets) }
+    ensures failed { IfErr result (λ status. status ≡ 2) }
+{
+    match combination_of(name, families, sets) {
+        Some(combination) => Ok(combination),
+        None => Err(report_argument_failure(rt, ArgumentFailure::NoCommand)),
+    }
+}
+
+/// Reads the arguments and the lists. Returns the command that prints what the operation makes of the lists, without
+/// the lists that are taken out of it, and the names of all lists. The name is the command's. If that fails, it is
+/// reported, and the error is the exit status.
+fn read_command<'a>(
+    rt: &HostRuntime,
+    name: &str,
+    matches: &ArgMatches<'a>,
+    writers: &mut Writers<'_>,
+) -> Result<(FormCommand<'a>, Vec<&'a str>), u8>
+    ensures command { IfOk result (λ r. IsOperationCommand matches.now name.now r.0) }
+    ensures failed { IfErr result (λ status. status ≡ 2) }
+{
+    let named = names_or_report(rt, matches)?;
+    let first = named.as_slice();
+    let names = names_without_or_report(rt, matches, first, EXCEPT, &[])?;
+    let form = form_of(rt, matches)?;
+    let operands = read_operands(rt, matches, first, names.as_slice(), writers)?;
+    let families = families_of(matches);
+    let Operands { sets, excepts } = operands;
+    let combination = combination_or_report(rt, name, families, sets)?;
+    let expected = expectation_of(matches);
+    let command = FormCommand {
+        alloc: rt.alloc(),
+        combination,
+        excepts,
+        form,
+        expected,
+    };
+    Ok((command, names))
+}
+
 /// Reads the lists, prints what the operation makes of them, without the lists that are taken out of it, and returns
 /// the status. The name is the command's. If that fails, it is reported, and the error is the exit status.
 fn print_combined(
@@ -103,21 +152,8 @@ fn print_combined(
     ensures combined { IfOk result (λ status. status ≤ 2) }
     ensures failed { IfErr result (λ status. status ≡ 2) }
 {
-    let first = names_or_report(rt, matches)?;
-    let names = names_without_or_report(rt, matches, first.as_slice(), EXCEPT, &[])?;
-    let form = form_of(rt, matches)?;
+    let (command, names) = read_command(rt, name, matches, writers)?;
     let names = names.as_slice();
-    let Operands { sets, excepts } = read_operands(rt, matches, first.as_slice(), names, writers)?;
-    let Some(combination) = combination_of(name, families_of(matches), sets) else {
-        return Err(report_argument_failure(rt, ArgumentFailure::NoCommand));
-    };
-    let command = FormCommand {
-        alloc: rt.alloc(),
-        combination,
-        excepts,
-        form,
-        expected: expectation_of(matches),
-    };
     Ok(run(command, names, &mut writers.answer, &mut writers.faults))
 }
 

@@ -1,5 +1,6 @@
 //! The command `plan`: its arguments, and its run.
 ghost use Rattle.std.specs.Prelude.{◌≡◌, ◌≤◌, IfErr, IfOk, IfSome, IfNone};
+ghost use Rattle.netset_commands.specs.PlanCommands.{AreFamiliesIn, AreWordsAsked, IsFree};
 ghost use Rattle.netset_commands.specs.Without.{IsFamilyOfPool, only_families};
 ghost use Rattle.netset_commands.specs.Words.{AsksFor, ArePlanWords, IsNoPlanWord, AreLengthsFor};
 ghost use Rattle.netset_lib.specs.Planning.{family_of};
@@ -9,7 +10,7 @@ use crate::arguments::{
     ArgumentFailure, FIRST, FIRST_LIST, SHARED, SKIPPING, families_of, report_argument_failure,
 };
 use crate::bar::{BAR, PLAN_BAR, bar_form_of};
-use crate::named_lists::name_of_list;
+use crate::named_lists::{name_of_list, values_of};
 use crate::reading::read_sets;
 use crate::table::{ARGUMENT, Argument, Form, Subcommand};
 use crate::without::{names_without_or_report, without_or_report};
@@ -23,6 +24,7 @@ use netset_lib::{
     length_for, plan_family, read_plan_word, run_text,
 };
 use netset_pictures::{PlanBarCommand, PlanBarRequest};
+use std::alloc::Global;
 use std::io::Write;
 
 /// The name of the command.
@@ -208,6 +210,16 @@ fn families_in(families: Families, pool: &IpSet) -> Families
     }
 }
 
+/// The families of a plan in the free addresses of the first of the sets, as `families_in` says.
+fn families_for(families: Families, sets: &[IpSet]) -> Families
+    ensures { AreFamiliesIn families sets.now result }
+{
+    match sets {
+        [pool, ..] => families_in(families, pool),
+        [] => families,
+    }
+}
+
 /// The networks that are asked for, and the form of the bar, if one is asked for.
 #[derive(Drop)]
 struct Asked<'a> {
@@ -221,10 +233,11 @@ fn asked_for<'a>(
     matches: &ArgMatches<'a>,
     writers: &Writers<'_>,
 ) -> Result<Asked<'a>, u8>
-    ensures { IfErr result (λ status. status ≡ 2) }
+    ensures words { IfOk result (λ asked. AreWordsAsked matches.now asked.words.items) }
+    ensures failed { IfErr result (λ status. status ≡ 2) }
 {
-    let words = matches.get_strs(LENGTHS).unwrap_or(&[]);
-    let words = read_words(rt, words)?;
+    let given = values_of(matches, LENGTHS);
+    let words = read_words(rt, given)?;
     let bar = bar_of(rt, matches, writers)?;
     Ok(Asked { words, bar })
 }
@@ -239,19 +252,60 @@ struct Free {
 /// Reads the list and the lists in use. Returns the free addresses, and the families of a plan in them. If that fails,
 /// or if lines are refused, it is reported, and the error is the exit status.
 fn read_free(rt: &HostRuntime, matches: &ArgMatches, writers: &mut Writers<'_>) -> Result<Free, u8>
-    ensures { IfErr result (λ status. status ≡ 2) }
+    ensures free { IfOk result (IsFree matches.now) }
+    ensures failed { IfErr result (λ status. status ≡ 2) }
 {
     let pool = name_of_list(matches, FIRST);
     let names = names_without_or_report(rt, matches, &[pool], TAKEN, &[])?;
-    let names = names.as_slice();
-    let sets = read_sets(rt, matches, names, writers)?;
-    let families = families_of(matches);
-    let families = match sets.as_slice() {
-        [pool, ..] => families_in(families, pool),
-        [] => families,
-    };
-    let set = without_or_report(rt, sets, names, writers)?;
+    let all = names.as_slice();
+    let sets = read_sets(rt, matches, all, writers)?;
+    let chosen = families_of(matches);
+    let each = sets.as_slice();
+    let families = families_for(chosen, each);
+    let set = without_or_report(rt, sets, all, writers)?;
     Ok(Free { set, families })
+}
+
+/// The command that prints a plan of the networks that are asked for, which have these prefix lengths.
+fn plan_command<'a>(
+    alloc: Global,
+    asked: &'a Asked<'a>,
+    free: Free,
+    lengths: &'a [u8],
+) -> PlanCommand<'a>
+    ensures set { result.set ≡ free.set }
+    ensures families { result.request.families ≡ free.families }
+    ensures lengths { result.request.lengths.now ≡ lengths.now }
+    ensures words { result.words.now ≡ asked.now.words.items }
+{
+    let Free { set, families } = free;
+    PlanCommand {
+        alloc,
+        set,
+        request: PlanRequest { families, lengths },
+        words: asked.words.as_slice(),
+    }
+}
+
+/// The command that prints the bar of this form of a plan with these prefix lengths.
+fn bar_command<'a>(
+    alloc: Global,
+    form: BarForm,
+    free: Free,
+    lengths: &'a [u8],
+) -> PlanBarCommand<'a>
+    ensures set { result.set ≡ free.set }
+    ensures families { result.request.plan.families ≡ free.families }
+    ensures lengths { result.request.plan.lengths.now ≡ lengths.now }
+    ensures form { result.request.form ≡ form }
+{
+    let Free { set, families } = free;
+    let plan = PlanRequest { families, lengths };
+    PlanBarCommand {
+        alloc,
+        set,
+        request: PlanBarRequest { plan, form },
+    }
 }
 
 /// Prints the plan in the free addresses, or its bar, and returns the exit status. The list has this name.
@@ -264,40 +318,24 @@ fn run_plan(
 ) -> u8
     ensures { result ≤ 2 }
 {
-    let Free { set, families } = free;
     let names = [name];
     let out = &mut writers.answer;
     let faults = &mut writers.faults;
-    let Some(family) = plan_family(families, &set) else {
+    let Some(family) = plan_family(free.families, &free.set) else {
         return end_with(&PlanFailure::Family, &names, faults);
     };
-    let words = asked.words.as_slice();
-    let lengths = match lengths_of(rt, family, words) {
+    let lengths = match lengths_of(rt, family, asked.words.as_slice()) {
         Ok(lengths) => lengths,
         Err(status) => return status,
     };
-    let alloc = rt.alloc();
-    let request = PlanRequest {
-        families,
-        lengths: lengths.as_slice(),
-    };
+    let (alloc, lengths) = (rt.alloc(), lengths.as_slice());
     match asked.bar {
         None => {
-            let command = PlanCommand {
-                alloc,
-                set,
-                request,
-                words,
-            };
+            let command = plan_command(alloc, asked, free, lengths);
             run_text(command, &names, out, faults)
         }
         Some(form) => {
-            let plan = request;
-            let command = PlanBarCommand {
-                alloc,
-                set,
-                request: PlanBarRequest { plan, form },
-            };
+            let command = bar_command(alloc, form, free, lengths);
             run_text(command, &names, out, faults)
         }
     }

@@ -89,6 +89,7 @@ use crate::texts::route_with_text;
 use crate::whole_lines::LINES;
 use crate::whole_lines::filter_lines;
 use clap::ArgMatches;
+use ipnet_sets::IpSet;
 use netset_files::CLOSED;
 use netset_files::Ends;
 use netset_files::Faults;
@@ -97,7 +98,6 @@ use netset_files::Lists;
 use netset_files::Writers;
 use netset_files::read_answers;
 use netset_files::read_first;
-use netset_files::status_after;
 use netset_files::stream_list;
 use netset_lib::Answer;
 use netset_lib::CompareCommand;
@@ -106,6 +106,7 @@ use netset_lib::Query;
 use netset_lib::SetReader;
 use netset_lib::reports::UNWRITABLE;
 use netset_lib::run_text;
+use std::alloc::Global;
 use std::io::ErrorKind;
 use std::io::Write;
 
@@ -178,8 +179,7 @@ fn open_and_run(rt: &HostRuntime, name: &str, matches: &ArgMatches) -> u8
         }
     };
     let status = run_command(rt, name, matches, &mut writers);
-    let skipped = reports.skips_bad && writers.skipped;
-    status_after(skipped, writers.end(status))
+    writers.end_run(reports.skips_bad, status)
 }
 
 /// Runs the command of this name, and returns its status.
@@ -294,6 +294,19 @@ fn compare_lists(rt: &HostRuntime, matches: &ArgMatches, writers: &mut Writers<'
     }
 }
 
+/// The command that prints how the first set and the second differ.
+fn compare_command(alloc: Global, sets: (IpSet, IpSet)) -> CompareCommand
+    ensures first { result.first ≡ sets.0 }
+    ensures second { result.second ≡ sets.1 }
+{
+    let (first, second) = sets;
+    CompareCommand {
+        alloc,
+        first,
+        second,
+    }
+}
+
 /// Prints how the two lists of these names differ, and returns the status.
 fn compare_two(
     rt: &HostRuntime,
@@ -304,12 +317,8 @@ fn compare_two(
     ensures { result ≤ 2 }
 {
     match read_pair(rt, matches, names, writers) {
-        Ok((first, second)) => {
-            let command = CompareCommand {
-                alloc: rt.alloc(),
-                first,
-                second,
-            };
+        Ok(sets) => {
+            let command = compare_command(rt.alloc(), sets);
             run_text(command, names, &mut writers.answer, &mut writers.faults)
         }
         Err(status) => status,

@@ -1,12 +1,14 @@
 //! The sets of the lists of a command, which are read with a report if that fails.
-ghost use Rattle.std.specs.Prelude.{◌≡◌, ◌<◌, ◌⊎◌, [], true, false, length, IsTrue, IsOk, IsErr, IfOk, IfErr, OnOk};
-ghost use Rattle.std.specs.Prelude.{map};
+ghost use Rattle.std.specs.Prelude.{◌≡◌, ◌<◌, ◌⊎◌, ◌∷◌, [], true, false, length, IsTrue, IsOk, IsErr, IfOk, IfErr};
+ghost use Rattle.std.specs.Prelude.{OnOk, map};
 ghost use Rattle.ipnet.specs.declared.parser.Grammar.{Grammar};
 ghost use Rattle.netset_commands.specs.Arguments.{entries_of};
 ghost use Rattle.netset_commands.specs.BadLines.{HasBadLine, HasNoBadLine};
 ghost use Rattle.netset_commands.specs.Calls.{IsGrammar};
 ghost use Rattle.netset_commands.specs.EntryOptions.{entry_lines};
+ghost use Rattle.netset_commands.specs.SetsRead.{AreListSets};
 ghost use Rattle.netset_lib.specs.SetReaders.{WereRead};
+ghost use Rattle.netset_lib.specs.declared.set_reader.SetReader.{SetReader};
 
 use crate::arguments::{ArgumentFailure, grammar_of, report_argument_failure};
 use crate::entry_options::entries_or_report;
@@ -71,6 +73,24 @@ pub fn finish_lists(
     if allowed { Ok(()) } else { Err(2) }
 }
 
+/// Reads the lists of these names into a set each. If there are entries, they are the last list. Returns the lists, for
+/// `finish_lists`, and the sets. If that fails, it is reported, and the error is the exit status.
+pub fn read_list_sets(
+    rt: &HostRuntime,
+    matches: &ArgMatches,
+    names: &[&str],
+    reports: Reports,
+) -> Result<(Lists<SetReader>, Vec<IpSet>), u8>
+    ensures sets { IfOk result (λ r. AreListSets matches.now (length names.now) r.1.items r.0.reader) }
+    ensures failed { IfErr result (λ status. status ≡ 2) }
+{
+    let reader = set_reader(rt, matches)?;
+    let lists = Lists::new(reader, reports);
+    let entries = entries_or_report(rt, matches)?;
+    let (read, sets) = lists.read_all(rt, names, entries)?;
+    Ok((read, sets))
+}
+
 /// Reads the lists of these names into a set each. If there are entries, they are the last list. If that fails, or if
 /// lines are refused, it is reported, and the error is the exit status.
 pub fn read_sets(
@@ -79,11 +99,11 @@ pub fn read_sets(
     names: &[&str],
     writers: &mut Writers<'_>,
 ) -> Result<Vec<IpSet>, u8>
-    ensures { IfErr result (λ status. status ≡ 2) }
+    ensures sets { IfOk result (λ sets. (last : SetReader)
+        × AreListSets matches.now (length names.now) sets.items last) }
+    ensures failed { IfErr result (λ status. status ≡ 2) }
 {
-    let lists = Lists::new(set_reader(rt, matches)?, writers.reports);
-    let entries = entries_or_report(rt, matches)?;
-    let (lists, sets) = lists.read_all(rt, names, entries)?;
+    let (lists, sets) = read_list_sets(rt, matches, names, writers.reports)?;
     finish_lists(lists, names, writers)?;
     Ok(sets)
 }
@@ -95,12 +115,14 @@ pub fn read_only_set(
     name: &str,
     writers: &mut Writers<'_>,
 ) -> Result<IpSet, u8>
-    ensures { IfErr result (λ status. status ≡ 2) }
+    ensures set { IfOk result (λ set. (last : SetReader) × AreListSets matches.now 1 (set ∷ []) last) }
+    ensures failed { IfErr result (λ status. status ≡ 2) }
 {
-    let lists = Lists::new(set_reader(rt, matches)?, writers.reports);
+    let reader = set_reader(rt, matches)?;
+    let lists = Lists::new(reader, writers.reports);
     let entries = entries_or_report(rt, matches)?;
-    let (lists, set) = lists.read_last(rt, name, entries)?;
-    finish_lists(lists, &[name], writers)?;
+    let (read, set) = lists.read_last(rt, name, entries)?;
+    finish_lists(read, &[name], writers)?;
     Ok(set)
 }
 
@@ -111,13 +133,15 @@ pub fn read_pair(
     names: &[&str; 2],
     writers: &mut Writers<'_>,
 ) -> Result<(IpSet, IpSet), u8>
-    ensures { IfErr result (λ status. status ≡ 2) }
+    ensures sets { IfOk result (λ sets. (last : SetReader) × AreListSets matches.now 2 (sets.0 ∷ sets.1 ∷ []) last) }
+    ensures failed { IfErr result (λ status. status ≡ 2) }
 {
-    let lists = Lists::new(set_reader(rt, matches)?, writers.reports);
+    let reader = set_reader(rt, matches)?;
+    let lists = Lists::new(reader, writers.reports);
     let entries = entries_or_report(rt, matches)?;
-    let (lists, first) = lists.read(rt, names[0])?;
-    let (lists, second) = lists.read_last(rt, names[1], entries)?;
-    finish_lists(lists, names, writers)?;
+    let (after, first) = lists.read(rt, names[0])?;
+    let (read, second) = after.read_last(rt, names[1], entries)?;
+    finish_lists(read, names, writers)?;
     Ok((first, second))
 }
 

@@ -1,6 +1,7 @@
 //! The commands that read a list of rules.
-ghost use Rattle.std.specs.Prelude.{◌≡◌, ◌≤◌, IfErr};
-ghost use Rattle.netset_commands.specs.Arguments.{IsDefault};
+ghost use Rattle.std.specs.Prelude.{◌≡◌, ◌≤◌, codes, IfOk, IfErr, IfSome};
+ghost use Rattle.netset_commands.specs.Arguments.{IsDefault, list_name};
+ghost use Rattle.netset_files.specs.LineBytes.{MayHaveRules};
 
 use crate::arguments::{ArgumentFailure, FIRST, SHARED, grammar_of, report_argument_failure};
 use crate::forms::{ANSWER_FORM, expectation_of, form_of};
@@ -87,7 +88,8 @@ fn read_list(
     name: &str,
     reports: Reports,
 ) -> Result<Option<RuleList>, u8>
-    ensures { IfErr result (λ status. status ≡ 2) }
+    ensures some { IfOk result (λ found. IfSome found (MayHaveRules reports name.now)) }
+    ensures failed { IfErr result (λ status. status ≡ 2) }
 {
     match read_rules(rt, name, grammar_of(matches), reports) {
         Ok(list) => Ok(list),
@@ -97,9 +99,11 @@ fn read_list(
 
 /// Reads the list of rules. If that fails, it is reported, and the error is the exit status.
 fn rules_of(rt: &HostRuntime, matches: &ArgMatches, reports: Reports) -> Result<RuleList, u8>
-    ensures { IfErr result (λ status. status ≡ 2) }
+    ensures rules { IfOk result (MayHaveRules reports (list_name matches.now (codes "first"))) }
+    ensures failed { IfErr result (λ status. status ≡ 2) }
 {
-    match read_list(rt, matches, name_of_list(matches, FIRST), reports)? {
+    let name = name_of_list(matches, FIRST);
+    match read_list(rt, matches, name, reports)? {
         Some(list) => Ok(list),
         None => Err(2),
     }

@@ -1,5 +1,8 @@
 //! Commands and their arguments as tables, and what `clap` makes of them.
-ghost use Rattle.std.specs.Prelude.{◌≡◌, ◌++◌, IfOk};
+ghost use Rattle.std.specs.Prelude.{◌≡◌, ◌++◌, [], None, IfOk};
+ghost use Rattle.clap.specs.Texts.{items_of};
+ghost use Rattle.netset_commands.specs.ArgumentRules.{HasChoices, HasNewRules, KeepsRules, default_values};
+ghost use Rattle.netset_commands.specs.ArgumentRules.{conflicts_in, conflicts_of, required_in, required_of};
 ghost use Rattle.netset_commands.specs.CommandLines.{command_name, ids_in, ids_of, IsOfRow};
 
 use clap::{Arg, ArgAction, Command};
@@ -74,9 +77,22 @@ pub struct Subcommand {
     pub arguments: &'static [&'static [Argument]],
 }
 
+/// A new argument with the id of the row, and its rules on other arguments.
+fn ruled_arg<'a>(alloc: Global, row: &Argument) -> Result<Arg<'a>, AllocError>
+    ensures { IfOk result (HasNewRules row.now) }
+{
+    let bare = Arg::new(alloc, row.id);
+    let unless = bare.required_unless_present_any(row.unless)?;
+    let conflicts = unless.conflicts_with_all(row.conflicts)?;
+    let needs = conflicts.requires_all(row.needs)?;
+    Ok(needs)
+}
+
 /// The argument, written in this form.
 fn with_form<'a>(arg: Arg<'a>, form: Form) -> Arg<'a>
-    ensures { result.id ≡ arg.entry.id }
+    ensures rules { KeepsRules arg.entry result }
+    ensures letter { result.short ≡ arg.entry.short }
+    ensures value { result.default_vals ≡ arg.entry.default_vals }
 {
     match form {
         Form::Flag(name) => arg.long(name).action(ArgAction::SetTrue),
@@ -92,14 +108,24 @@ fn with_form<'a>(arg: Arg<'a>, form: Form) -> Arg<'a>
     }
 }
 
-/// The argument with this letter, if there is one, and with this value if it is omitted.
-fn with_choices<'a>(arg: Arg<'a>, letter: Option<char>, default: Option<&'a str>) -> Arg<'a>
-    ensures { result.id ≡ arg.entry.id }
+/// The argument with this letter, if there is one.
+fn with_letter<'a>(arg: Arg<'a>, letter: Option<char>) -> Arg<'a>
+    ensures rules { KeepsRules arg.entry result }
+    ensures letter { arg.entry.short ≡ None → result.short ≡ letter }
+    ensures value { result.default_vals ≡ arg.entry.default_vals }
 {
-    let arg = match letter {
+    match letter {
         Some(letter) => arg.short(letter),
         None => arg,
-    };
+    }
+}
+
+/// The argument with this value if it is omitted.
+fn with_default<'a>(arg: Arg<'a>, default: Option<&'a str>) -> Arg<'a>
+    ensures rules { KeepsRules arg.entry result }
+    ensures letter { result.short ≡ arg.entry.short }
+    ensures value { items_of arg.entry.default_vals ≡ [] → items_of result.default_vals ≡ default_values default.entry }
+{
     match default {
         Some(value) => arg.default_value(value),
         None => arg,
@@ -109,17 +135,18 @@ fn with_choices<'a>(arg: Arg<'a>, letter: Option<char>, default: Option<&'a str>
 /// The argument as `clap` has it.
 #[inline(never)]
 fn arg_of<'a>(alloc: Global, argument: &Argument) -> Result<Arg<'a>, AllocError>
-    ensures { IfOk result (λ arg. arg.id.now ≡ argument.now.id.now) }
+    ensures id { IfOk result (λ arg. arg.id.now ≡ argument.now.id.now) }
+    ensures conflicts { IfOk result (λ arg. arg.conflicts.items ≡ argument.now.conflicts.now) }
+    ensures required { IfOk result (λ arg. arg.required ≡ argument.now.is_required) }
+    ensures choices { IfOk result (HasChoices argument.now) }
 {
-    let arg = Arg::new(alloc, argument.id)
+    let arg = ruled_arg(alloc, argument)?
         .help(argument.help)
         .required(argument.is_required)
-        .allow_hyphen_values(argument.may_have_dash)
-        .required_unless_present_any(argument.unless)?
-        .conflicts_with_all(argument.conflicts)?
-        .requires_all(argument.needs)?;
+        .allow_hyphen_values(argument.may_have_dash);
     let arg = with_form(arg, argument.form);
-    Ok(with_choices(arg, argument.letter, argument.default))
+    let arg = with_letter(arg, argument.letter);
+    Ok(with_default(arg, argument.default))
 }
 
 /// The command with these arguments too.
@@ -130,6 +157,8 @@ fn with_arguments<'a>(
 ) -> Result<Command<'a>, AllocError>
     ensures name { IfOk result (λ r. command_name r ≡ command_name command.entry) }
     ensures ids { IfOk result (λ r. ids_of r ≡ ids_of command.entry ++ ids_in arguments.now) }
+    ensures conflicts { IfOk result (λ r. conflicts_of r ≡ conflicts_of command.entry ++ conflicts_in arguments.now) }
+    ensures required { IfOk result (λ r. required_of r ≡ required_of command.entry ++ required_in arguments.now) }
 {
     for argument in arguments {
         command = command.arg(arg_of(alloc, argument)?)?;

@@ -2,7 +2,7 @@
 ghost use Rattle.std.specs.Prelude.{◌≡◌, ◌≤◌, codes, IfOk, IfErr, option_map};
 ghost use Rattle.clap.specs.Matches.{first_value, found_of};
 ghost use Rattle.netset_commands.specs.FitOptions.{IsNumberGiven};
-ghost use Rattle.netset_commands.specs.TallyOptions.{IsFamilyLength, IsTallyRequest};
+ghost use Rattle.netset_commands.specs.TallyOptions.{IsFamilyLength, IsLogGiven, IsTallyOfLog, IsTallyRequest};
 
 use crate::after::{AFTER_OPTION, after_or_report};
 use crate::arguments::{
@@ -122,17 +122,30 @@ fn top_of(rt: &HostRuntime, matches: &ArgMatches) -> Result<Option<usize>, u8>
     }
 }
 
-/// A log to tally: its name, and which of its networks are counted.
+/// A log to tally: its name, which of its networks are counted, and how many of them are printed.
 #[derive(Clone, Copy)]
 struct Log<'a> {
     name: &'a str,
     request: TallyRequest<'a>,
+    top: Option<usize>,
+}
+
+/// Reads the arguments. If an option has a wrong value, it is reported, and the error is the exit status.
+fn log_of<'a>(rt: &HostRuntime, matches: &ArgMatches<'a>) -> Result<Log<'a>, u8>
+    ensures log { IfOk result (IsLogGiven matches.now) }
+    ensures failed { IfErr result (λ status. status ≡ 2) }
+{
+    let request = request_of(rt, matches)?;
+    let top = top_of(rt, matches)?;
+    let name = name_of_list(matches, FIRST);
+    Ok(Log { name, request, top })
 }
 
 /// Reads the log. If that fails, or if it begins like UTF-16, that is reported, and the error is the exit
 /// status.
 fn read_log(rt: &HostRuntime, log: Log<'_>, writers: &mut Writers<'_>) -> Result<Tally, u8>
-    ensures { IfErr result (λ status. status ≡ 2) }
+    ensures tally { IfOk result (IsTallyOfLog log.entry.request) }
+    ensures failed { IfErr result (λ status. status ≡ 2) }
 {
     let name = log.name;
     let mut input = match open_log(rt, name) {
@@ -167,23 +180,34 @@ fn run_and_report<C: TextCommand>(
     status
 }
 
-/// Reads the log, prints at most the first `top` of its networks with their numbers of lines, and returns the exit
-/// status.
-fn print_networks(
+/// Reads the log, and returns the command that prints at most the first `top` of its networks. If that fails, it is
+/// reported, and the error is the exit status.
+fn networks_command(
     rt: &HostRuntime,
     log: Log<'_>,
-    top: Option<usize>,
     writers: &mut Writers<'_>,
-) -> u8
+) -> Result<TallyCommand, u8>
+    ensures top { IfOk result (λ command. command.top ≡ log.entry.top) }
+    ensures tally { IfOk result (λ command. IsTallyOfLog log.entry.request command.tally) }
+    ensures failed { IfErr result (λ status. status ≡ 2) }
+{
+    let tally = read_log(rt, log, writers)?;
+    let (alloc, top) = (rt.alloc(), log.top);
+    Ok(TallyCommand { alloc, tally, top })
+}
+
+/// Reads the log, prints at most the first `top` of its networks with their numbers of lines, and returns the exit
+/// status.
+fn print_networks(rt: &HostRuntime, log: Log<'_>, writers: &mut Writers<'_>) -> u8
     ensures { result ≤ 2 }
 {
-    let tally = match read_log(rt, log, writers) {
-        Ok(tally) => tally,
-        Err(status) => return status,
-    };
-    let (alloc, nones) = (rt.alloc(), tally.nones);
-    let command = TallyCommand { alloc, tally, top };
-    run_and_report(command, &[log.name], log.name, nones, writers)
+    match networks_command(rt, log, writers) {
+        Ok(command) => {
+            let nones = command.tally.nones;
+            run_and_report(command, &[log.name], log.name, nones, writers)
+        }
+        Err(status) => status,
+    }
 }
 
 /// Reads the list of this name and the log, prints the number of lines of each entry of the list, and returns the exit
@@ -228,18 +252,12 @@ fn list_of<'a>(matches: &ArgMatches<'a>) -> Option<&'a str>
 pub fn tally_log(rt: &HostRuntime, matches: &ArgMatches, writers: &mut Writers<'_>) -> u8
     ensures { result ≤ 2 }
 {
-    let request = match request_of(rt, matches) {
-        Ok(request) => request,
+    let log = match log_of(rt, matches) {
+        Ok(log) => log,
         Err(status) => return status,
     };
-    let top = match top_of(rt, matches) {
-        Ok(top) => top,
-        Err(status) => return status,
-    };
-    let name = name_of_list(matches, FIRST);
-    let log = Log { name, request };
     match list_of(matches) {
         Some(list) => print_numbers(rt, list, log, writers),
-        None => print_networks(rt, log, top, writers),
+        None => print_networks(rt, log, writers),
     }
 }

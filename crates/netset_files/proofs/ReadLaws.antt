@@ -1,9 +1,32 @@
 -- Lists that are read one after another.
-use Rattle.std.proofs.Common.{Option, Some, None, Result, Ok, Err, IfOk, IfSome, IfNone}
+use Rattle.std.proofs.Common.{◌≡◌, ◌↔◌, ◌+◌, ◌<◌, ℕ, Bool, List, Option, Some, None, Result, Ok, Err}
+use Rattle.std.proofs.Common.{IsTrue, IfOk, IfSome, IfNone, length, take, get_or, sym, subst}
 use Rattle.std.proofs.lemmas.Fn.{FoldsTo-push}
+use Rattle.std.proofs.lemmas.List.{take_more}
+use Rattle.std.specs.Borrow.{Bor}
+use Rattle.netset_files.specs.ListReads.{AreAllowed, Left, MayBeAsItIs, ReadsAllowed}
+use Rattle.netset_files.specs.declared.lists.Reports.{Reports}
+
+module _ {Reader Value : Type 0} (Reads : Left → Left → Reader → Value → Reader → Type 0) (holds : Reader → Bool)
+    (refused : Reader → ℕ) (reports now : Reports) (names : List (Bor (List ℕ))) (i : ℕ) (d : Bor (List ℕ))
+    (first : Reader × Bool) where
+  -- one more list, and whether the lists may be as they are
+  pub next_allowed : (old : Reader) (a : Bool) (value : Value) (new : Reader) (b : Bool) → now ≡ reports
+      → i < length names → AreAllowed Reads holds refused reports first (take i names) (old, a)
+      → Reads None None old value new
+      → (IsTrue b ↔ (IsTrue a × MayBeAsItIs holds refused now (get_or names i d).now old new))
+      → AreAllowed Reads holds refused reports first (take (i + 1) names) (new, b)
+  next_allowed old a value new b same within before read may =
+      let Step = ReadsAllowed Reads holds refused reports in
+      let name = get_or names i d in
+      let last : Reader × Bool = (new, b) in
+      let here = subst (λ r. IsTrue b ↔ (IsTrue a × MayBeAsItIs holds refused r name.now old new)) same may in
+      let step : Step (old, a) name last = (value, read, here) in
+      subst (λ l. AreAllowed Reads holds refused reports first l last) (sym (take_more names i d within))
+      (FoldsTo-push Step first (take i names) (old, a) name last before step)
 
 -- one more list
-pub ruleset one_more = (FoldsTo-push)
+pub ruleset one_more = (FoldsTo-push, next_allowed)
 
 -- if there is none: what follows from it
 pub none_weaker : {X : Type 0} (o : Option X) (P Q : Type 0) → (P → Q) → IfNone o P → IfNone o Q

@@ -1,4 +1,5 @@
 -- The definitions that the contracts of this crate use.
+pub mod FileNumbers
 pub mod Files
 pub mod LineBytes
 pub mod ListReads

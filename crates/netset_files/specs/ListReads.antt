@@ -1,5 +1,7 @@
 -- Lists that are read one after another.
-use Rattle.std.specs.Prelude.{◌≡◌, ◌≢◌, ◌⊎◌, ◌∷◌, ◌++◌, [], ℕ, Bool, true, false, List, length, Option, Some, None}
+use Rattle.std.specs.Prelude.{◌≡◌, ◌≢◌, ◌⊎◌, ◌↔◌, ◌∷◌, ◌++◌, [], ℕ, Bool, true, false, List, length, Option, Some}
+use Rattle.std.specs.Prelude.{None, IsTrue}
+use Rattle.std.specs.Borrow.{Bor}
 use Rattle.std.specs.List.{FoldsTo}
 use Rattle.ipnet_text.specs.Inputs.{GaveWhole}
 use Rattle.netset_files.specs.Files.{standard_input}
@@ -40,6 +42,21 @@ abbrev pub MayBeAsItIs : {Reader : Type 0} → (Reader → Bool) → (Reader →
 MayBeAsItIs holds refused reports name old new = (holds new ≡ true)
     ⊎ (((reports.skips_bad ≡ false) × (refused new ≢ refused old))
     ⊎ ((name ≡ standard_input) ⊎ (reports.empties ≢ Refuse)))
+
+-- One list more was read, which has this name. A state is a reader, and whether the lists that it read may be as they
+-- are: they may if and only if they might before, and this list may.
+abbrev pub ReadsAllowed : {Reader Value : Type 0} → (Left → Left → Reader → Value → Reader → Type 0)
+    → (Reader → Bool) → (Reader → ℕ) → Reports → (Reader × Bool) → Bor (List ℕ) → (Reader × Bool) → Type 0
+ReadsAllowed {Reader} {Value} Reads holds refused reports old name new =
+    (value : Value) × Reads None None old.0 value new.0
+    × (IsTrue new.1 ↔ (IsTrue old.1 × MayBeAsItIs holds refused reports name.now old.0 new.0))
+
+-- From the first state to the last, lists of these names were read one after another.
+-- Example: after `a b` the lists may not be as they are if `a` has nothing, files without an entry are refused, and `b`
+-- has an entry.
+abbrev pub AreAllowed : {Reader Value : Type 0} → (Left → Left → Reader → Value → Reader → Type 0)
+    → (Reader → Bool) → (Reader → ℕ) → Reports → (Reader × Bool) → List (Bor (List ℕ)) → (Reader × Bool) → Type 0
+AreAllowed Reads holds refused reports = FoldsTo (ReadsAllowed Reads holds refused reports)
 
 -- The extraction has read one text more than before.
 abbrev pub ExtractsNext : Left → Left → Extraction → Extraction → Type 0

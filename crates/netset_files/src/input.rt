@@ -1,16 +1,17 @@
 //! The bytes of a list, from a file or from standard input.
-ghost use Rattle.std.specs.Prelude.{◌≡◌, ◌↔◌, ◌<◌, ◌≤◌, ◌⊎◌, length, take, false, pos, Some, None, IsTrue, IsErr};
+ghost use Rattle.std.specs.Prelude.{◌≡◌, ◌↔◌, ◌≤◌, ◌⊎◌, length, take, false, pos, Some, None, IsTrue, IsErr};
 ghost use Rattle.std.specs.Prelude.{IfErr, IfOk, IsOkAnd};
-ghost use Rattle.std.specs.Fs.{IsDir, IsFile, file_type, metadata_len};
+ghost use Rattle.std.specs.Fs.{IsDir, file_type};
 ghost use Rattle.std.specs.IoError.{raw_os_error};
 ghost use Rattle.netset_files.specs.Files.{IsOutOfMemory};
+ghost use Rattle.netset_files.specs.FileNumbers.{IsReadAgain};
 ghost use Rattle.netset_files.specs.Utf16.{is_one_null, alternate, has_utf16_mark, begins_utf16};
 ghost use Rattle.ipnet_lists.specs.declared.reading.ReadFailure.TheVariants.{Memory, Unreadable};
 
+use crate::file_number::FileNumber;
 use ipnet_lists::{ReadFailure, is_entry};
 use std::fs::{File, Metadata};
 use std::io::{ErrorKind, Read, Stdin, Write};
-use std::os::unix::fs::MetadataExt;
 use std::{fs, io};
 
 /// The path of standard input.
@@ -99,13 +100,11 @@ impl Read for Input {
     }
 }
 
-/// Whether the two are one regular file that has bytes.
-fn are_one_file(input: &Metadata, written: &Metadata) -> bool
-    ensures file { IsTrue result → IsFile (file_type input.now) }
-    ensures bytes { IsTrue result → 0 < metadata_len input.now }
+/// Whether the input, which has this number, is a regular file that has bytes, and is the file that is written.
+fn are_one_file(input: &Metadata, number: FileNumber, written: FileNumber) -> bool
+    ensures { IsTrue result ↔ IsReadAgain input.now number written }
 {
-    let is_same = (input.dev(), input.ino()) == (written.dev(), written.ino());
-    input.is_file() && input.len() > 0 && is_same
+    input.is_file() && input.len() > 0 && number.is(written)
 }
 
 impl Input {
@@ -125,7 +124,8 @@ impl Input {
             Source::File(file) => file.metadata(),
         };
         match (input, fs::metadata(rt, stream.path)) {
-            (Ok(input), Ok(written)) if are_one_file(&input, &written) => {
+            (Ok(input), Ok(written))
+                if are_one_file(&input, FileNumber::of(&input), FileNumber::of(&written)) => {
                 Err(report_fault(rt, name, stream.fault))
             }
             _ => Ok(()),

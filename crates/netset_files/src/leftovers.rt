@@ -1,15 +1,15 @@
 //! Unfinished files that processes left when they were ended.
+use crate::file_number::FileNumber;
 use netset_lib::is_unfinished_name;
 use std::fs;
 use std::fs::File;
-use std::os::unix::fs::MetadataExt;
 use std::path::Path;
 
 /// Whether the open file is still the one with this path.
 #[inline(never)]
 pub fn is_at(rt: &HostRuntime, file: &File, path: Path<'_>) -> bool {
     match (file.metadata(), fs::symlink_metadata(rt, path)) {
-        (Ok(open), Ok(found)) => (open.dev(), open.ino()) == (found.dev(), found.ino()),
+        (Ok(open), Ok(found)) => FileNumber::of(&open).is(FileNumber::of(&found)),
         _ => false,
     }
 }

@@ -2,6 +2,7 @@
 #![tactic(auto)]
 
 mod asked;
+mod file_number;
 mod input;
 mod leftovers;
 mod lists;
@@ -16,4 +17,4 @@ pub use lists::{Empties, ListReader, Lists, Reports, read_rules};
 pub use output::{AnswerWriter, CLOSED, Ends, Faults, Writers};
 pub use reading::{bytes_of, bytes_with_entries, may_have_lines, whole_of};
 pub use replacement::OutputFailure;
-pub use skipped::{report_bad_lines, status_after};
+pub use skipped::report_bad_lines;

@@ -1,10 +1,12 @@
 //! The lists, read from files and from standard input.
 ghost use Rattle.std.specs.Prelude.{◌≡◌, ◌≢◌, ◌⊎◌, ◌↔◌, ◌-◌, ℕ, Bool, List, true, false, take, length};
 ghost use Rattle.std.specs.Prelude.{None, Some, string_bytes, IsTrue, IsOk, IsErr, IfOk, IfErr, IfSome, IfNone};
+ghost use Rattle.ipnet_lists.specs.RefusedLines.{shown_refusals};
 ghost use Rattle.netset_files.specs.Files.{entry_list, standard_input};
-ghost use Rattle.netset_files.specs.ListReads.{AreRead, AreReadThen, Left, MayBeAsItIs};
+ghost use Rattle.netset_files.specs.LineBytes.{HasRules, MayHaveRules};
+ghost use Rattle.netset_files.specs.ListReads.{AreAllowed, AreRead, AreReadThen, Left, MayBeAsItIs};
 ghost use Rattle.netset_files.specs.declared.lists.Empties.TheVariants.{Refuse};
-ghost use Rattle.netset_lib.specs.RuleContentsOf.{WasRuleListRead};
+ghost use Rattle.netset_lib.specs.RuleContentsOf.{WasRuleListRead, contents_of};
 
 use crate::input::{ENTRY_LIST, STANDARD_INPUT, Unread, open_list, report_unread};
 use ipnet::Grammar;
@@ -314,6 +316,8 @@ impl<L: ListReader> Lists<L> {
     ) -> Result<(Lists<L>, Vec<L::List>), u8>
         ensures read { IfOk result (λ r. AreRead L.reads self.reader r.1.items r.0.reader) }
         ensures count { IfOk result (λ r. length r.1.items ≡ length names.now) }
+        ensures allowed { IfOk result (λ r. AreAllowed L.reads L.holds L.refused self.reports
+            (self.reader, self.allowed) names.now (r.0.reader, r.0.allowed)) }
         ensures reports { IfOk result (λ r. r.0.reports ≡ self.reports) }
         ensures failed { IfErr result (λ status. status ≡ 2) }
     {
@@ -341,14 +345,16 @@ impl<L: ListReader> Lists<L> {
             × (length r.1.items ≡ length names.now))) }
         ensures entries { IfSome entries (λ text. IfOk result (λ r.
             AreReadThen L.reads (string_bytes text) (length names.now - 1) self.reader r.1.items r.0.reader)) }
+        ensures allowed { IfNone entries (IfOk result (λ r. AreAllowed L.reads L.holds L.refused self.reports
+            (self.reader, self.allowed) names.now (r.0.reader, r.0.allowed))) }
         ensures reports { IfOk result (λ r. r.0.reports ≡ self.reports) }
         ensures failed { IfErr result (λ status. status ≡ 2) }
     {
-        let files = file_names(names, entries.is_some());
-        let (lists, mut all) = self.read_files(rt, files)?;
         let Some(entries) = entries else {
-            return Ok((lists, all));
+            return self.read_files(rt, names);
         };
+        let files = names_before_last(names);
+        let (lists, mut all) = self.read_files(rt, files)?;
         let (lists, list) = lists.read_entries(rt, entries.as_str())?;
         if all.push(list).is_err() {
             return Err(report_unread(rt, ENTRY_LIST, &Unread::of_known_bytes(ReadFailure::Memory)));
@@ -382,21 +388,40 @@ impl<L: ListReader> Lists<L> {
     }
 }
 
-/// Returns the names of files, and of standard input, of these names of lists: all of them, or, if the last list is the
-/// list of entries, those before it.
-fn file_names<'n, 'a>(names: &'n [&'a str], has_entries: bool) -> &'n [&'a str]
-    ensures all { has_entries ≡ false → result.now ≡ names.now }
-    ensures front { has_entries ≡ true → result.now ≡ take (length names.now - 1) names.now }
+/// Returns the names before the last one.
+fn names_before_last<'n, 'a>(names: &'n [&'a str]) -> &'n [&'a str]
+    ensures { result.now ≡ take (length names.now - 1) names.now }
 {
-    if has_entries && !names.is_empty() {
-        &names[..names.len() - 1]
-    } else {
+    if names.is_empty() {
         names
+    } else {
+        &names[..names.len() - 1]
     }
 }
 
-/// Reads the list of rules of this name, and reports its bytes as `Lists` does. `None` if a file has no rule, and
-/// that is to be refused.
+/// The number of rules of the list.
+fn rule_count(list: &RuleList) -> usize
+    ensures { result ≡ length (contents_of list.now).lines }
+{
+    list.lines().len()
+}
+
+/// The number of refused lines of the list that are shown.
+fn shown_count(list: &RuleList) -> usize
+    ensures { result ≡ length (shown_refusals list.now.refused) }
+{
+    list.refused().len()
+}
+
+/// Whether the list has a rule or a refused line.
+fn has_rules(list: &RuleList) -> bool
+    ensures { IsTrue result ↔ HasRules list.now }
+{
+    rule_count(list) > 0 || shown_count(list) > 0
+}
+
+/// Reads the list of rules of this name, and reports its bytes as `Lists` does. `None` if and only if a file has no
+/// rule, and that is to be refused. A line that is refused counts as a rule.
 #[inline(never)]
 pub fn read_rules(
     rt: &HostRuntime,
@@ -407,6 +432,7 @@ pub fn read_rules(
     ensures read { IfOk result (λ found. IfSome found (λ list. (bytes : List ℕ) × WasRuleListRead grammar bytes list)) }
     ensures none { IfOk result (λ found. IfNone found
         ((name.now ≢ standard_input) × (reports.empties ≡ Refuse))) }
+    ensures some { IfOk result (λ found. IfSome found (MayHaveRules reports name.now)) }
 {
     let mut input = open_list(rt, name)?;
     let list = match RuleList::read(rt.alloc(), &mut input, grammar) {
@@ -414,8 +440,7 @@ pub fn read_rules(
         Err(failure) => return Err(input.unread(failure)),
     };
     reports.report_bytes(rt, name, input.count, input.count);
-    let is_empty = list.lines().is_empty() && list.refused().is_empty();
-    if is_empty && !reports.report_empty(rt, name, "rules") {
+    if !has_rules(&list) && !reports.report_empty(rt, name, "rules") {
         return Ok(None);
     }
     Ok(Some(list))

@@ -1,13 +1,14 @@
 //! The output of a command: standard output, or a file that only a whole answer replaces.
-ghost use Rattle.std.specs.Prelude.{◌≡◌, ◌≢◌, ◌≤◌, ◌⊎◌, ◌↔◌, true, false, IfOk, IfErr, IsTrue};
+ghost use Rattle.std.specs.Prelude.{◌≡◌, ◌≢◌, ◌<◌, ◌≤◌, ◌⊎◌, ◌↔◌, true, false, IfOk, IfErr, IsTrue};
 ghost use Rattle.std.specs.Option.{option_map};
 ghost use Rattle.ipnet_text.specs.Watched.{HasFailed};
-ghost use Rattle.netset_files.specs.Outputs.{IsFile, IsNamedFile};
-ghost use Rattle.netset_files.specs.Statuses.{IsUsualStatus};
+ghost use Rattle.netset_files.specs.Outputs.{IsClosedBy, IsFile, IsNamedFile};
+ghost use Rattle.netset_files.specs.Statuses.{IsExitStatus, IsUsualStatus};
 
 use crate::input::{ERROR_STREAM, Input, OUTPUT_STREAM};
 use crate::lists::Reports;
 use crate::replacement::{OutputFailure, Replacement};
+use crate::skipped::status_after;
 use ipnet_text::Watched;
 use netset_lib::{Output, finish};
 use std::cell::Cell;
@@ -21,27 +22,20 @@ const STANDARD_OUTPUT: &str = "-";
 /// SIGPIPE ended.
 pub const CLOSED: u8 = 141;
 
-/// How the output of a command ended early.
+/// Whether the output of a command ended early.
 #[derive(Drop)]
 pub struct Ends {
-    /// Whether the reader of standard output has closed it.
-    closed: Cell<bool>,
-    /// Whether a failure of the file was reported, with its name.
-    reported: Cell<bool>,
+    /// Whether nothing more is to be reported: the reader of standard output has closed it, or a failure of the file
+    /// was reported, with its name.
+    over: Cell<bool>,
 }
 
 impl Ends {
     /// The output has not ended.
     pub fn new() -> Ends {
         Ends {
-            closed: Cell::new(false),
-            reported: Cell::new(false),
+            over: Cell::new(false),
         }
-    }
-
-    /// Whether nothing more is to be reported.
-    fn is_over(&self) -> bool {
-        self.closed.get() || self.reported.get()
     }
 }
 
@@ -59,12 +53,26 @@ pub struct AnswerWriter<'a> {
     is_published: bool,
     /// Whether the command has no answer, so that the file stays as it is.
     is_withheld: bool,
+    /// Whether the reader of standard output has closed it.
+    is_closed: bool,
     ends: &'a Ends,
 }
 
+/// Whether this error of a write says that the reader of standard output has closed it.
+fn is_closed_by(destination: &Destination<'_>, error: &io::Error) -> bool
+    ensures { IsTrue result ↔ IsClosedBy destination.now error.now }
+{
+    match destination {
+        Destination::Standard(_) => error.kind() == ErrorKind::BrokenPipe,
+        Destination::File(_) => false,
+    }
+}
+
 impl AnswerWriter<'_> {
-    /// Returns whether the answer is written to a terminal.
-    pub fn is_terminal(&self) -> bool {
+    /// Returns whether the answer is written to a terminal. A file is not a terminal.
+    pub fn is_terminal(&self) -> bool
+        ensures { IsTrue result → ¬ (IsFile self.now.destination) }
+    {
         match &self.destination {
             Destination::Standard(out) => out.is_terminal(),
             Destination::File(_) => false,
@@ -72,21 +80,22 @@ impl AnswerWriter<'_> {
     }
 
     /// Notes that a write failed: that the reader of standard output has closed it, or reports that the file cannot be
-    /// written. Nothing more is reported then.
-    fn note(&self, error: &io::Error) {
+    /// written. Nothing more is reported then. Returns whether the reader has closed standard output.
+    fn note(&self, error: &io::Error) -> bool
+        ensures { IsTrue result ↔ IsClosedBy self.now.destination error.now }
+    {
+        let is_closed = is_closed_by(&self.destination, error);
         match &self.destination {
-            Destination::Standard(_) if error.kind() == ErrorKind::BrokenPipe => self
-                .ends
-                .closed
-                .set(true),
+            Destination::Standard(_) if is_closed => self.ends.over.set(true),
             Destination::Standard(_) => {}
             Destination::File(_)
-                if error.kind() == ErrorKind::Interrupted || self.ends.reported.get() => {}
+                if error.kind() == ErrorKind::Interrupted || self.ends.over.get() => {}
             Destination::File(file) => {
                 file.report_outcome("cannot be written", error);
-                self.ends.reported.set(true);
+                self.ends.over.set(true);
             }
         }
+        is_closed
     }
 }
 
@@ -99,7 +108,9 @@ impl Write for AnswerWriter<'_> {
         match written {
             Ok(count) => Ok(count),
             Err(error) => {
-                self.note(&error);
+                if self.note(&error) {
+                    self.is_closed = true;
+                }
                 Err(error)
             }
         }
@@ -117,7 +128,7 @@ impl Write for AnswerWriter<'_> {
 fn replace_file(file: &Replacement<'_>, ends: &Ends) -> io::Result<()> {
     let result = file.replace();
     if result.is_err() {
-        ends.reported.set(true);
+        ends.over.set(true);
     }
     result
 }
@@ -132,7 +143,9 @@ impl Output for AnswerWriter<'_> {
         };
         self.is_published = result.is_ok();
         if let Err(error) = &result {
-            self.note(error);
+            if self.note(error) {
+                self.is_closed = true;
+            }
         }
         result
     }
@@ -156,7 +169,7 @@ impl<'a> Faults<'a> {
 
 impl Write for Faults<'_> {
     fn write(&mut self, buf: &[u8]) -> io::Result<usize> {
-        if self.ends.is_over() {
+        if self.ends.over.get() {
             return Ok(buf.len());
         }
         self.err.write(buf)
@@ -191,6 +204,7 @@ impl<'a> Writers<'a> {
             ↔ IsNamedFile (option_map (λ text. text.now) name.entry)) }
         ensures answer { IfOk result (λ writers. writers.answer.is_withheld ≡ false) }
         ensures unpublished { IfOk result (λ writers. writers.answer.is_published ≡ false) }
+        ensures unclosed { IfOk result (λ writers. writers.answer.is_closed ≡ false) }
         ensures reports { IfOk result (λ writers. writers.reports ≡ reports) }
         ensures skipped { IfOk result (λ writers. writers.skipped ≡ false) }
         ensures sound { IfOk result (λ writers. ¬ (HasFailed writers.faults)) }
@@ -205,6 +219,7 @@ impl<'a> Writers<'a> {
             destination,
             is_published: false,
             is_withheld: false,
+            is_closed: false,
             ends: faults.ends,
         };
         Ok(Writers {
@@ -239,12 +254,15 @@ impl<'a> Writers<'a> {
         status
     }
 
-    /// Ends a command with this status, and returns the exit status of the program. The file is replaced at status 0
-    /// or 1, if the command has an answer; otherwise it stays as it is.
+    /// Ends a command with this status, and returns the exit status of the program. It is 141 if the reader of standard
+    /// output has closed it. The file is replaced at status 0 or 1, if the command has an answer; otherwise it stays as
+    /// it is.
     #[inline(never)]
     pub fn end(&mut self, status: u8) -> u8
         ensures usual { status ≤ 2 → IsUsualStatus result }
         ensures kept { (result ≡ status) ⊎ ((result ≡ 141) ⊎ ((status ≤ 1) × (result ≡ 2))) }
+        ensures closed { IsTrue self.new.answer.is_closed → result ≡ 141 }
+        ensures only_closed { status ≤ 2 → result ≡ 141 → IsTrue self.new.answer.is_closed }
         ensures withheld { self.old.answer.is_withheld ≡ true → (result ≡ status) ⊎ (result ≡ 141) }
         ensures published { self.old.answer.is_withheld ≡ false → self.old.answer.is_published ≡ false
             → result ≤ 1 → IsTrue self.new.answer.is_published }
@@ -259,9 +277,20 @@ impl<'a> Writers<'a> {
                 file.discard();
             }
         }
-        if self.answer.ends.closed.get() {
+        if self.answer.is_closed {
             return CLOSED;
         }
         status
+    }
+
+    /// Ends a run whose command ended with this status, as `end` does. The exit status is 3 in place of 0 and 1 if bad
+    /// lines were skipped. `skips` says whether bad lines are to be skipped.
+    pub fn end_run(&mut self, skips: bool, status: u8) -> u8
+        ensures exit { status ≤ 2 → IsExitStatus result }
+        ensures skipped { status ≤ 2 → result ≡ 3 → IsTrue skips × IsTrue self.old.skipped }
+        ensures incomplete { IsTrue skips → IsTrue self.old.skipped → 1 < result }
+    {
+        let skipped = skips && self.skipped;
+        status_after(skipped, self.end(status))
     }
 }

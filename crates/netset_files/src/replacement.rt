@@ -199,7 +199,9 @@ impl<'a> Replacement<'a> {
     /// and creates a new unfinished file with this owner and group. A new file gets the mode that the system gives to
     /// new files.
     #[inline(never)]
-    pub fn open(rt: &HostRuntime, name: &'a str) -> Result<Replacement<'a>, OutputFailure> {
+    pub fn open(rt: &HostRuntime, name: &'a str) -> Result<Replacement<'a>, OutputFailure>
+        ensures { IfOk result (λ file. file.name.now ≡ name.now) }
+    {
         let (target, found) = find_target(rt, name)?;
         let (folder, base) = folder_and_name(target.as_path())?;
         let opened = File::open(rt, folder)?;

@@ -1,5 +1,5 @@
 //! Bad lines that are skipped: their report, and the exit status.
-ghost use Rattle.std.specs.Prelude.{◌≡◌, IsTrue, IsOk, OnOk, IfErr};
+ghost use Rattle.std.specs.Prelude.{◌≡◌, ◌<◌, IsTrue, IsOk, OnOk, IfErr};
 ghost use Rattle.ipnet_lists.specs.Reports.{ExplainsEntry, IsReport, IsReportBegun, OfNew};
 ghost use Rattle.ipnet_text.specs.Outputs.{IsWritten, IsFrontWritten};
 ghost use Rattle.ipnet_text.specs.Watched.{writer_of, HasFailed};
@@ -53,6 +53,7 @@ pub fn status_after(skipped: bool, status: u8) -> u8
     ensures status { result ≡ status_after skipped status }
     ensures exit { IsUsualStatus status → IsExitStatus result }
     ensures skipped { IsUsualStatus status → result ≡ 3 → IsTrue skipped }
+    ensures incomplete { IsTrue skipped → 1 < result }
 {
     if skipped && status <= 1 {
         SKIPPED
