@@ -1,5 +1,5 @@
 -- The flags of a command line, the names of its lists, and the operation that it asks for.
-use Rattle.std.specs.Prelude.{◌≡◌, ◌<◌, ◌∷◌, ◌++◌, Bool, [], length, map, codes}
+use Rattle.std.specs.Prelude.{◌≡◌, ◌<◌, ◌++◌, ℕ, List, Bool, length, map, codes}
 use Rattle.clap.specs.declared.parser.matches.ArgMatches.{ArgMatches}
 use Rattle.ipnet.specs.declared.parser.Grammar.{Grammar}
 use Rattle.ipnet_lists.specs.Names.{Names}
@@ -28,12 +28,9 @@ AreFamilies matches families = (ipv4 : Bool) × (ipv6 : Bool) × IsFlag matches 
 
 -- These are the names of the first list of a command line, and of the other.
 -- Example: `a` and `b` of `changes a b`, and `a` and `-e` of `changes a -e ::1`.
-abbrev pub AreTwoNames : ArgMatches → Names → Type 0
-AreTwoNames matches [] = ⊥
-AreTwoNames matches (first ∷ []) = ⊥
-AreTwoNames matches (first ∷ other ∷ []) = (first.now ≡ list_name matches (codes "first"))
-    × IsLastName matches (codes "others") other.now
-AreTwoNames matches (first ∷ other ∷ name ∷ names) = ⊥
+pub record AreTwoNames (matches : ArgMatches) (first other : List ℕ) : Type 0 where
+  pub first_is : first ≡ list_name matches (codes "first")
+  pub other_is : IsLastName matches (codes "others") other
 
 -- Both lists of a command with two lists are standard input. Example: `changes -` and `changes - -`.
 abbrev pub AreBothInput : ArgMatches → Type 0

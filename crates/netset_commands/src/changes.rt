@@ -76,7 +76,7 @@ pub fn print_changes(rt: &HostRuntime, matches: &ArgMatches, writers: &mut Write
     ensures { result ≤ 2 }
 {
     let names = match two_or_report(rt, matches) {
-        Ok(names) => names,
+        Ok((first, other)) => [first, other],
         Err(status) => return status,
     };
     match read_pair(rt, matches, &names, writers) {

@@ -77,8 +77,8 @@ pub fn names_of<'a>(alloc: Global, matches: &ArgMatches<'a>) -> Result<Vec<&'a s
 }
 
 /// The names of the two lists of a command, in order. They cannot both be standard input.
-fn names_of_two<'a>(matches: &ArgMatches<'a>) -> Result<[&'a str; 2], ArgumentFailure>
-    ensures named { IfOk result (AreTwoNames matches.now) }
+fn names_of_two<'a>(matches: &ArgMatches<'a>) -> Result<(&'a str, &'a str), ArgumentFailure>
+    ensures named { IfOk result (λ names. AreTwoNames matches.now names.0.now names.1.now) }
     ensures twice { IsErr result ↔ AreBothInput matches.now }
     ensures failed { IfErr result (λ failure. failure ≡ InputTwice) }
 {
@@ -87,12 +87,15 @@ fn names_of_two<'a>(matches: &ArgMatches<'a>) -> Result<[&'a str; 2], ArgumentFa
     if first == STANDARD_INPUT && other == STANDARD_INPUT {
         return Err(ArgumentFailure::InputTwice);
     }
-    Ok([first, other])
+    Ok((first, other))
 }
 
 /// Returns what `names_of_two` does. If that fails, it is reported, and the error is the exit status.
-pub fn two_or_report<'a>(rt: &HostRuntime, matches: &ArgMatches<'a>) -> Result<[&'a str; 2], u8>
-    ensures named { IfOk result (AreTwoNames matches.now) }
+pub fn two_or_report<'a>(
+    rt: &HostRuntime,
+    matches: &ArgMatches<'a>,
+) -> Result<(&'a str, &'a str), u8>
+    ensures named { IfOk result (λ names. AreTwoNames matches.now names.0.now names.1.now) }
     ensures twice { IsErr result ↔ AreBothInput matches.now }
     ensures failed { IfErr result (λ status. status ≡ 2) }
 {

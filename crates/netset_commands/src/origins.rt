@@ -112,7 +112,7 @@ pub fn validate_origins(rt: &HostRuntime, matches: &ArgMatches, writers: &mut Wr
     ensures { result ≤ 2 }
 {
     let names = match two_or_report(rt, matches) {
-        Ok(names) => names,
+        Ok((first, other)) => [first, other],
         Err(status) => return status,
     };
     let (grammar, why) = (grammar_of(matches), is_set(matches, WHY));

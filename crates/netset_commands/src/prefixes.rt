@@ -112,7 +112,7 @@ pub fn judge_networks(rt: &HostRuntime, matches: &ArgMatches, writers: &mut Writ
     ensures { result ≤ 2 }
 {
     let names = match two_or_report(rt, matches) {
-        Ok(names) => names,
+        Ok((first, other)) => [first, other],
         Err(status) => return status,
     };
     if is_comparison(matches) {

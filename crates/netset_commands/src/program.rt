@@ -166,9 +166,17 @@ fn open_and_run(rt: &HostRuntime, name: &str, matches: &ArgMatches) -> u8
     ensures exit { IsExitStatus result }
     ensures skipped { result ≡ 3 → IsFlag matches.now (codes "skip-bad") true }
 {
-    let file = matches.get_str(OUTPUT);
     let ends = Ends::new();
-    let mut faults = Faults::new(rt, &ends);
+    run_with_ends(rt, &ends, name, matches)
+}
+
+/// The same, with the memory of streams that were closed. The borrow checker covers references of one lifetime.
+fn run_with_ends<'x>(rt: &'x HostRuntime, ends: &'x Ends, name: &str, matches: &ArgMatches) -> u8
+    ensures exit { IsExitStatus result }
+    ensures skipped { result ≡ 3 → IsFlag matches.now (codes "skip-bad") true }
+{
+    let file = matches.get_str(OUTPUT);
+    let mut faults = Faults::new(rt, ends);
     let reports = reports_of(matches);
     let mut writers = match Writers::open(rt, file, reports, &mut faults) {
         Ok(writers) => writers,
@@ -338,7 +346,7 @@ fn run_query(rt: &HostRuntime, query: Query, matches: &ArgMatches, writers: &mut
     ensures { result ≤ 2 }
 {
     let names = match two_or_report(rt, matches) {
-        Ok(names) => names,
+        Ok((first, other)) => [first, other],
         Err(status) => return status,
     };
     let lists = match set_reader(rt, matches) {

@@ -54,7 +54,7 @@ pub fn route_with_text(rt: &HostRuntime, matches: &ArgMatches, writers: &mut Wri
     ensures { result ≤ 2 }
 {
     let names = match two_or_report(rt, matches) {
-        Ok(names) => names,
+        Ok((first, other)) => [first, other],
         Err(status) => return status,
     };
     let (table, list) = match two_bytes(rt, matches, &names, "entries", writers.reports) {
@@ -77,7 +77,7 @@ pub fn route_all(rt: &HostRuntime, matches: &ArgMatches, writers: &mut Writers<'
     ensures { result ≤ 2 }
 {
     let names = match two_or_report(rt, matches) {
-        Ok(names) => names,
+        Ok((first, other)) => [first, other],
         Err(status) => return status,
     };
     let (bytes, list) = match two_bytes(rt, matches, &names, "entries", writers.reports) {
