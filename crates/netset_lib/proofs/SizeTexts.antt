@@ -1,12 +1,14 @@
 -- The texts of sizes, and texts that end in "hosts".
 use Rattle.std.proofs.Common.{◌≡◌, ◌≢◌, ◌↔◌, ◌++◌, ◌∙◌, ℕ, List, Option, Some, None, Bool, true, false, codes}
-use Rattle.std.proofs.Common.{ap, sym, subst, if◌then◌else◌}
+use Rattle.std.proofs.Common.{ap, sym, subst, arith, ◌≤◌, if◌then◌else◌}
 use Rattle.std.proofs.lemmas.List.{append_cancel_right}
 use Rattle.std.proofs.lemmas.Str.Pattern.{ends_text}
 use Rattle.std.specs.Prelude.{MatchBool}
 use Rattle.std.specs.Str.Pattern.{FindsTextSuffix, HasSuffixMatch, StripsSuffix}
 use Rattle.netset_lib.specs.declared.plan_size.PlanSize.{PlanSize}
 use Rattle.netset_lib.specs.declared.plan_size.PlanSize.TheVariants.{Length, Hosts}
+use Rattle.ipnet.specs.Numerals.{IsDecimal}
+use Rattle.ipnet.specs.declared.parser.Grammar.TheVariants.{Strict}
 use Rattle.netset_lib.specs.PlanAnswers.{IsLengthText}
 use Rattle.netset_lib.specs.declared.plan_word.PlanWordCause.TheVariants as Causes
 use Rattle.netset_lib.specs.PlanWords.{IsHostCount, IsSizeText, size_cause}
@@ -31,6 +33,32 @@ no_hosts text front count e counts none digits n other is =
     let same : digits ≡ front = append_cancel_right digits front (codes "hosts") (sym other ∙ e) in
     let one : count ≡ Some n = (counts n).1 (subst (λ d. IsHostCount d n) same is) in
     absurd cc
+
+-- the number that was read is a number of hosts
+pub host_count : (text : List ℕ) (found : Option ℕ) (count : ℕ)
+    → ((n : ℕ) → (found ≡ Some n) ↔ IsDecimal Strict 39 340282366920938463463374607431768211455 text n)
+    → found ≡ Some count → count ≢ 0 → (n : ℕ) → (Some count ≡ Some n) ↔ IsHostCount text n
+host_count text found count reads is some n = (
+  λ e. let same : count ≡ n = cc in
+    ((reads n).0 (is ∙ e), subst (λ k. 1 ≤ k) same (omega (arith, some))),
+  λ h. sym is ∙ (reads n).1 h.0)
+
+-- 0 is no number of hosts
+pub no_host : (text : List ℕ) (found : Option ℕ) (count : ℕ)
+    → ((n : ℕ) → (found ≡ Some n) ↔ IsDecimal Strict 39 340282366920938463463374607431768211455 text n)
+    → found ≡ Some count → count ≡ 0 → (n : ℕ) → (None ≡ Some n) ↔ IsHostCount text n
+no_host text found count reads is zero n = (
+  λ e. absurd cc,
+  λ h. let one : Some count ≡ Some n = sym is ∙ (reads n).1 h.0 in
+    let same : count ≡ n = cc in absurd (omega (arith, same, zero, h.1)))
+
+-- nor is a text that is no number
+pub no_number : (text : List ℕ) (found : Option ℕ)
+    → ((n : ℕ) → (found ≡ Some n) ↔ IsDecimal Strict 39 340282366920938463463374607431768211455 text n)
+    → found ≡ None → (n : ℕ) → (None ≡ Some n) ↔ IsHostCount text n
+no_number text found reads none n = (
+  λ e. absurd cc,
+  λ h. let one : None ≡ Some n = sym none ∙ (reads n).1 h.0 in absurd cc)
 
 pub ruleset sizes = (stripped_end, no_size, no_hosts)
 

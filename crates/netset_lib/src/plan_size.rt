@@ -21,10 +21,11 @@ pub enum PlanSize {
 fn read_host_count(digits: &str) -> Option<u128>
     ensures { (n : ℕ) → (result ≡ Some n) ↔ IsHostCount digits.now n }
 {
-    match read_u128(digits) {
-        Some(count) if count > 0 => Some(count),
-        _ => None,
+    let count = read_u128(digits)?;
+    if count == 0 {
+        return None;
     }
+    Some(count)
 }
 
 /// Returns the size that the text is, or `None` if it is not one: a prefix length, or a number of hosts from 1 on in
