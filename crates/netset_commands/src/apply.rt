@@ -59,7 +59,7 @@ fn read_both(
     rt: &HostRuntime,
     matches: &ArgMatches,
     names: &[&str; 2],
-    writers: &mut Writers<'_>,
+    writers: &mut Writers<'_, '_>,
 ) -> Result<(IpSet, Vec<u8>), u8>
     ensures { IfErr result (λ status. status ≡ 2) }
 {
@@ -72,7 +72,7 @@ fn read_both(
 
 /// Reads the arguments, the list and the changes, prints the answer, and returns the exit status.
 #[inline(never)]
-pub fn apply_changes(rt: &HostRuntime, matches: &ArgMatches, writers: &mut Writers<'_>) -> u8
+pub fn apply_changes(rt: &HostRuntime, matches: &ArgMatches, writers: &mut Writers<'_, '_>) -> u8
     ensures { result ≤ 2 }
 {
     let names = match two_or_report(rt, matches) {

@@ -177,7 +177,7 @@ fn choice_of(matches: &ArgMatches, is_terminal: bool) -> MarkChoice
 
 /// The characters of the marks: as the flags say, or as the terminal and the locale do. If memory runs out, it is
 /// reported, and the error is the exit status.
-fn marks_of(rt: &HostRuntime, matches: &ArgMatches, writers: &Writers<'_>) -> Result<Marks, u8>
+fn marks_of(rt: &HostRuntime, matches: &ArgMatches, writers: &Writers<'_, '_>) -> Result<Marks, u8>
     ensures { IfErr result (λ status. status ≡ 2) }
 {
     let lc_all = variable(rt, "LC_ALL")?;
@@ -209,7 +209,7 @@ fn row_width_of(matches: &ArgMatches) -> RowWidth
 pub fn bar_form_of(
     rt: &HostRuntime,
     matches: &ArgMatches,
-    writers: &Writers<'_>,
+    writers: &Writers<'_, '_>,
 ) -> Result<BarForm, u8>
     ensures { IfErr result (λ status. status ≡ 2) }
 {
@@ -239,7 +239,7 @@ pub fn frame_of(rt: &HostRuntime, matches: &ArgMatches) -> Result<Frame, u8>
 fn request_of(
     rt: &HostRuntime,
     matches: &ArgMatches,
-    writers: &Writers<'_>,
+    writers: &Writers<'_, '_>,
 ) -> Result<BarRequest, u8>
     ensures { IfErr result (λ status. status ≡ 2) }
 {
@@ -284,7 +284,7 @@ fn draw_comparison(
     matches: &ArgMatches,
     names: &[&str; 2],
     request: BarRequest,
-    writers: &mut Writers<'_>,
+    writers: &mut Writers<'_, '_>,
 ) -> u8
     ensures { result ≤ 2 }
 {
@@ -303,7 +303,7 @@ fn draw_comparison(
 
 /// Reads the arguments and the lists, prints the bar, and returns the exit status.
 #[inline(never)]
-pub fn draw_bar(rt: &HostRuntime, matches: &ArgMatches, writers: &mut Writers<'_>) -> u8
+pub fn draw_bar(rt: &HostRuntime, matches: &ArgMatches, writers: &mut Writers<'_, '_>) -> u8
     ensures { result ≤ 2 }
 {
     let request = match request_of(rt, matches, writers) {

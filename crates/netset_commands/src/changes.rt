@@ -72,7 +72,7 @@ fn changes_command(alloc: Global, matches: &ArgMatches, sets: (IpSet, IpSet)) ->
 
 /// Reads the arguments and the lists, prints the changes, and returns the exit status.
 #[inline(never)]
-pub fn print_changes(rt: &HostRuntime, matches: &ArgMatches, writers: &mut Writers<'_>) -> u8
+pub fn print_changes(rt: &HostRuntime, matches: &ArgMatches, writers: &mut Writers<'_, '_>) -> u8
     ensures { result ≤ 2 }
 {
     let names = match two_or_report(rt, matches) {

@@ -62,7 +62,7 @@ pub const OVERLAPS_COMMAND: Subcommand = Subcommand {
 
 /// Reads the list, and prints the smallest networks around its addresses.
 #[inline(never)]
-pub fn print_supernet(rt: &HostRuntime, matches: &ArgMatches, writers: &mut Writers<'_>) -> u8
+pub fn print_supernet(rt: &HostRuntime, matches: &ArgMatches, writers: &mut Writers<'_, '_>) -> u8
     ensures { result ≤ 2 }
 {
     let name = last_name(matches, FIRST);
@@ -82,7 +82,7 @@ pub fn print_supernet(rt: &HostRuntime, matches: &ArgMatches, writers: &mut Writ
 /// Reads the list, and prints the entries that the others make unnecessary; or if it is a table with texts, the routes
 /// without which each address keeps its text.
 #[inline(never)]
-pub fn print_redundant(rt: &HostRuntime, matches: &ArgMatches, writers: &mut Writers<'_>) -> u8
+pub fn print_redundant(rt: &HostRuntime, matches: &ArgMatches, writers: &mut Writers<'_, '_>) -> u8
     ensures { result ≤ 2 }
 {
     let name = last_name(matches, FIRST);
@@ -115,7 +115,7 @@ fn print_overlaps_of_one(
     rt: &HostRuntime,
     matches: &ArgMatches,
     name: &str,
-    writers: &mut Writers<'_>,
+    writers: &mut Writers<'_, '_>,
 ) -> u8
     ensures { result ≤ 2 }
 {
@@ -139,7 +139,7 @@ fn print_overlaps_of_two(
     rt: &HostRuntime,
     matches: &ArgMatches,
     names: &[&str; 2],
-    writers: &mut Writers<'_>,
+    writers: &mut Writers<'_, '_>,
 ) -> u8
     ensures { result ≤ 2 }
 {
@@ -164,7 +164,7 @@ fn print_overlaps_of_many(
     rt: &HostRuntime,
     matches: &ArgMatches,
     names: &[&str],
-    writers: &mut Writers<'_>,
+    writers: &mut Writers<'_, '_>,
 ) -> Result<u8, u8>
     ensures printed { IfOk result (λ status. status ≤ 2) }
     ensures failed { IfErr result (λ status. status ≡ 2) }
@@ -188,7 +188,7 @@ fn print_overlaps_of_many(
 
 /// Reads the list, or several lists, and prints the pairs of entries that share addresses.
 #[inline(never)]
-pub fn print_overlaps(rt: &HostRuntime, matches: &ArgMatches, writers: &mut Writers<'_>) -> u8
+pub fn print_overlaps(rt: &HostRuntime, matches: &ArgMatches, writers: &mut Writers<'_, '_>) -> u8
     ensures { result ≤ 2 }
 {
     let names = match names_or_report(rt, matches) {

@@ -62,7 +62,7 @@ fn read_answerer(
     rt: &HostRuntime,
     matches: &ArgMatches,
     names: &[&str],
-    writers: &mut Writers<'_>,
+    writers: &mut Writers<'_, '_>,
 ) -> Result<(Lists<SetReader>, Answerer), u8>
     ensures { IfErr result (λ status. status ≡ 2) }
 {
@@ -84,7 +84,7 @@ fn print_kept(
     matches: &ArgMatches,
     names: &[&str],
     file: &str,
-    writers: &mut Writers<'_>,
+    writers: &mut Writers<'_, '_>,
 ) -> Result<u8, u8>
     ensures kept { IfOk result (λ status. status ≤ 2) }
     ensures failed { IfErr result (λ status. status ≡ 2) }
@@ -108,7 +108,7 @@ fn print_kept(
 /// Reads the lists, prints the entries that lie in SET without the lists that are taken out of it, and returns the
 /// exit status. With `--stream`, the answer to an entry is written before more of FILE is read.
 #[inline(never)]
-pub fn filter_without(rt: &HostRuntime, matches: &ArgMatches, writers: &mut Writers<'_>) -> u8
+pub fn filter_without(rt: &HostRuntime, matches: &ArgMatches, writers: &mut Writers<'_, '_>) -> u8
     ensures { result ≤ 2 }
 {
     let file = last_name(matches, OTHERS);

@@ -88,7 +88,7 @@ fn read_texts<'a>(
 
 /// Reads the arguments and the texts, prints the entries, and returns the exit status.
 #[inline(never)]
-pub fn extract_entries(rt: &HostRuntime, matches: &ArgMatches, writers: &mut Writers<'_>) -> u8
+pub fn extract_entries(rt: &HostRuntime, matches: &ArgMatches, writers: &mut Writers<'_, '_>) -> u8
     ensures { result ≤ 2 }
 {
     let names = matches.get_strs(FIRST).unwrap_or(&[STANDARD_INPUT]);

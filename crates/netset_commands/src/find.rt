@@ -127,7 +127,7 @@ fn search_status(first: u8, second: u8) -> u8
 
 /// Reads the list of this name, prints its lines that are found, and returns the status.
 #[inline(never)]
-fn search_file(rt: &HostRuntime, search: EntrySearch, name: &str, writers: &mut Writers<'_>) -> u8
+fn search_file(rt: &HostRuntime, search: EntrySearch, name: &str, writers: &mut Writers<'_, '_>) -> u8
     ensures { result ≤ 2 }
 {
     match bytes_of(rt, name, "entries", writers.reports) {
@@ -150,7 +150,7 @@ fn search_files(
     rt: &HostRuntime,
     search: EntrySearch,
     names: &[&str],
-    writers: &mut Writers<'_>,
+    writers: &mut Writers<'_, '_>,
 ) -> u8
     ensures { result ≤ 2 }
 {
@@ -163,7 +163,7 @@ fn search_files(
 
 /// Reads the arguments, prints the lines that are found, and returns the exit status.
 #[inline(never)]
-pub fn find_entries(rt: &HostRuntime, matches: &ArgMatches, writers: &mut Writers<'_>) -> u8
+pub fn find_entries(rt: &HostRuntime, matches: &ArgMatches, writers: &mut Writers<'_, '_>) -> u8
     ensures { result ≤ 2 }
 {
     let grammar = grammar_of(matches);

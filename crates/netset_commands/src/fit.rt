@@ -140,7 +140,7 @@ fn read_never(
     rt: &HostRuntime,
     matches: &ArgMatches,
     names: &[&str],
-    writers: &mut Writers<'_>,
+    writers: &mut Writers<'_, '_>,
 ) -> Result<(IpSet, Vec<IpSet>), u8>
     ensures { IfErr result (λ status. status ≡ 2) }
 {
@@ -160,7 +160,7 @@ fn read_never(
 
 /// Reads the arguments and the lists, prints the networks within the limits, and returns the exit status.
 #[inline(never)]
-pub fn fit_lists(rt: &HostRuntime, matches: &ArgMatches, writers: &mut Writers<'_>) -> u8
+pub fn fit_lists(rt: &HostRuntime, matches: &ArgMatches, writers: &mut Writers<'_, '_>) -> u8
     ensures { result ≤ 2 }
 {
     let request = match request_of(rt, matches) {

@@ -88,7 +88,7 @@ fn networks_of(rt: &HostRuntime, words: &[&str], grammar: Grammar) -> Result<Vec
 
 /// Reads the arguments, prints the facts about the networks, and returns the exit status.
 #[inline(never)]
-pub fn print_facts(rt: &HostRuntime, matches: &ArgMatches, writers: &mut Writers<'_>) -> u8
+pub fn print_facts(rt: &HostRuntime, matches: &ArgMatches, writers: &mut Writers<'_, '_>) -> u8
     ensures { result ≤ 2 }
 {
     let words = matches.get_strs(FIRST).unwrap_or(&[]);

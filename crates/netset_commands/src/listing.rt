@@ -120,7 +120,7 @@ pub fn length_or_report(rt: &HostRuntime, word: &str) -> Option<u8>
 }
 
 /// Reads the arguments of `split`, and prints the subnets.
-pub fn list_subnets(rt: &HostRuntime, matches: &ArgMatches, writers: &mut Writers<'_>) -> u8
+pub fn list_subnets(rt: &HostRuntime, matches: &ArgMatches, writers: &mut Writers<'_, '_>) -> u8
     ensures { result ≤ 2 }
 {
     let Some(network) = network_of(rt, matches) else {
@@ -134,7 +134,7 @@ pub fn list_subnets(rt: &HostRuntime, matches: &ArgMatches, writers: &mut Writer
 }
 
 /// Reads the argument of `hosts`, and prints the hosts.
-pub fn list_hosts(rt: &HostRuntime, matches: &ArgMatches, writers: &mut Writers<'_>) -> u8
+pub fn list_hosts(rt: &HostRuntime, matches: &ArgMatches, writers: &mut Writers<'_, '_>) -> u8
     ensures { result ≤ 2 }
 {
     match network_of(rt, matches) {

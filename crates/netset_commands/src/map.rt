@@ -162,7 +162,7 @@ fn end_noted(
     rt: &HostRuntime,
     lists: Lists<NotedReader>,
     names: &[&str],
-    writers: &mut Writers<'_>,
+    writers: &mut Writers<'_, '_>,
 ) -> Result<TitledEntries, u8>
     ensures { IfErr result (λ status. status ≡ 2) }
 {
@@ -203,7 +203,7 @@ fn draw_one(
     matches: &ArgMatches,
     name: &str,
     request: MapRequest<'_>,
-    writers: &mut Writers<'_>,
+    writers: &mut Writers<'_, '_>,
 ) -> Result<u8, u8>
     ensures ok { IfOk result (λ status. status ≤ 2) }
     ensures failed { IfErr result (λ status. status ≡ 2) }
@@ -226,7 +226,7 @@ fn draw_change(
     matches: &ArgMatches,
     names: &[&str; 2],
     request: MapRequest<'_>,
-    writers: &mut Writers<'_>,
+    writers: &mut Writers<'_, '_>,
 ) -> Result<u8, u8>
     ensures ok { IfOk result (λ status. status ≤ 2) }
     ensures failed { IfErr result (λ status. status ≡ 2) }
@@ -252,7 +252,7 @@ fn print_sets_map(
     sets: Vec<IpSet>,
     request: MapRequest<'_>,
     names: &[&str],
-    writers: &mut Writers<'_>,
+    writers: &mut Writers<'_, '_>,
 ) -> u8
     ensures { result ≤ 2 }
 {
@@ -271,7 +271,7 @@ fn draw_sets(
     matches: &ArgMatches,
     names: &[&str],
     request: MapRequest<'_>,
-    writers: &mut Writers<'_>,
+    writers: &mut Writers<'_, '_>,
 ) -> Result<u8, u8>
     ensures ok { IfOk result (λ status. status ≤ 2) }
     ensures failed { IfErr result (λ status. status ≡ 2) }
@@ -289,7 +289,7 @@ fn draw_lists(
     matches: &ArgMatches,
     names: &[&str],
     request: MapRequest<'_>,
-    writers: &mut Writers<'_>,
+    writers: &mut Writers<'_, '_>,
 ) -> u8
     ensures { result ≤ 2 }
 {
@@ -316,7 +316,7 @@ fn draw_table(
     matches: &ArgMatches,
     frame: Frame,
     table: &RouteTable<&str>,
-    writers: &mut Writers<'_>,
+    writers: &mut Writers<'_, '_>,
 ) -> u8
     ensures { result ≤ 2 }
 {
@@ -350,7 +350,7 @@ fn draw_named(
     matches: &ArgMatches,
     frame: Frame,
     bytes: &[u8],
-    writers: &mut Writers<'_>,
+    writers: &mut Writers<'_, '_>,
 ) -> u8
     ensures { result ≤ 2 }
 {
@@ -364,7 +364,7 @@ fn draw_named(
 
 /// Reads the arguments and the lists, prints the map, and returns the exit status.
 #[inline(never)]
-pub fn draw_map(rt: &HostRuntime, matches: &ArgMatches, writers: &mut Writers<'_>) -> u8
+pub fn draw_map(rt: &HostRuntime, matches: &ArgMatches, writers: &mut Writers<'_, '_>) -> u8
     ensures { result ≤ 2 }
 {
     let frame = match frame_of(rt, matches) {

@@ -39,10 +39,7 @@ pub fn last_name<'a>(matches: &ArgMatches<'a>, id: &str) -> &'a str
 pub fn values_of<'m, 'a>(matches: &'m ArgMatches<'a>, id: &str) -> &'m [&'a str]
     ensures { map (λ value. value.now) result.now ≡ values_of matches.now id.now }
 {
-    match matches.get_strs(id) {
-        Some(values) => values,
-        None => &[],
-    }
+    matches.get_strs(id).unwrap_or(&[])
 }
 
 /// Appends the values of the argument with this id to the names, in order.

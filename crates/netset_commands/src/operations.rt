@@ -34,7 +34,7 @@ fn read_operands(
     matches: &ArgMatches,
     first: &[&str],
     names: &[&str],
-    writers: &mut Writers<'_>,
+    writers: &mut Writers<'_, '_>,
 ) -> Result<Operands, u8>
     ensures operands { IfOk result (λ operands.
         AreOperands matches.now (length first.now) operands.sets.items operands.excepts.items) }
@@ -117,7 +117,7 @@ fn read_command<'a>(
     rt: &HostRuntime,
     name: &str,
     matches: &ArgMatches<'a>,
-    writers: &mut Writers<'_>,
+    writers: &mut Writers<'_, '_>,
 ) -> Result<(FormCommand<'a>, Vec<&'a str>), u8>
     ensures command { IfOk result (λ r. IsOperationCommand matches.now name.now r.0) }
     ensures failed { IfErr result (λ status. status ≡ 2) }
@@ -147,7 +147,7 @@ fn print_combined(
     rt: &HostRuntime,
     name: &str,
     matches: &ArgMatches,
-    writers: &mut Writers<'_>,
+    writers: &mut Writers<'_, '_>,
 ) -> Result<u8, u8>
     ensures combined { IfOk result (λ status. status ≤ 2) }
     ensures failed { IfErr result (λ status. status ≡ 2) }
@@ -163,7 +163,7 @@ pub fn combine_lists(
     rt: &HostRuntime,
     name: &str,
     matches: &ArgMatches,
-    writers: &mut Writers<'_>,
+    writers: &mut Writers<'_, '_>,
 ) -> u8
     ensures { result ≤ 2 }
 {

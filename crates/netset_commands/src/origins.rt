@@ -93,7 +93,7 @@ fn read_both(
     rt: &HostRuntime,
     names: &[&str; 2],
     grammar: Grammar,
-    writers: &mut Writers<'_>,
+    writers: &mut Writers<'_, '_>,
 ) -> Result<(Vec<Payload>, Vec<u8>), u8>
     ensures { IfErr result (λ status. status ≡ 2) }
 {
@@ -108,7 +108,7 @@ fn read_both(
 
 /// Reads the arguments and both lists, prints the validity of the routes or their counts, and returns the exit status.
 #[inline(never)]
-pub fn validate_origins(rt: &HostRuntime, matches: &ArgMatches, writers: &mut Writers<'_>) -> u8
+pub fn validate_origins(rt: &HostRuntime, matches: &ArgMatches, writers: &mut Writers<'_, '_>) -> u8
     ensures { result ≤ 2 }
 {
     let names = match two_or_report(rt, matches) {

@@ -51,7 +51,7 @@ pub fn pools_of<'a>(matches: &ArgMatches<'a>) -> Option<&'a str>
 
 /// Reads the lists, prints how many of their fewest networks have each prefix length, and returns the exit status.
 #[inline(never)]
-pub fn print_lengths(rt: &HostRuntime, matches: &ArgMatches, writers: &mut Writers<'_>) -> u8
+pub fn print_lengths(rt: &HostRuntime, matches: &ArgMatches, writers: &mut Writers<'_, '_>) -> u8
     ensures { result ≤ 2 }
 {
     let names = match names_or_report(rt, matches) {
@@ -78,7 +78,7 @@ pub fn print_shares(
     rt: &HostRuntime,
     pools: &str,
     matches: &ArgMatches,
-    writers: &mut Writers<'_>,
+    writers: &mut Writers<'_, '_>,
 ) -> u8
     ensures { result ≤ 2 }
 {
@@ -114,7 +114,7 @@ pub fn compare_pairs(
     rt: &HostRuntime,
     matches: &ArgMatches,
     names: &[&str],
-    writers: &mut Writers<'_>,
+    writers: &mut Writers<'_, '_>,
 ) -> u8
     ensures { result ≤ 2 }
 {

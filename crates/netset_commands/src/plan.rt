@@ -174,7 +174,7 @@ fn lengths_of(rt: &HostRuntime, family: PlanFamily, asked: &[PlanWord<'_>]) -> R
 fn bar_of(
     rt: &HostRuntime,
     matches: &ArgMatches,
-    writers: &Writers<'_>,
+    writers: &Writers<'_, '_>,
 ) -> Result<Option<BarForm>, u8>
     ensures { IfErr result (λ status. status ≡ 2) }
 {
@@ -231,7 +231,7 @@ struct Asked<'a> {
 fn asked_for<'a>(
     rt: &HostRuntime,
     matches: &ArgMatches<'a>,
-    writers: &Writers<'_>,
+    writers: &Writers<'_, '_>,
 ) -> Result<Asked<'a>, u8>
     ensures words { IfOk result (λ asked. AreWordsAsked matches.now asked.words.items) }
     ensures failed { IfErr result (λ status. status ≡ 2) }
@@ -251,7 +251,7 @@ struct Free {
 
 /// Reads the list and the lists in use. Returns the free addresses, and the families of a plan in them. If that fails,
 /// or if lines are refused, it is reported, and the error is the exit status.
-fn read_free(rt: &HostRuntime, matches: &ArgMatches, writers: &mut Writers<'_>) -> Result<Free, u8>
+fn read_free(rt: &HostRuntime, matches: &ArgMatches, writers: &mut Writers<'_, '_>) -> Result<Free, u8>
     ensures free { IfOk result (IsFree matches.now) }
     ensures failed { IfErr result (λ status. status ≡ 2) }
 {
@@ -314,7 +314,7 @@ fn run_plan(
     asked: &Asked<'_>,
     free: Free,
     name: &str,
-    writers: &mut Writers<'_>,
+    writers: &mut Writers<'_, '_>,
 ) -> u8
     ensures { result ≤ 2 }
 {
@@ -343,7 +343,7 @@ fn run_plan(
 
 /// Reads the arguments and the lists, prints the plan or its bar, and returns the exit status.
 #[inline(never)]
-pub fn plan_networks(rt: &HostRuntime, matches: &ArgMatches, writers: &mut Writers<'_>) -> u8
+pub fn plan_networks(rt: &HostRuntime, matches: &ArgMatches, writers: &mut Writers<'_, '_>) -> u8
     ensures { result ≤ 2 }
 {
     let asked = match asked_for(rt, matches, writers) {

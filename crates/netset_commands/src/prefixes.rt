@@ -83,7 +83,7 @@ fn compare_lists(
     rt: &HostRuntime,
     matches: &ArgMatches,
     names: &[&str; 2],
-    writers: &mut Writers<'_>,
+    writers: &mut Writers<'_, '_>,
 ) -> u8
     ensures { result ≤ 2 }
 {
@@ -108,7 +108,7 @@ fn compare_lists(
 
 /// Reads the arguments and both lists, prints the verdicts or how two prefix lists differ, and returns the exit status.
 #[inline(never)]
-pub fn judge_networks(rt: &HostRuntime, matches: &ArgMatches, writers: &mut Writers<'_>) -> u8
+pub fn judge_networks(rt: &HostRuntime, matches: &ArgMatches, writers: &mut Writers<'_, '_>) -> u8
     ensures { result ≤ 2 }
 {
     let names = match two_or_report(rt, matches) {

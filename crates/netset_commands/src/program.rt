@@ -166,17 +166,9 @@ fn open_and_run(rt: &HostRuntime, name: &str, matches: &ArgMatches) -> u8
     ensures exit { IsExitStatus result }
     ensures skipped { result ≡ 3 → IsFlag matches.now (codes "skip-bad") true }
 {
-    let ends = Ends::new();
-    run_with_ends(rt, &ends, name, matches)
-}
-
-/// The same, with the memory of streams that were closed. The borrow checker covers references of one lifetime.
-fn run_with_ends<'x>(rt: &'x HostRuntime, ends: &'x Ends, name: &str, matches: &ArgMatches) -> u8
-    ensures exit { IsExitStatus result }
-    ensures skipped { result ≡ 3 → IsFlag matches.now (codes "skip-bad") true }
-{
     let file = matches.get_str(OUTPUT);
-    let mut faults = Faults::new(rt, ends);
+    let ends = Ends::new();
+    let mut faults = Faults::new(rt, &ends);
     let reports = reports_of(matches);
     let mut writers = match Writers::open(rt, file, reports, &mut faults) {
         Ok(writers) => writers,
@@ -192,7 +184,7 @@ fn run_with_ends<'x>(rt: &'x HostRuntime, ends: &'x Ends, name: &str, matches: &
 
 /// Runs the command of this name, and returns its status.
 #[inline(never)]
-fn run_command(rt: &HostRuntime, name: &str, matches: &ArgMatches, writers: &mut Writers<'_>) -> u8
+fn run_command(rt: &HostRuntime, name: &str, matches: &ArgMatches, writers: &mut Writers<'_, '_>) -> u8
     ensures { result ≤ 2 }
 {
     match name {
@@ -234,7 +226,7 @@ fn run_command(rt: &HostRuntime, name: &str, matches: &ArgMatches, writers: &mut
 
 /// Prints the lines of a text or the entries of a list, and returns the status.
 #[inline(never)]
-fn run_filter(rt: &HostRuntime, matches: &ArgMatches, writers: &mut Writers<'_>) -> u8
+fn run_filter(rt: &HostRuntime, matches: &ArgMatches, writers: &mut Writers<'_, '_>) -> u8
     ensures { result ≤ 2 }
 {
     if matches.get_flag(LINES) {
@@ -249,7 +241,7 @@ fn run_filter(rt: &HostRuntime, matches: &ArgMatches, writers: &mut Writers<'_>)
 /// Prints the routes of entries, all or the longest, with the texts of the table if they are asked for, and returns the
 /// status.
 #[inline(never)]
-fn run_route(rt: &HostRuntime, matches: &ArgMatches, writers: &mut Writers<'_>) -> u8
+fn run_route(rt: &HostRuntime, matches: &ArgMatches, writers: &mut Writers<'_, '_>) -> u8
     ensures { result ≤ 2 }
 {
     if has_all_flag(matches) {
@@ -263,7 +255,7 @@ fn run_route(rt: &HostRuntime, matches: &ArgMatches, writers: &mut Writers<'_>) 
 
 /// Prints the number of addresses of each list, and returns the status.
 #[inline(never)]
-fn count_lists(rt: &HostRuntime, matches: &ArgMatches, writers: &mut Writers<'_>) -> u8
+fn count_lists(rt: &HostRuntime, matches: &ArgMatches, writers: &mut Writers<'_, '_>) -> u8
     ensures { result ≤ 2 }
 {
     let names = match names_or_report(rt, matches) {
@@ -289,7 +281,7 @@ fn count_lists(rt: &HostRuntime, matches: &ArgMatches, writers: &mut Writers<'_>
 
 /// Prints how the two lists differ, or the lists of each pair, and returns the status.
 #[inline(never)]
-fn compare_lists(rt: &HostRuntime, matches: &ArgMatches, writers: &mut Writers<'_>) -> u8
+fn compare_lists(rt: &HostRuntime, matches: &ArgMatches, writers: &mut Writers<'_, '_>) -> u8
     ensures { result ≤ 2 }
 {
     let names = match names_or_report(rt, matches) {
@@ -320,7 +312,7 @@ fn compare_two(
     rt: &HostRuntime,
     matches: &ArgMatches,
     names: &[&str; 2],
-    writers: &mut Writers<'_>,
+    writers: &mut Writers<'_, '_>,
 ) -> u8
     ensures { result ≤ 2 }
 {
@@ -342,7 +334,7 @@ fn filter_query(matches: &ArgMatches) -> Query
 
 /// Reads the lists, prints the answer to the query, and returns the status.
 #[inline(never)]
-fn run_query(rt: &HostRuntime, query: Query, matches: &ArgMatches, writers: &mut Writers<'_>) -> u8
+fn run_query(rt: &HostRuntime, query: Query, matches: &ArgMatches, writers: &mut Writers<'_, '_>) -> u8
     ensures { result ≤ 2 }
 {
     let names = match two_or_report(rt, matches) {
@@ -373,7 +365,7 @@ fn read_answer(
     matches: &ArgMatches,
     first: Lists<FirstReader>,
     names: &[&str; 2],
-    writers: &mut Writers<'_>,
+    writers: &mut Writers<'_, '_>,
 ) -> Result<Answer, u8>
     ensures { IfErr result (λ status. status ≡ 2) }
 {

@@ -36,7 +36,7 @@ pub fn set_reader(rt: &HostRuntime, matches: &ArgMatches) -> Result<SetReader, u
 
 /// Ends the reading of the lists of these names. If lines are refused, they are reported, and the error is the exit
 /// status. If bad lines are skipped, it returns `Ok` and sets `writers.skipped`.
-pub fn finish(reader: SetReader, names: &[&str], writers: &mut Writers<'_>) -> Result<(), u8>
+pub fn finish(reader: SetReader, names: &[&str], writers: &mut Writers<'_, '_>) -> Result<(), u8>
     ensures refused { writers.old.reports.skips_bad ≡ false → OnOk result (HasNoBadLine reader) }
     ensures noted { writers.new.skipped ≡ false → OnOk result (HasNoBadLine reader) }
     ensures some { writers.old.skipped ≡ false → writers.new.skipped ≡ true → HasBadLine reader }
@@ -59,7 +59,7 @@ pub fn finish(reader: SetReader, names: &[&str], writers: &mut Writers<'_>) -> R
 pub fn finish_lists(
     lists: Lists<SetReader>,
     names: &[&str],
-    writers: &mut Writers<'_>,
+    writers: &mut Writers<'_, '_>,
 ) -> Result<(), u8>
     ensures refused { writers.old.reports.skips_bad ≡ false → OnOk result (HasNoBadLine lists.reader) }
     ensures noted { writers.new.skipped ≡ false → OnOk result (HasNoBadLine lists.reader) }
@@ -97,7 +97,7 @@ pub fn read_sets(
     rt: &HostRuntime,
     matches: &ArgMatches,
     names: &[&str],
-    writers: &mut Writers<'_>,
+    writers: &mut Writers<'_, '_>,
 ) -> Result<Vec<IpSet>, u8>
     ensures sets { IfOk result (λ sets. (last : SetReader)
         × AreListSets matches.now (length names.now) sets.items last) }
@@ -113,7 +113,7 @@ pub fn read_only_set(
     rt: &HostRuntime,
     matches: &ArgMatches,
     name: &str,
-    writers: &mut Writers<'_>,
+    writers: &mut Writers<'_, '_>,
 ) -> Result<IpSet, u8>
     ensures set { IfOk result (λ set. (last : SetReader) × AreListSets matches.now 1 (set ∷ []) last) }
     ensures failed { IfErr result (λ status. status ≡ 2) }
@@ -131,7 +131,7 @@ pub fn read_pair(
     rt: &HostRuntime,
     matches: &ArgMatches,
     names: &[&str; 2],
-    writers: &mut Writers<'_>,
+    writers: &mut Writers<'_, '_>,
 ) -> Result<(IpSet, IpSet), u8>
     ensures sets { IfOk result (λ sets. (last : SetReader) × AreListSets matches.now 2 (sets.0 ∷ sets.1 ∷ []) last) }
     ensures failed { IfErr result (λ status. status ≡ 2) }
@@ -161,7 +161,7 @@ pub fn last_bytes(
 }
 
 /// Reports why the command has no answer, if it has none. Nothing is written. Returns the exit status.
-pub fn report_only<C: TextCommand>(command: C, names: &[&str], writers: &mut Writers<'_>) -> u8
+pub fn report_only<C: TextCommand>(command: C, names: &[&str], writers: &mut Writers<'_, '_>) -> u8
     ensures { result ≡ 2 }
 {
     if let Err(failure) = command.answer() {

@@ -128,7 +128,7 @@ fn two_rules_of(
 
 /// Reads the arguments and the rules, prints what they permit, and returns the status.
 #[inline(never)]
-pub fn print_permitted(rt: &HostRuntime, matches: &ArgMatches, writers: &mut Writers<'_>) -> u8
+pub fn print_permitted(rt: &HostRuntime, matches: &ArgMatches, writers: &mut Writers<'_, '_>) -> u8
     ensures { result ≤ 2 }
 {
     let form = match form_of(rt, matches) {
@@ -159,7 +159,7 @@ fn print_newly_permitted(
     matches: &ArgMatches,
     names: &[&str; 2],
     form: FormRequest<'_>,
-    writers: &mut Writers<'_>,
+    writers: &mut Writers<'_, '_>,
 ) -> u8
     ensures { result ≤ 2 }
 {
@@ -183,7 +183,7 @@ fn print_newly_permitted(
 
 /// Reads the rules, prints those that decide on no address, and returns the status.
 #[inline(never)]
-pub fn print_unreached(rt: &HostRuntime, matches: &ArgMatches, writers: &mut Writers<'_>) -> u8
+pub fn print_unreached(rt: &HostRuntime, matches: &ArgMatches, writers: &mut Writers<'_, '_>) -> u8
     ensures { result ≤ 2 }
 {
     match rules_of(rt, matches, writers.reports) {

@@ -250,7 +250,7 @@ fn read_selected(
 
 /// Reads the arguments and the lists, prints the entries that are selected, and returns the exit status.
 #[inline(never)]
-pub fn select_entries(rt: &HostRuntime, matches: &ArgMatches, writers: &mut Writers<'_>) -> u8
+pub fn select_entries(rt: &HostRuntime, matches: &ArgMatches, writers: &mut Writers<'_, '_>) -> u8
     ensures { result ≤ 2 }
 {
     let names = match names_or_report(rt, matches) {

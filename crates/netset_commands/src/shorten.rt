@@ -26,7 +26,7 @@ pub const SHORTEN_COMMAND: Subcommand = Subcommand {
 
 /// Reads the arguments and the table, prints the shortest table, and returns the exit status.
 #[inline(never)]
-pub fn shorten_table(rt: &HostRuntime, matches: &ArgMatches, writers: &mut Writers<'_>) -> u8
+pub fn shorten_table(rt: &HostRuntime, matches: &ArgMatches, writers: &mut Writers<'_, '_>) -> u8
     ensures { result ≤ 2 }
 {
     let name = matches.get_str(FIRST).unwrap_or(STANDARD_INPUT);

@@ -143,7 +143,7 @@ fn log_of<'a>(rt: &HostRuntime, matches: &ArgMatches<'a>) -> Result<Log<'a>, u8>
 
 /// Reads the log. If that fails, or if it begins like UTF-16, that is reported, and the error is the exit
 /// status.
-fn read_log(rt: &HostRuntime, log: Log<'_>, writers: &mut Writers<'_>) -> Result<Tally, u8>
+fn read_log(rt: &HostRuntime, log: Log<'_>, writers: &mut Writers<'_, '_>) -> Result<Tally, u8>
     ensures tally { IfOk result (IsTallyOfLog log.entry.request) }
     ensures failed { IfErr result (λ status. status ≡ 2) }
 {
@@ -169,7 +169,7 @@ fn run_and_report<C: TextCommand>(
     names: &[&str],
     log: &str,
     nones: usize,
-    writers: &mut Writers<'_>,
+    writers: &mut Writers<'_, '_>,
 ) -> u8
     ensures { result ≤ 2 }
 {
@@ -185,7 +185,7 @@ fn run_and_report<C: TextCommand>(
 fn networks_command(
     rt: &HostRuntime,
     log: Log<'_>,
-    writers: &mut Writers<'_>,
+    writers: &mut Writers<'_, '_>,
 ) -> Result<TallyCommand, u8>
     ensures top { IfOk result (λ command. command.top ≡ log.entry.top) }
     ensures tally { IfOk result (λ command. IsTallyOfLog log.entry.request command.tally) }
@@ -198,7 +198,7 @@ fn networks_command(
 
 /// Reads the log, prints at most the first `top` of its networks with their numbers of lines, and returns the exit
 /// status.
-fn print_networks(rt: &HostRuntime, log: Log<'_>, writers: &mut Writers<'_>) -> u8
+fn print_networks(rt: &HostRuntime, log: Log<'_>, writers: &mut Writers<'_, '_>) -> u8
     ensures { result ≤ 2 }
 {
     match networks_command(rt, log, writers) {
@@ -212,7 +212,7 @@ fn print_networks(rt: &HostRuntime, log: Log<'_>, writers: &mut Writers<'_>) -> 
 
 /// Reads the list of this name and the log, prints the number of lines of each entry of the list, and returns the exit
 /// status.
-fn print_numbers(rt: &HostRuntime, list: &str, log: Log<'_>, writers: &mut Writers<'_>) -> u8
+fn print_numbers(rt: &HostRuntime, list: &str, log: Log<'_>, writers: &mut Writers<'_, '_>) -> u8
     ensures { result ≤ 2 }
 {
     if list == STANDARD_INPUT && log.name == STANDARD_INPUT {
@@ -249,7 +249,7 @@ fn list_of<'a>(matches: &ArgMatches<'a>) -> Option<&'a str>
 /// Reads the arguments and the log, prints its networks or the entries of a list with their numbers of lines, and
 /// returns the exit status.
 #[inline(never)]
-pub fn tally_log(rt: &HostRuntime, matches: &ArgMatches, writers: &mut Writers<'_>) -> u8
+pub fn tally_log(rt: &HostRuntime, matches: &ArgMatches, writers: &mut Writers<'_, '_>) -> u8
     ensures { result ≤ 2 }
 {
     let log = match log_of(rt, matches) {

@@ -50,7 +50,7 @@ pub fn has_text_flag(matches: &ArgMatches) -> bool
 
 /// Reads the arguments, the table and the list, prints the answers, and returns the exit status.
 #[inline(never)]
-pub fn route_with_text(rt: &HostRuntime, matches: &ArgMatches, writers: &mut Writers<'_>) -> u8
+pub fn route_with_text(rt: &HostRuntime, matches: &ArgMatches, writers: &mut Writers<'_, '_>) -> u8
     ensures { result ≤ 2 }
 {
     let names = match two_or_report(rt, matches) {
@@ -73,7 +73,7 @@ pub fn route_with_text(rt: &HostRuntime, matches: &ArgMatches, writers: &mut Wri
 
 /// Reads the arguments, the table and the list, prints all routes of each entry, and returns the exit status.
 #[inline(never)]
-pub fn route_all(rt: &HostRuntime, matches: &ArgMatches, writers: &mut Writers<'_>) -> u8
+pub fn route_all(rt: &HostRuntime, matches: &ArgMatches, writers: &mut Writers<'_, '_>) -> u8
     ensures { result ≤ 2 }
 {
     let names = match two_or_report(rt, matches) {

@@ -93,7 +93,7 @@ fn lines_request<'a>(matches: &ArgMatches, after: &'a [u8]) -> LinesRequest<'a>
 fn read_kept_set<'a>(
     rt: &HostRuntime,
     matches: &ArgMatches<'a>,
-    writers: &mut Writers<'_>,
+    writers: &mut Writers<'_, '_>,
 ) -> Result<(IpSet, [&'a str; 2]), u8>
     ensures { IfErr result (λ status. status ≡ 2) }
 {
@@ -109,7 +109,7 @@ fn read_kept_set<'a>(
 
 /// Reads the set and the arguments, and prints the lines of the log while it is read. Returns the exit status.
 #[inline(never)]
-pub fn filter_lines(rt: &HostRuntime, matches: &ArgMatches, writers: &mut Writers<'_>) -> u8
+pub fn filter_lines(rt: &HostRuntime, matches: &ArgMatches, writers: &mut Writers<'_, '_>) -> u8
     ensures { result ≤ 2 }
 {
     let how = match after_or_report(rt, matches) {
@@ -149,7 +149,7 @@ fn filter_named(
     rt: &HostRuntime,
     filter: LineFilter<'_>,
     names: &[&str; 2],
-    writers: &mut Writers<'_>,
+    writers: &mut Writers<'_, '_>,
 ) -> u8
     ensures { result ≤ 2 }
 {

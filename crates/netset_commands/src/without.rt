@@ -76,7 +76,7 @@ pub fn without_or_report(
     rt: &HostRuntime,
     sets: Vec<IpSet>,
     names: &[&str],
-    writers: &mut Writers<'_>,
+    writers: &mut Writers<'_, '_>,
 ) -> Result<IpSet, u8>
     ensures set { IfOk result (IsWithout sets.items) }
     ensures failed { IfErr result (λ status. status ≡ 2) }

@@ -162,7 +162,7 @@ pub fn stream_list(
     stream: Stream,
     names: &[&str],
     name: &str,
-    writers: &mut Writers<'_>,
+    writers: &mut Writers<'_, '_>,
 ) -> u8
     ensures { result ≤ 2 }
 {

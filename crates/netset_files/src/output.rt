@@ -182,15 +182,15 @@ impl Write for Faults<'_> {
 
 /// The writers of a command, and the reports that it makes about its lists.
 #[derive(Drop)]
-pub struct Writers<'a> {
+pub struct Writers<'a, 'e> {
     pub answer: AnswerWriter<'a>,
-    pub faults: Watched<'a, Faults<'a>>,
+    pub faults: Watched<'a, Faults<'e>>,
     pub reports: Reports,
     /// Whether bad lines were skipped.
     pub skipped: bool,
 }
 
-impl<'a> Writers<'a> {
+impl<'a, 'e> Writers<'a, 'e> {
     /// Opens the output of this name: standard output if there is no name or it is "-", and otherwise a file. `faults`
     /// gets the reports.
     #[inline(never)]
@@ -198,8 +198,8 @@ impl<'a> Writers<'a> {
         rt: &HostRuntime,
         name: Option<&'a str>,
         reports: Reports,
-        faults: &'a mut Faults<'a>,
-    ) -> Result<Writers<'a>, OutputFailure>
+        faults: &'a mut Faults<'e>,
+    ) -> Result<Writers<'a, 'e>, OutputFailure>
         ensures file { IfOk result (λ writers. IsFile writers.answer.destination
             ↔ IsNamedFile (option_map (λ text. text.now) name.entry)) }
         ensures answer { IfOk result (λ writers. writers.answer.is_withheld ≡ false) }
