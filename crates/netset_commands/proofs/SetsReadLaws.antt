@@ -1,5 +1,5 @@
 -- The sets of the lists that were read, by whether the command line has entries.
-use Rattle.std.proofs.Common.{◌≡◌, ◌∙◌, ◌+◌, ◌-◌, ◌++◌, ◌∷◌, [], ℕ, List, Option, Some, None, IfSome, IfNone, length}
+use Rattle.std.proofs.Common.{◌≡◌, ◌+◌, ◌-◌, ◌++◌, ◌∷◌, [], ℕ, List, Option, Some, None, IfSome, IfNone, length}
 use Rattle.std.proofs.Common.{string_bytes, ap, arith, length-append, refl, subst, sym}
 use Rattle.std.proofs.lemmas.Fn.{FoldsTo-push}
 use Rattle.std.specs.Global.{Global}

@@ -1,5 +1,5 @@
 -- What `plan` is asked for: the words, and the free addresses.
-use Rattle.std.specs.Prelude.{◌≡◌, ◌∷◌, ℕ, List, [], length, map, codes}
+use Rattle.std.specs.Prelude.{◌≡◌, ◌∷◌, List, [], length, map, codes}
 use Rattle.clap.specs.declared.parser.matches.ArgMatches.{ArgMatches}
 use Rattle.ipnet_lists.specs.Names.{Names}
 use Rattle.ipnet_sets.specs.declared.set.IpSet.{IpSet}

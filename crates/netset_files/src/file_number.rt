@@ -14,7 +14,7 @@ pub struct FileNumber {
 
 impl FileNumber {
     /// Returns the number of the file that has this metadata. No contract says which number the system gives it.
-    pub fn of(found: &Metadata) -> FileNumber {
+    pub fn new(found: &Metadata) -> FileNumber {
         FileNumber {
             device: found.dev(),
             node: found.ino(),
@@ -26,7 +26,7 @@ impl FileNumber {
     /// ```text
     /// device 1, number 7, and device 1, number 7: true; and device 2, number 7: false
     /// ```
-    pub fn is(self, other: FileNumber) -> bool
+    pub fn is_same(self, other: FileNumber) -> bool
         ensures { IsTrue result ↔ IsOneFile self other }
     {
         self.device == other.device && self.node == other.node

@@ -104,7 +104,7 @@ impl Read for Input {
 fn are_one_file(input: &Metadata, number: FileNumber, written: FileNumber) -> bool
     ensures { IsTrue result ↔ IsReadAgain input.now number written }
 {
-    input.is_file() && input.len() > 0 && number.is(written)
+    input.is_file() && input.len() > 0 && number.is_same(written)
 }
 
 impl Input {
@@ -125,7 +125,7 @@ impl Input {
         };
         match (input, fs::metadata(rt, stream.path)) {
             (Ok(input), Ok(written))
-                if are_one_file(&input, FileNumber::of(&input), FileNumber::of(&written)) => {
+                if are_one_file(&input, FileNumber::new(&input), FileNumber::new(&written)) => {
                 Err(report_fault(rt, name, stream.fault))
             }
             _ => Ok(()),

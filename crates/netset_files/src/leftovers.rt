@@ -9,7 +9,7 @@ use std::path::Path;
 #[inline(never)]
 pub fn is_at(rt: &HostRuntime, file: &File, path: Path<'_>) -> bool {
     match (file.metadata(), fs::symlink_metadata(rt, path)) {
-        (Ok(open), Ok(found)) => FileNumber::of(&open).is(FileNumber::of(&found)),
+        (Ok(open), Ok(found)) => FileNumber::new(&open).is_same(FileNumber::new(&found)),
         _ => false,
     }
 }
