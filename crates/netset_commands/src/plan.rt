@@ -230,7 +230,7 @@ struct Asked<'a> {
 /// Reads what is asked for. If that fails, it is reported, and the error is the exit status.
 fn asked_for<'a>(
     rt: &HostRuntime,
-    matches: &ArgMatches<'a>,
+    matches: &'a ArgMatches<'a>,
     writers: &Writers<'_, '_>,
 ) -> Result<Asked<'a>, u8>
     ensures words { IfOk result (λ asked. AreWordsAsked matches.now asked.words.items) }
