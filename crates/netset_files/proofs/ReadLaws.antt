@@ -42,3 +42,9 @@ some_weaker (Some x) P Q so h = so x h
 pub ok_weaker : {X E : Type 0} (r : Result X E) (P Q : X → Type 0) → ((x : X) → P x → Q x) → IfOk r P → IfOk r Q
 ok_weaker (Ok x) P Q so h = so x h
 ok_weaker (Err e) P Q so h = h
+
+-- what a test says of the bytes of the value, if there is one
+pub some_tested : {X : Type 0} (bytes : X → List ℕ) (P : List ℕ → Type 0) (o : Option X) (x : X) (test found : Bool)
+    → o ≡ Some x → test ≡ found → IsTrue test ↔ P (bytes x) → IfSome o (λ y. IsTrue found ↔ P (bytes y))
+some_tested bytes P o x test found some is h =
+    subst (λ z. IfSome z (λ y. IsTrue found ↔ P (bytes y))) (sym some) (subst (λ z. IsTrue z ↔ P (bytes x)) is h)
