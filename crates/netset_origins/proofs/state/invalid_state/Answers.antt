@@ -19,8 +19,8 @@ returns-then-has_origin c =
       reason = (refl, same.0 (true_gives c.has_origin.result found c.if-has_origin.true));
     }
 
-pub returns-else-has_origin : goal.returns-else-has_origin
-returns-else-has_origin c =
+pub returns : goal.returns
+returns c =
     let same = origin_from (payloads_of c.args.table.now) c.in_ok-covering.covering.items
     (ip_network c.args.network.now) c.args.origin c.in_ok-covering.ensures.members in
     let found : IsTrue c.has_origin.result ↔ Any (IsOfOrigin c.args.origin) c.in_ok-covering.covering.items
