@@ -3,7 +3,7 @@ use Rattle.std.proofs.Common.{◌↔◌, Any, IsTrue, refl, subst}
 use Rattle.ipnet_base.proofs.ResultLaws.{true_gives, false_gives}
 use Rattle.ipnet.specs.NetworkOf.{ip_network}
 use Rattle.ipnet_origins.specs.OriginsOf.{payloads_of}
-use Rattle.netset_origins.specs.OriginStates.{HasOrigin, IsOfOrigin}
+use Rattle.netset_origins.specs.OriginStates.{IsOfOrigin}
 use Rattle.netset_origins.proofs.StateLaws.{origin_from}
 use Rattle.netset_origins.proofs.state.invalid_state.Goals as goal
 
