@@ -1,9 +1,12 @@
--- The states of routes: their reasons, one state after another, and the same VRPs in another order.
+-- The states of routes: the search for an origin, their reasons, one state after another, and the same VRPs in another
+-- order.
 use Rattle.std.proofs.Common.{◌≡◌, ◌↔◌, ℕ, Bool, List, [], ◌∷◌, ◌++◌, Any, Contains, Option, IsPermutation}
-use Rattle.std.proofs.Common.{refl, ap, ◌∙◌}
+use Rattle.std.proofs.Common.{◌+◌, ◌<◌, ◌≤◌, length, take, get_or, refl, sym, ap, ◌∙◌, subst, inl, inr, arith}
+use Rattle.std.proofs.lemmas.List.{take_all, take_more}
 use Rattle.std.proofs.lemmas.List.Sorted.{Contains-permutation, IsPermutation-sym}
 use Rattle.ipnet_base.specs.Network.{Network}
 use Rattle.ipnet_base.proofs.ListLaws.{any_from_contains}
+use Rattle.ipnet_sets.proofs.JoinLaws.{any_push}
 use Rattle.ipnet_origins.proofs.ValidityLaws.{by_members}
 use Rattle.ipnet_origins.specs.Origins.{IsCovered}
 use Rattle.ipnet_origins.specs.declared.payload.Payload.{Payload}
@@ -13,6 +16,35 @@ use Rattle.netset_origins.specs.RouteLines.{ListRoute}
 use Rattle.netset_origins.specs.StateSteps.{AddsState}
 use Rattle.netset_origins.specs.declared.state.RouteState.{RouteState}
 use Rattle.netset_origins.specs.declared.state.RouteState.TheVariants as States
+
+-- ---- the search for a VRP of an origin
+
+-- none of the VRPs before the index is of the origin
+abbrev pub IsNoneYet : Option ℕ → List Payload → ℕ → Type 0
+IsNoneYet origin vrps i = ¬ (Any (IsOfOrigin origin) (take i vrps))
+
+pub none_first : (origin : Option ℕ) (vrps : List Payload) → IsNoneYet origin vrps 0
+none_first origin vrps = λ (i, vrp, l, e, is). let less : i < 0 = l in omega (arith, less)
+
+module _ (origin : Option ℕ) (vrps : List Payload) (i : ℕ) where
+  pub none_more : (vrp : Payload) → i < length vrps → vrp ≡ get_or vrps i vrp → ¬ (IsOfOrigin origin vrp)
+      → IsNoneYet origin vrps i → IsNoneYet origin vrps (i + 1)
+  none_more vrp less at other none = λ some.
+      let more : take (i + 1) vrps ≡ take i vrps ++ vrp ∷ []
+      = take_more vrps i vrp less ∙ ap (λ z. take i vrps ++ z ∷ []) (sym at) in
+      elim ((any_push (IsOfOrigin origin) (take i vrps) vrp).0 (subst (Any (IsOfOrigin origin)) more some)) [
+        | inl before ↦ none before
+        | inr here ↦ other here
+      ]
+
+  pub none_at_all : length vrps ≤ i → IsNoneYet origin vrps i → ¬ (Any (IsOfOrigin origin) vrps)
+  none_at_all past none = subst (λ z. ¬ (Any (IsOfOrigin origin) z)) (take_all i vrps past) none
+
+  pub some_at : (vrp : Payload) → i < length vrps → vrp ≡ get_or vrps i vrp → IsOfOrigin origin vrp
+      → Any (IsOfOrigin origin) vrps
+  some_at vrp less at is = (i, vrp, less, sym at, is)
+
+-- ---- the states
 
 -- the VRPs that cover a route have one of its origin if and only if a VRP of its origin covers it
 pub origin_from : (vrps covering : List Payload) (n : Network) (origin : Option ℕ)

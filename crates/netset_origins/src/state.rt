@@ -71,7 +71,12 @@ fn is_of_origin(vrp: &Payload, origin: Option<u32>) -> bool
 fn has_origin(vrps: &[Payload], origin: Option<u32>) -> bool
     ensures { IsTrue result ↔ Any (IsOfOrigin origin) vrps.now }
 {
-    vrps.iter().any(|vrp| is_of_origin(vrp, origin))
+    for vrp in vrps {
+        if is_of_origin(vrp, origin) {
+            return true;
+        }
+    }
+    false
 }
 
 /// Returns the state of an invalid route with this network and this origin, with the reason. Fails if memory runs out.

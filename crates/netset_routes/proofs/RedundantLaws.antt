@@ -1,9 +1,12 @@
 -- The routes of a table that one can remove.
 use Rattle.std.proofs.Common.{◌≡◌, ◌≢◌, ℕ, zero, suc, ◌+◌, ◌<◌, ◌≤◌, ◌==◌, ◌⊎◌, ◌↔◌, Bool, not, true, false, IsTrue}
 use Rattle.std.proofs.Common.{List, [], ◌∷◌, All, Contains, map, length, get_or, take, refl, sym, ap, ◌∙◌, subst, arith}
-use Rattle.std.proofs.Common.{inl, inr}
-use Rattle.std.proofs.lemmas.Bool.{cases_lt}
+use Rattle.std.proofs.Common.{inl, inr, nat_eq}
+use Rattle.std.proofs.lemmas.Bool.{cases_lt, ne_eqb}
+use Rattle.std.proofs.lemmas.Bool.Decides.{Decides-eqb}
 use Rattle.std.proofs.lemmas.List.{length-map, get_or-map, take_all}
+use Rattle.std.proofs.lemmas.Slice.Eq.{slice_eq-Decides}
+use lib.Pointwise.{pointwise}
 use Rattle.ipnet_base.specs.Address.{Address, width}
 use Rattle.ipnet_base.specs.Network.{Network, InBlock, IsNetwork, IsSubnetOf, IsSupernetOf, IsTruncated, host_bits}
 use Rattle.ipnet_base.proofs.BlockLaws.{own, own_in}
@@ -72,6 +75,12 @@ pub parentless : (routes : TextRoutes) (n : Network) → n.prefix_len ≡ 0 → 
 parentless routes n none p h = omega (arith, none, h.shorter)
 
 -- ---- one route
+
+-- a test of two texts
+pub same_by_test : (s t : List ℕ) (same : Bool) → same ≡ pointwise nat_eq s t → IsTrue same ↔ (s ≡ t)
+same_by_test s t same is =
+    let by = slice_eq-Decides Decides-eqb s t (pointwise nat_eq s t) refl in
+    (λ yes. by.0 (sym is ∙ yes), λ one. is ∙ by.1 one)
 
 module _ (routes : TextRoutes) (table : AreInTable routes) where
   -- two routes with networks of one length that share an address are one
@@ -175,7 +184,9 @@ pub all_found : (list : List (IpNet × Text)) (routes found : TextRoutes) (i : �
 all_found list routes found i same le h = record {
   ascending = h.ordered;
   members = subst (λ z. (r : Route Text) → Contains found r ↔ (Contains z r × IsRedundant routes r))
-      (take_all i (ip_routes list) (omega (arith, le, length-map list (λ q. (ip_network q.0, q.1)))) ∙ same) h.members;
+      (take_all i (ip_routes list) (omega (arith, le, length-map {B = Route Text} list (λ q. (ip_network q.0, q.1))))
+      ∙ same)
+      h.members;
 }
 
 -- whether there are any
@@ -187,7 +198,7 @@ some_found [] none is = (
 )
 some_found (x ∷ items) none is = (
   λ yes e. let clash : (ip_network x.0, x.1) ∷ ip_routes items ≡ [] = e in absurd cc,
-  λ some. ap not is,
+  λ some. ap not (is ∙ ne_eqb (suc (length items)) 0 (omega arith)),
 )
 
 -- the text of the redundant routes

@@ -1,4 +1,3 @@
-use Rattle.std.proofs.Common.{◌≡◌}
 use Rattle.ipnet_lists.proofs.ContentLaws.{list_taken}
 use Rattle.ipnet_origins.specs.OriginsOf.{payloads_of}
 use Rattle.netset_origins.specs.OriginCounts.{AreStates}

@@ -27,7 +27,7 @@ returns-in-None-clause-refused g c refused h = (refl, Keeps-refl (g.W.Write.cont
 pub returns-in-Some-clause-cut_short : goal.returns-in-Some-clause-cut_short
 returns-in-Some-clause-cut_short g c two = elim (c.run_text.ensures.cut_short two) [
   | inl (kept, reported) ↦ inl kept
-  | inr (begun, reported) ↦ inr (front_weaker
+  | inr (begun, front, whole) ↦ inr (front_weaker
       (λ text right. record { table = c.in-Some.table; read = c.in-Some.ensures.table; shortened = right })
       (g.W.Write.contents c.args.out.now) (g.W.Write.contents c.run_text.new.out) begun)
 ]
@@ -38,7 +38,7 @@ returns-in-None-clause-cut_short g c two = inl (Keeps-refl (g.W.Write.contents c
 pub returns-in-Some-clause-never_one : goal.returns-in-Some-clause-never_one
 returns-in-Some-clause-never_one g c one = elim (c.run_text.ensures.other one) [
   | inl (written, success, kept) ↦ let clash : false ≡ true = success in absurd cc
-  | inr (kept, (failure, is, exit, begun)) ↦ absurd (omega (arith, exit))
+  | inr (kept, (failure, is, exit, begun, whole)) ↦ absurd (omega (arith, exit))
 ]
 
 pub returns-in-Some-clause-faultless : goal.returns-in-Some-clause-faultless
@@ -61,12 +61,12 @@ returns-in-Some-clause-reported g c two =
             kept_report memory_line IsSure before now after silent
                 (subst (λ f. IsReportedAs (words_line (failure_words f)) now after IsSure) is (begun, whole)),
           ))
-      | inr (begun, report) ↦
+      | inr (begun, front, whole) ↦
           inr (inr (
             front_weaker
                 (λ text right. record { table = c.in-Some.table; read = c.in-Some.ensures.table; shortened = right })
                 (g.W.Write.contents c.args.out.now) (g.W.Write.contents c.run_text.new.out) begun,
-            kept_report (words_line unwritable) IsSure before now after silent report,
+            kept_report (words_line unwritable) IsSure before now after silent (front, whole),
           ))
     ]
 
