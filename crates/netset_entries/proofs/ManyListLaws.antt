@@ -2,7 +2,7 @@
 use Rattle.std.specs.Borrow.{Bor}
 use Rattle.std.proofs.Common.{◌≡◌, ◌↔◌, ℕ, zero, suc, ◌+◌, ◌-◌, ◌<◌, ◌||◌, Bool, true, false, not, IsTrue, List}
 use Rattle.std.proofs.Common.{[], ◌∷◌, ◌++◌, length, map, take, get_or, refl, sym, ap, ◌∙◌, subst, subst₂, arith}
-use Rattle.std.proofs.Common.{Option, Some, Result, Ok, Err, IfOk}
+use Rattle.std.proofs.Common.{Option, Some, Result, Ok, Err, IfOk, inl, inr}
 use Rattle.std.specs.Prelude.{nat_eq}
 use Rattle.std.proofs.lemmas.Bool.{true≢false, false≢true, not-false, not-true}
 use Rattle.std.proofs.lemmas.Bool.Decides.{eqb_tells}
@@ -11,14 +11,16 @@ use Rattle.ipnet.specs.declared.parser.Grammar.{Grammar}
 use Rattle.ipnet_base.proofs.ListLaws.{at_place}
 use Rattle.ipnet_lists.specs.Names.{Names, name_at}
 use Rattle.ipnet_lists.specs.Reports.{ExplainsEntry, IsReport, IsReportBegun}
-use Rattle.ipnet_text.specs.Outputs.{IsWritten}
+use Rattle.ipnet_text.specs.Outputs.{IsWritten, IsFrontWritten}
+use Rattle.ipnet_text.proofs.WritingLaws.{whole_front}
 use Rattle.netset_entries.specs.declared.entry_list.EntryLine.{EntryLine}
 use Rattle.netset_entries.specs.declared.entry_list.EntryList.{EntryList}
 use Rattle.netset_entries.specs.declared.overlaps.Asked.{Asked}
 use Rattle.netset_entries.specs.EntryLineOf.{IsReadOf, labels_of, numbered}
 use Rattle.netset_entries.specs.ListPairs.{IsListAt}
-use Rattle.netset_entries.specs.ManyLists.{AreEntryLists, AreOverlapsFrom, AreReadLists, HasOverlapAt, HasRefusedList}
-use Rattle.netset_entries.specs.ManyLists.{IsManyOutcome, HasManyOverlap, HoldsOfMany, IsOverlapAt, IsReportAt}
+use Rattle.netset_entries.specs.ManyLists.{AreEntryLists, AreListsBegun, AreOverlapsFrom, AreReadLists, HasManyOverlap}
+use Rattle.netset_entries.specs.ManyLists.{HasOverlapAt, HasRefusedList, HoldsOfMany, IsManyOutcome, IsOverlapAt}
+use Rattle.netset_entries.specs.ManyLists.{IsReportAt}
 use Rattle.netset_entries.specs.ManySteps.{are_refused, entries_in, is_refused, IsAskedOf}
 use Rattle.netset_entries.specs.NumberedEntries.{NumberedEntry}
 use Rattle.netset_entries.specs.Overlaps.{HasOverlap, IsOverlapText, name_labels}
@@ -52,14 +54,14 @@ module _ (grammar : Grammar) (lists : List (Bor (List ℕ))) (i : ℕ) (d : Bor 
 
 zero_of : (n : ℕ) → not (nat_eq n 0) ≡ false → n ≡ 0
 zero_of n h = elim (eqb_tells n 0) [
-  | inl yes ↦ yes.1
-  | inr no ↦ absurd (true≢false (sym (not-false (nat_eq n 0) h) ∙ no.0))
+  | inl same ↦ same.1
+  | inr other ↦ absurd (true≢false (sym (not-false (nat_eq n 0) h) ∙ other.0))
 ]
 
 not_zero : (n : ℕ) → not (nat_eq n 0) ≡ true → n ≡ 0 → ⊥
 not_zero n h is = elim (eqb_tells n 0) [
-  | inl yes ↦ true≢false (sym yes.0 ∙ not-true (nat_eq n 0) h)
-  | inr no ↦ no.1 is
+  | inl same ↦ true≢false (sym same.0 ∙ not-true (nat_eq n 0) h)
+  | inr other ↦ other.1 is
 ]
 
 both_false : (a b : Bool) → (a || b) ≡ false → (a ≡ false) × (b ≡ false)
@@ -79,8 +81,8 @@ all_entries grammar (b ∷ lists) (r ∷ read) h none =
 -- a line of the first list is refused, or of one after it
 first_or_later : (r : EntryList) (read : List EntryList) (b : Bool) → is_refused r ≡ b → (b || are_refused read) ≡ true
     → (are_refused read ≡ true → HasRefusedList read) → HasRefusedList (r ∷ read)
-first_or_later r read true yes some later = (0, r, (omega arith, refl), not_zero r.refused.count yes)
-first_or_later r read false no some later =
+first_or_later r read true is some later = (0, r, (omega arith, refl), not_zero r.refused.count is)
+first_or_later r read false is some later =
     let (i, list, at, refused) = later some in
     (suc i, list, (omega (arith, at.0), at.1), refused)
 
@@ -202,6 +204,20 @@ reports_begun names read i n a b h = record {
       (IsReportAt (IsReportBegun ExplainsEntry) names read) (begun_at names read) i n h.text h.right;
   written = h.written;
 }
+
+-- all reports were written
+pub all_reported : (names : Names) (read : List EntryList) (n : ℕ) (a b : Option (List ℕ)) → n ≡ length read
+    → IsWritten (AreTextParts (IsReportAt (IsReport ExplainsEntry) names read) 0 n) a b
+    → IsFrontWritten (AreListsBegun names read) a b
+all_reported names read n a b size h =
+    let begun = reports_begun names read 0 n a b h in record {
+      text = begun.text;
+      right = subst (λ z. AreTextParts (IsReportAt (IsReportBegun ExplainsEntry) names read) 0 z begun.text) size
+          begun.right;
+      front = begun.text;
+      begins = whole_front begun.text;
+      written = begun.written;
+    }
 
 -- nothing is the first lines of a report
 pub nothing_at : (names : Names) (read : List EntryList) (d : EntryList) (i : ℕ) → i < length read

@@ -6,7 +6,7 @@ use Rattle.ipnet_text.specs.Outputs.{IsWritten}
 use Rattle.ipnet_text.specs.Watched.{writer_of}
 use Rattle.netset_entries.specs.ManyLists.{IsReportAt}
 use Rattle.netset_entries.specs.TextParts.{AreTextParts}
-use Rattle.netset_entries.proofs.ManyListLaws.{nothing_at, reports_begun}
+use Rattle.netset_entries.proofs.ManyListLaws.{all_reported, nothing_at, reports_begun}
 use Rattle.netset_entries.proofs.WrittenParts.{none_written, part_front, part_written}
 use Rattle.netset_lib.proofs.RunLaws.{whole_weaker, front_weaker}
 use Rattle.netset_entries.proofs.many_lists.report_lists.Goals as goal
@@ -58,3 +58,10 @@ returns-clause-whole g c =
     = omega (arith, c.loop-index-test.false, c.loop-index.auto.index-end) in
     subst (λ n. IsWritten (AreTextParts Is 0 n) start now) size
     c.loop-index.invariant
+
+pub returns-clause-front : goal.returns-clause-front
+returns-clause-front g c =
+    let size : c.loop-index.index ≡ length c.args.lists.now
+    = omega (arith, c.loop-index-test.false, c.loop-index.auto.index-end) in
+    all_reported c.args.names.now c.args.lists.now c.loop-index.index (g.X.Write.contents (writer_of c.args.faults.now))
+    (g.X.Write.contents (writer_of c.loop-index.faults)) size c.loop-index.invariant
