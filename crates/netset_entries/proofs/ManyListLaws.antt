@@ -2,22 +2,25 @@
 use Rattle.std.specs.Borrow.{Bor}
 use Rattle.std.proofs.Common.{◌≡◌, ◌↔◌, ℕ, zero, suc, ◌+◌, ◌-◌, ◌<◌, ◌||◌, Bool, true, false, not, IsTrue, List}
 use Rattle.std.proofs.Common.{[], ◌∷◌, ◌++◌, length, map, take, get_or, refl, sym, ap, ◌∙◌, subst, subst₂, arith}
-use Rattle.std.proofs.Common.{Option, Some, Result, Ok, Err, IfOk}
+use Rattle.std.proofs.Common.{Option, Some, Result, Ok, Err, IfOk, inl, inr}
 use Rattle.std.specs.Prelude.{nat_eq}
-use Rattle.std.proofs.lemmas.Bool.{true≢false, false≢true}
+use Rattle.std.proofs.lemmas.Bool.{true≢false, false≢true, not-false, not-true}
+use Rattle.std.proofs.lemmas.Bool.Decides.{eqb_tells}
 use Rattle.std.proofs.lemmas.List.{length-map, get_or-map, map-append, take_more}
 use Rattle.ipnet.specs.declared.parser.Grammar.{Grammar}
 use Rattle.ipnet_base.proofs.ListLaws.{at_place}
 use Rattle.ipnet_lists.specs.Names.{Names, name_at}
 use Rattle.ipnet_lists.specs.Reports.{ExplainsEntry, IsReport, IsReportBegun}
-use Rattle.ipnet_text.specs.Outputs.{IsWritten}
+use Rattle.ipnet_text.specs.Outputs.{IsWritten, IsFrontWritten}
+use Rattle.ipnet_text.proofs.WritingLaws.{whole_front}
 use Rattle.netset_entries.specs.declared.entry_list.EntryLine.{EntryLine}
 use Rattle.netset_entries.specs.declared.entry_list.EntryList.{EntryList}
 use Rattle.netset_entries.specs.declared.overlaps.Asked.{Asked}
 use Rattle.netset_entries.specs.EntryLineOf.{IsReadOf, labels_of, numbered}
 use Rattle.netset_entries.specs.ListPairs.{IsListAt}
-use Rattle.netset_entries.specs.ManyLists.{AreEntryLists, AreOverlapsFrom, AreReadLists, HasOverlapAt, HasRefusedList}
-use Rattle.netset_entries.specs.ManyLists.{IsManyOutcome, HasManyOverlap, HoldsOfMany, IsOverlapAt, IsReportAt}
+use Rattle.netset_entries.specs.ManyLists.{AreEntryLists, AreListsBegun, AreOverlapsFrom, AreReadLists, HasManyOverlap}
+use Rattle.netset_entries.specs.ManyLists.{HasOverlapAt, HasRefusedList, HoldsOfMany, IsManyOutcome, IsOverlapAt}
+use Rattle.netset_entries.specs.ManyLists.{IsReportAt}
 use Rattle.netset_entries.specs.ManySteps.{are_refused, entries_in, is_refused, IsAskedOf}
 use Rattle.netset_entries.specs.NumberedEntries.{NumberedEntry}
 use Rattle.netset_entries.specs.Overlaps.{HasOverlap, IsOverlapText, name_labels}
@@ -50,12 +53,16 @@ module _ (grammar : Grammar) (lists : List (Bor (List ℕ))) (i : ℕ) (d : Bor 
 -- ---- refused lines
 
 zero_of : (n : ℕ) → not (nat_eq n 0) ≡ false → n ≡ 0
-zero_of zero h = refl
-zero_of (suc n) h = absurd (true≢false h)
+zero_of n h = elim (eqb_tells n 0) [
+  | inl same ↦ same.1
+  | inr other ↦ absurd (true≢false (sym (not-false (nat_eq n 0) h) ∙ other.0))
+]
 
 not_zero : (n : ℕ) → not (nat_eq n 0) ≡ true → n ≡ 0 → ⊥
-not_zero zero h is = false≢true h
-not_zero (suc n) h is = omega (arith, is)
+not_zero n h is = elim (eqb_tells n 0) [
+  | inl same ↦ true≢false (sym same.0 ∙ not-true (nat_eq n 0) h)
+  | inr other ↦ other.1 is
+]
 
 both_false : (a b : Bool) → (a || b) ≡ false → (a ≡ false) × (b ≡ false)
 both_false true b h = absurd (true≢false h)
@@ -71,16 +78,18 @@ all_entries grammar (b ∷ lists) (r ∷ read) h none =
     let (first, others) = both_false (is_refused r) (are_refused read) none in
     (all_read grammar b.now r h.0 (zero_of r.refused.count first), all_entries grammar lists read h.1 others)
 
+-- a line of the first list is refused, or of one after it
+first_or_later : (r : EntryList) (read : List EntryList) (b : Bool) → is_refused r ≡ b → (b || are_refused read) ≡ true
+    → (are_refused read ≡ true → HasRefusedList read) → HasRefusedList (r ∷ read)
+first_or_later r read true is some later = (0, r, (omega arith, refl), not_zero r.refused.count is)
+first_or_later r read false is some later =
+    let (i, list, at, refused) = later some in
+    (suc i, list, (omega (arith, at.0), at.1), refused)
+
 -- a line is refused
 pub some_refused : (read : List EntryList) → are_refused read ≡ true → HasRefusedList read
 some_refused [] h = absurd (false≢true h)
-some_refused (r ∷ read) h = go (is_refused r) refl h
-  where
-    go : (b : Bool) → is_refused r ≡ b → (b || are_refused read) ≡ true → HasRefusedList (r ∷ read)
-    go true yes some = (0, r, (omega arith, refl), not_zero r.refused.count yes)
-    go false no some =
-        let (i, list, at, refused) = some_refused read some in
-        (suc i, list, (omega (arith, at.0), at.1), refused)
+some_refused (r ∷ read) h = first_or_later r read (is_refused r) refl h (some_refused read)
 
 -- ---- the entries of two lists
 
@@ -196,12 +205,26 @@ reports_begun names read i n a b h = record {
   written = h.written;
 }
 
+-- all reports were written
+pub all_reported : (names : Names) (read : List EntryList) (n : ℕ) (a b : Option (List ℕ)) → n ≡ length read
+    → IsWritten (AreTextParts (IsReportAt (IsReport ExplainsEntry) names read) 0 n) a b
+    → IsFrontWritten (AreListsBegun names read) a b
+all_reported names read n a b size h =
+    let begun = reports_begun names read 0 n a b h in record {
+      text = begun.text;
+      right = subst (λ z. AreTextParts (IsReportAt (IsReportBegun ExplainsEntry) names read) 0 z begun.text) size
+          begun.right;
+      front = begun.text;
+      begins = whole_front begun.text;
+      written = begun.written;
+    }
+
 -- nothing is the first lines of a report
 pub nothing_at : (names : Names) (read : List EntryList) (d : EntryList) (i : ℕ) → i < length read
     → (text : List ℕ) × IsReportAt (IsReportBegun ExplainsEntry) names read i text
 nothing_at names read d i less =
     let list = get_or read i d in
-    ([], list, (less, at_place read i list d less), nothing_begun _ list.refused list.refused.count refl)
+    ([], (list, (less, at_place read i list d less), nothing_begun _ list.refused list.refused.count refl))
 
 -- ---- the command
 

@@ -209,10 +209,12 @@ trues [] = []
 trues (e ∷ entries) = true ∷ trues entries
 
 trues_count : (entries : List NumberedEntry) → length (trues entries) ≡ length entries
+unfolding trues
 trues_count [] = refl
 trues_count (e ∷ entries) = let same = trues_count entries in omega (arith, same)
 
 trues_all : (entries : List NumberedEntry) → All (λ flag. flag ≡ true) (trues entries)
+unfolding trues
 trues_all [] = All-nil (λ flag. flag ≡ true)
 trues_all (e ∷ entries) = All-cons (λ flag. flag ≡ true) true (trues entries) refl (trues_all entries)
 

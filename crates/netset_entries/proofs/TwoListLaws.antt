@@ -50,7 +50,7 @@ of_asked : (grammar : Grammar) (bytes : List ℕ) (other : Option (Bor (List ℕ
 of_asked grammar bytes None asked are Holds h = record {
   entries = map numbered asked.entries.items;
   read = are.0;
-  right = subst (Holds (map numbered asked.entries.items)) are.1.0 h;
+  right = subst (Holds (map numbered asked.entries.items)) are.1 h;
 }
 of_asked grammar bytes (Some other) asked are Holds h =
     let (first, second, read, other_read, is, counted, labelled) = are in
@@ -59,7 +59,7 @@ of_asked grammar bytes (Some other) asked are Holds h =
 -- the lines have the labels of one list or two
 asked_labels : (grammar : Grammar) (bytes : List ℕ) (other : Option (Bor (List ℕ))) (asked : Asked)
     → AreAsked grammar bytes other asked → labels_of asked.labels ≡ line_labels
-asked_labels grammar bytes None asked are = are.1.1
+asked_labels grammar bytes None asked are = are.2
 asked_labels grammar bytes (Some other) asked are =
     let (first, second, read, other_read, is, counted, labelled) = are in labelled
 

@@ -20,7 +20,7 @@ parts_exist Is i (suc n) each =
     let (part, is) = each i (omega arith) (omega arith) in
     let (rest, are) = parts_exist Is (i + 1) n
     (λ j from below. each j (omega (arith, from)) (omega (arith, below))) in
-    (part ++ rest, part, rest, refl, is, are)
+    (part ++ rest, (part, rest, refl, is, are))
 
 -- parts go on with others
 parts_join : (Is : ℕ → List ℕ → Type 0) (i n m : ℕ) (text more : List ℕ) → AreTextParts Is i n text

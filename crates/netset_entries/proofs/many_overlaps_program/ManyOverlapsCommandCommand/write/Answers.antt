@@ -37,8 +37,8 @@ returns-in-Ok-write_many_overlaps-clause-outcome g c =
     many_outcome of.grammar of.lists.now (entries_in read) all c.in-Ok-write_many_overlaps.some
     c.in-Ok-write_many_overlaps.ensures.found
 
-pub returns-in-Err-write_many_overlaps-clause-front : goal.returns-in-Err-write_many_overlaps-clause-front
-returns-in-Err-write_many_overlaps-clause-front g c =
+pub returns-clause-front : goal.returns-clause-front
+returns-clause-front g c =
     let of = c.args.self in
     let read = c.as_slice-2.result.now in
     let none : are_refused read ≡ false
