@@ -16,3 +16,9 @@ returns-in-Ipset-2-clause-fault c = (
       c.in-Some.is c.in-Some-ipv6.is (λ apart.
       let clash : true ≡ false = sym (c.are_ipset_sets.ensures.1 apart) ∙ c.if-not-are_ipset_sets.true in absurd cc),
 )
+
+pub returns-in-Bird-clause-fault : goal.returns-in-Bird-clause-fault
+returns-in-Bird-clause-fault c =
+    both_given (λ v w. ¬ (v ≢ w)) c.args.self.sets.ipv4 c.args.self.sets.ipv6 c.in-Some.ipv4 c.in-Some-ipv6.ipv6
+    c.in-Some.is c.in-Some-ipv6.is (λ apart.
+    let clash : false ≡ true = c.if-not-are_nft_sets-2.ensures.1 apart in absurd cc)
