@@ -1,4 +1,4 @@
-//! The three network types.
+//! The three network types. Their method `subnets` is in the module `subnets`, which has the walks that it returns.
 ghost use Rattle.std.specs.Prelude.{◌≡◌, ◌<◌, ◌≤◌, ◌⊎◌, ◌↔◌, IsTrue, IsErr, IfOk, IsNone, IfSome, refl};
 ghost use Rattle.std.specs.declared.cmp.Ordering.TheVariants.{Less};
 ghost use Rattle.ipnet_base.specs.Address.{width, ip_address};
@@ -6,14 +6,13 @@ ghost use Rattle.ipnet_base.specs.Network.{Network, IsNetwork, InBlock, IsSubnet
 ghost use Rattle.ipnet_base.specs.Network.{AreSiblings, AreHalves, IsBefore, IsTruncationOf, IsSupernetOf};
 ghost use Rattle.ipnet_base.specs.Network.{truncation};
 ghost use Rattle.ipnet.specs.NetworkParts.{network_at, own_address, netmask, hostmask, HasAddressAndNetmask};
-ghost use Rattle.ipnet.specs.NetworkParts.{AreSubnetsOfLength, IsBlockRange, IsHostRange};
+ghost use Rattle.ipnet.specs.NetworkParts.{IsHostRange};
 
 mod ipv4_net;
 mod ipv6_net;
 pub mod laws;
 pub mod member_laws;
 
-use crate::subnets::IpSubnets;
 use ipnet_base::{IpAddr, IpAddrRange, PrefixLenError, ip_mask_to_prefix};
 pub use ipv4_net::Ipv4Net;
 pub use ipv6_net::Ipv6Net;
@@ -105,7 +104,6 @@ pub enum IpNet {
 impl IpNet {
     ghost use Rattle.ipnet.specs.NetworkOf.{ip_network};
     ghost use Rattle.ipnet_base.specs.RangeOf.{ip_range};
-    ghost use Rattle.ipnet.specs.SubnetsLeft.{ip_subnet_range, ip_subnets_left};
 
     /// The network of the address and the prefix length; the address keeps its host bits.
     ///
@@ -316,26 +314,6 @@ impl IpNet {
         match self {
             IpNet::V4(net) => IpAddrRange::V4(net.hosts()),
             IpNet::V6(net) => IpAddrRange::V6(net.hosts()),
-        }
-    }
-
-    /// The walk over all networks of this prefix length in the block, ascending; there are 2^(new - own prefix length)
-    /// of them.
-    ///
-    /// Fails if the new prefix length is below this network's own, or above the width, 32 or 128.
-    ///
-    /// ```text
-    /// 10.0.0.0/24 at 26: 10.0.0.0/26, 10.0.0.64/26, 10.0.0.128/26, 10.0.0.192/26; at 23 an error
-    /// ```
-    pub fn subnets(&self, new_prefix_len: u8) -> Result<IpSubnets, PrefixLenError>
-        ensures range { IfOk result (λ s. IsBlockRange (ip_network self.now) new_prefix_len (ip_subnet_range s)) }
-        ensures walk { IfOk result (λ s. AreSubnetsOfLength (ip_network self.now) new_prefix_len (ip_subnets_left s)) }
-        ensures refused { IsErr result ↔ ((new_prefix_len < (ip_network self.now).prefix_len)
-            ⊎ (width (ip_network self.now).family < new_prefix_len)) }
-    {
-        match self {
-            IpNet::V4(net) => Ok(IpSubnets::V4(net.subnets(new_prefix_len)?)),
-            IpNet::V6(net) => Ok(IpSubnets::V6(net.subnets(new_prefix_len)?)),
         }
     }
 

@@ -3,13 +3,16 @@
 //! A walk is an iterator. It goes over a range from its first address to its last, and each call of `next` returns the
 //! largest network that starts at the first remaining address, ends within the range and has at least the minimum
 //! prefix length. A walk is made of two addresses and this length, or by `subnets` of a network.
-ghost use Rattle.std.specs.Prelude.{◌≡◌};
+ghost use Rattle.std.specs.Prelude.{◌≡◌, ◌<◌, ◌⊎◌, ◌↔◌, IsErr, IfOk};
 ghost use Rattle.std.specs.Iterator.{YieldsFirstBy, item_count};
+ghost use Rattle.ipnet_base.specs.Address.{width};
 ghost use Rattle.ipnet.specs.NetworkOf.{ip_network};
+ghost use Rattle.ipnet.specs.NetworkParts.{AreSubnetsOfLength, IsBlockRange};
 ghost use Rattle.ipnet.specs.declared.subnets.IpSubnets.TheVariants.{V4, V6};
 ghost use Rattle.ipnet.specs.SubnetsLeft.{IsSubnetStep, ip_subnet_range, ip_subnets_left};
 
 use crate::net::IpNet;
+use ipnet_base::PrefixLenError;
 use std::iter::FusedIterator;
 
 mod ipv4_subnets;
@@ -36,6 +39,28 @@ pub enum IpSubnets {
     V4(Ipv4Subnets),
     /// A walk over a range of IPv6 addresses.
     V6(Ipv6Subnets),
+}
+
+impl IpNet {
+    /// The walk over all networks of this prefix length in the block, ascending; there are 2^(new - own prefix length)
+    /// of them.
+    ///
+    /// Fails if the new prefix length is below this network's own, or above the width, 32 or 128.
+    ///
+    /// ```text
+    /// 10.0.0.0/24 at 26: 10.0.0.0/26, 10.0.0.64/26, 10.0.0.128/26, 10.0.0.192/26; at 23 an error
+    /// ```
+    pub fn subnets(&self, new_prefix_len: u8) -> Result<IpSubnets, PrefixLenError>
+        ensures range { IfOk result (λ s. IsBlockRange (ip_network self.now) new_prefix_len (ip_subnet_range s)) }
+        ensures walk { IfOk result (λ s. AreSubnetsOfLength (ip_network self.now) new_prefix_len (ip_subnets_left s)) }
+        ensures refused { IsErr result ↔ ((new_prefix_len < (ip_network self.now).prefix_len)
+            ⊎ (width (ip_network self.now).family < new_prefix_len)) }
+    {
+        match self {
+            IpNet::V4(net) => Ok(IpSubnets::V4(net.subnets(new_prefix_len)?)),
+            IpNet::V6(net) => Ok(IpSubnets::V6(net.subnets(new_prefix_len)?)),
+        }
+    }
 }
 
 impl From<Ipv4Subnets> for IpSubnets {

@@ -1,14 +1,13 @@
-//! IPv4 networks: their parts, blocks and subnets, in bit operations on one word.
+//! IPv4 networks: their parts and blocks, in bit operations on one word. `subnets` has their subnets.
 ghost use Rattle.std.specs.Prelude.{◌≡◌, ◌-◌, ◌*◌, ◌/◌, ◌%◌, ◌^◌, ◌<◌, ◌≤◌, ◌⊎◌, ◌↔◌, IsTrue, IsErr, IfOk, IsNone};
 ghost use Rattle.std.specs.Prelude.{IfSome};
 ghost use Rattle.ipnet_base.specs.Address.{IPv4, width, ipv4_address, address_at};
 ghost use Rattle.ipnet_base.specs.Network.{Network, IsLeastOf, IsGreatestOf, IsSubnetOf, InBlock, IsSupernetOf};
 ghost use Rattle.ipnet_base.specs.Network.{AreSiblings, IsTruncationOf, last_of};
 ghost use Rattle.ipnet.specs.NetworkParts.{network_at, own_address, netmask, hostmask, HasAddressAndNetmask};
-ghost use Rattle.ipnet.specs.NetworkParts.{AreSubnetsOfLength, IsBlockRange, IsHostRange};
+ghost use Rattle.ipnet.specs.NetworkParts.{IsHostRange};
 
 use super::{Contains, Net};
-use crate::subnets::Ipv4Subnets;
 use ipnet_base::{Ipv4Addr, Ipv4AddrRange, PrefixLenError, ipv4_mask_to_prefix};
 
 /// An IPv4 network: an address, with its host bits, and a prefix length of at most 32.
@@ -68,7 +67,6 @@ fn address_of(number: u32) -> Ipv4Addr
 impl Ipv4Net {
     ghost use Rattle.ipnet.specs.NetworkOf.{ipv4_network, ipv4_network_of};
     ghost use Rattle.ipnet_base.specs.RangeOf.{ipv4_range};
-    ghost use Rattle.ipnet.specs.SubnetsLeft.{ipv4_subnet_range, ipv4_subnets_left};
 
     /// The network of the address and the prefix length; the address keeps its host bits.
     ///
@@ -256,27 +254,6 @@ impl Ipv4Net {
         let first = self.masked(len) + 1;
         let last = self.last_number() - 1;
         Ipv4AddrRange::new(address_of(first), address_of(last))
-    }
-
-    /// The walk over all networks of this prefix length in the block, ascending; there are 2^(new - own prefix length)
-    /// of them.
-    ///
-    /// Fails if the new prefix length is below this network's own, or above 32.
-    ///
-    /// ```text
-    /// 10.0.0.0/24 at 26: 10.0.0.0/26, 10.0.0.64/26, 10.0.0.128/26, 10.0.0.192/26; at 23 an error
-    /// ```
-    pub fn subnets(&self, new_prefix_len: u8) -> Result<Ipv4Subnets, PrefixLenError>
-        ensures range { IfOk result (λ s. IsBlockRange (ipv4_network self.now) new_prefix_len (ipv4_subnet_range s)) }
-        ensures walk { IfOk result (λ s.
-            AreSubnetsOfLength (ipv4_network self.now) new_prefix_len (ipv4_subnets_left s)) }
-        ensures refused { IsErr result ↔
-            ((new_prefix_len < (ipv4_network self.now).prefix_len) ⊎ (32 < new_prefix_len)) }
-    {
-        if new_prefix_len < self.prefix_len() || new_prefix_len > 32 {
-            return Err(PrefixLenError);
-        }
-        Ok(Ipv4Subnets::new(self.network(), self.broadcast(), new_prefix_len))
     }
 
     /// Whether the block contains the address, or all of the other network's block.

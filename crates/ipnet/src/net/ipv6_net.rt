@@ -1,13 +1,13 @@
-//! IPv6 networks: their parts, blocks and subnets, in bit operations on the number and the prefix length.
+//! IPv6 networks: their parts and blocks, in bit operations on the number and the prefix length. `subnets` has their
+//! subnets.
 ghost use Rattle.std.specs.Prelude.{◌≡◌, ◌-◌, ◌*◌, ◌/◌, ◌^◌, ◌<◌, ◌≤◌, ◌⊎◌, ◌↔◌, IsTrue, IsErr, IfOk, IsNone, IfSome};
 ghost use Rattle.ipnet_base.specs.Address.{IPv6, width, ipv6_address, address_at};
 ghost use Rattle.ipnet_base.specs.Network.{Network, IsLeastOf, IsGreatestOf, IsSubnetOf, InBlock, IsSupernetOf};
 ghost use Rattle.ipnet_base.specs.Network.{AreSiblings, IsTruncationOf, last_of};
 ghost use Rattle.ipnet.specs.NetworkParts.{network_at, own_address, netmask, hostmask, HasAddressAndNetmask};
-ghost use Rattle.ipnet.specs.NetworkParts.{AreSubnetsOfLength, IsBlockRange, IsHostRange};
+ghost use Rattle.ipnet.specs.NetworkParts.{IsHostRange};
 
 use super::{Contains, Net};
-use crate::subnets::Ipv6Subnets;
 use ipnet_base::{Ipv6Addr, Ipv6AddrRange, PrefixLenError, ipv6_mask_to_prefix};
 
 /// An IPv6 network: an address, with its host bits, and a prefix length of at most 128.
@@ -67,7 +67,6 @@ fn address_of(number: u128) -> Ipv6Addr
 impl Ipv6Net {
     ghost use Rattle.ipnet.specs.NetworkOf.{ipv6_network, ipv6_network_of};
     ghost use Rattle.ipnet_base.specs.RangeOf.{ipv6_range};
-    ghost use Rattle.ipnet.specs.SubnetsLeft.{ipv6_subnet_range, ipv6_subnets_left};
 
     /// The network of the address and the prefix length; the address keeps its host bits.
     ///
@@ -247,27 +246,6 @@ impl Ipv6Net {
         ensures { IsHostRange (ipv6_network self.now) (ipv6_range result) }
     {
         Ipv6AddrRange::new(self.network(), self.broadcast())
-    }
-
-    /// The walk over all networks of this prefix length in the block, ascending; there are 2^(new - own prefix length)
-    /// of them.
-    ///
-    /// Fails if the new prefix length is below this network's own, or above 128.
-    ///
-    /// ```text
-    /// fd00::/16 at 18: fd00::/18, fd00:4000::/18, fd00:8000::/18, fd00:c000::/18; at 15 an error
-    /// ```
-    pub fn subnets(&self, new_prefix_len: u8) -> Result<Ipv6Subnets, PrefixLenError>
-        ensures range { IfOk result (λ s. IsBlockRange (ipv6_network self.now) new_prefix_len (ipv6_subnet_range s)) }
-        ensures walk { IfOk result (λ s.
-            AreSubnetsOfLength (ipv6_network self.now) new_prefix_len (ipv6_subnets_left s)) }
-        ensures refused { IsErr result ↔
-            ((new_prefix_len < (ipv6_network self.now).prefix_len) ⊎ (128 < new_prefix_len)) }
-    {
-        if new_prefix_len < self.prefix_len() || new_prefix_len > 128 {
-            return Err(PrefixLenError);
-        }
-        Ok(Ipv6Subnets::new(self.network(), self.broadcast(), new_prefix_len))
     }
 
     /// Whether the block contains the address, or all of the other network's block.

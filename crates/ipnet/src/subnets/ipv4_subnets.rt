@@ -1,11 +1,13 @@
 //! Walks over ranges of IPv4 addresses: how the largest network at the start is found, and what a step leaves.
-ghost use Rattle.std.specs.Prelude.{◌≡◌, ◌<◌, ◌≤◌, ◌-◌, ◌^◌};
+ghost use Rattle.std.specs.Prelude.{◌≡◌, ◌<◌, ◌≤◌, ◌-◌, ◌^◌, ◌⊎◌, ◌↔◌, IsErr, IfOk};
 ghost use Rattle.std.specs.Net.Addr.{ipv4_bits};
 ghost use Rattle.ipnet_base.specs.Address.{IPv4};
 ghost use Rattle.ipnet_base.specs.Subnets.{IsLargestSubnetAt, IsAdvancedPast, IsMostBits};
+ghost use Rattle.ipnet.specs.NetworkParts.{AreSubnetsOfLength, IsBlockRange};
 ghost use Rattle.ipnet.specs.NetworkOf.{ipv4_network, ipv4_network_of};
 
 use crate::net::Ipv4Net;
+use ipnet_base::PrefixLenError;
 use std::iter::FusedIterator;
 use std::net::Ipv4Addr;
 
@@ -116,6 +118,31 @@ impl Ipv4Subnets {
             self.end = 0;
         }
         self.start = last.saturating_add(1);
+    }
+}
+
+impl Ipv4Net {
+    ghost use Rattle.ipnet.specs.SubnetsLeft.{ipv4_subnet_range, ipv4_subnets_left};
+
+    /// The walk over all networks of this prefix length in the block, ascending; there are 2^(new - own prefix length)
+    /// of them.
+    ///
+    /// Fails if the new prefix length is below this network's own, or above 32.
+    ///
+    /// ```text
+    /// 10.0.0.0/24 at 26: 10.0.0.0/26, 10.0.0.64/26, 10.0.0.128/26, 10.0.0.192/26; at 23 an error
+    /// ```
+    pub fn subnets(&self, new_prefix_len: u8) -> Result<Ipv4Subnets, PrefixLenError>
+        ensures range { IfOk result (λ s. IsBlockRange (ipv4_network self.now) new_prefix_len (ipv4_subnet_range s)) }
+        ensures walk { IfOk result (λ s.
+            AreSubnetsOfLength (ipv4_network self.now) new_prefix_len (ipv4_subnets_left s)) }
+        ensures refused { IsErr result ↔
+            ((new_prefix_len < (ipv4_network self.now).prefix_len) ⊎ (32 < new_prefix_len)) }
+    {
+        if new_prefix_len < self.prefix_len() || new_prefix_len > 32 {
+            return Err(PrefixLenError);
+        }
+        Ok(Ipv4Subnets::new(self.network(), self.broadcast(), new_prefix_len))
     }
 }
 

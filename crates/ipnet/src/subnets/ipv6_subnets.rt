@@ -1,11 +1,13 @@
 //! Walks over ranges of IPv6 addresses: how the largest network at the start is found, and what a step leaves.
-ghost use Rattle.std.specs.Prelude.{◌≡◌, ◌<◌, ◌≤◌, ◌-◌, ◌^◌};
+ghost use Rattle.std.specs.Prelude.{◌≡◌, ◌<◌, ◌≤◌, ◌-◌, ◌^◌, ◌⊎◌, ◌↔◌, IsErr, IfOk};
 ghost use Rattle.std.specs.Net.Addr.{ipv6_bits};
 ghost use Rattle.ipnet_base.specs.Address.{IPv6};
 ghost use Rattle.ipnet_base.specs.Subnets.{IsLargestSubnetAt, IsAdvancedPast, IsMostBits};
+ghost use Rattle.ipnet.specs.NetworkParts.{AreSubnetsOfLength, IsBlockRange};
 ghost use Rattle.ipnet.specs.NetworkOf.{ipv6_network, ipv6_network_of};
 
 use crate::net::Ipv6Net;
+use ipnet_base::PrefixLenError;
 use std::iter::FusedIterator;
 use std::net::Ipv6Addr;
 
@@ -116,6 +118,31 @@ impl Ipv6Subnets {
             self.end = 0;
         }
         self.start = last.saturating_add(1);
+    }
+}
+
+impl Ipv6Net {
+    ghost use Rattle.ipnet.specs.SubnetsLeft.{ipv6_subnet_range, ipv6_subnets_left};
+
+    /// The walk over all networks of this prefix length in the block, ascending; there are 2^(new - own prefix length)
+    /// of them.
+    ///
+    /// Fails if the new prefix length is below this network's own, or above 128.
+    ///
+    /// ```text
+    /// fd00::/16 at 18: fd00::/18, fd00:4000::/18, fd00:8000::/18, fd00:c000::/18; at 15 an error
+    /// ```
+    pub fn subnets(&self, new_prefix_len: u8) -> Result<Ipv6Subnets, PrefixLenError>
+        ensures range { IfOk result (λ s. IsBlockRange (ipv6_network self.now) new_prefix_len (ipv6_subnet_range s)) }
+        ensures walk { IfOk result (λ s.
+            AreSubnetsOfLength (ipv6_network self.now) new_prefix_len (ipv6_subnets_left s)) }
+        ensures refused { IsErr result ↔
+            ((new_prefix_len < (ipv6_network self.now).prefix_len) ⊎ (128 < new_prefix_len)) }
+    {
+        if new_prefix_len < self.prefix_len() || new_prefix_len > 128 {
+            return Err(PrefixLenError);
+        }
+        Ok(Ipv6Subnets::new(self.network(), self.broadcast(), new_prefix_len))
     }
 }
 
