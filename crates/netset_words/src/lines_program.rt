@@ -9,9 +9,11 @@ ghost use Rattle.ipnet_text.specs.Inputs.{GaveWhole};
 ghost use Rattle.ipnet_text.specs.Outputs.{IsWritten, IsFrontWritten};
 ghost use Rattle.ipnet_text.specs.Watched.{writer_of, HasFailed};
 ghost use Rattle.ipnet_lists.specs.Lists.{after_mark};
+ghost use Rattle.ipnet_lists.specs.declared.reading.ReadFailure.TheVariants.{Unreadable, Memory};
 ghost use Rattle.netset_lib.specs.Reports.{IsReportedAs};
 ghost use Rattle.netset_lib.specs.Runs.{IsReportedLast};
 ghost use Rattle.netset_lib.specs.StepReports.{AreTold, AreToldSince};
+ghost use Rattle.netset_words.specs.declared.lines_program.LogFailure.TheVariants as LogFailures;
 ghost use Rattle.netset_words.specs.declared.lines_request.LinesRequest.{LinesRequest};
 ghost use Rattle.netset_words.specs.LogLines.{LogResult};
 ghost use Rattle.netset_words.specs.LogReports.{lines_word, log_line, log_name, nones_line};
@@ -52,12 +54,16 @@ pub enum LogFailure {
 }
 
 impl From<ReadError> for LogFailure {
+    ghost from_gives = { λ _ result. result ≡ LogFailures.Read Unreadable };
+
     fn from(_: ReadError) -> LogFailure {
         LogFailure::Read(ReadFailure::Unreadable)
     }
 }
 
 impl From<AllocError> for LogFailure {
+    ghost from_gives = { λ _ result. result ≡ LogFailures.Read Memory };
+
     fn from(_: AllocError) -> LogFailure {
         LogFailure::Read(ReadFailure::Memory)
     }
