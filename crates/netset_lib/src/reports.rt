@@ -12,6 +12,7 @@ use arrayvec::ArrayString;
 use ipnet_lists::{LineCause, Part, Refusals, report_since, write_parts};
 use ipnet_text::Watched;
 use itoa::Buffer;
+use std::fmt::Display;
 use std::io;
 use std::io::Write;
 
@@ -100,20 +101,20 @@ pub fn report_named<'a, X: Write>(
     )
 }
 
-/// Reports these words, and the words of the system for the error, in one line. If a write fails, a front of the line
-/// has been written.
+/// Reports these words, and the words of the error, in one line. If a write fails, a front of the line has been written.
+/// The words of the error are empty if they have more than 320 bytes.
 ///
 /// ```text
 /// "output cannot be written": "netset: output cannot be written: No space left on device (os error 28)\n"
 /// ```
-pub fn report_error<X: Write>(
+pub fn report_error<X: Write, E: Display>(
     faults: &mut Watched<'_, X>,
     words: &str,
-    error: &io::Error,
+    error: &E,
 ) -> io::Result<()>
-    ensures whole { OnOk result (IsWritten (IsReasonLine words.now)
+    ensures whole { OnOk result (IsWritten (IsReasonLine words.now (E.output error.now))
         (X.contents (writer_of faults.old)) (X.contents (writer_of faults.new))) }
-    ensures front { IsFrontWritten (IsReasonLine words.now)
+    ensures front { IsFrontWritten (IsReasonLine words.now (E.output error.now))
         (X.contents (writer_of faults.old)) (X.contents (writer_of faults.new)) }
     ensures failed { IsErr result → HasFailed faults.new }
 {
