@@ -101,8 +101,8 @@ pub fn report_named<'a, X: Write>(
     )
 }
 
-/// Reports these words, and the words of the error, in one line. If a write fails, a front of the line has been written.
-/// The words of the error are empty if they have more than 320 bytes.
+/// Reports these words, and the words of the error, in one line. The words of the error are empty if they have more
+/// than 320 bytes. If a write fails, a front of the line has been written.
 ///
 /// ```text
 /// "output cannot be written": "netset: output cannot be written: No space left on device (os error 28)\n"

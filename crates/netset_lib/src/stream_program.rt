@@ -42,7 +42,8 @@ pub fn run_stream<R: Read, W: Write, X: Write>(
     ensures status { result ≤ 2 }
     ensures streamed { result ≤ 1 → (asked : Asked) → WasAsked asked stream
         → ((s : Streamed) × (s.refused ≡ 0) × (s.succeeded ≡ (result == 0))
-        × IsStreamed asked (R.remaining input.old) (R.remaining input.new) (W.contents out.old) (W.contents out.new) s) }
+        × IsStreamed asked (R.remaining input.old) (R.remaining input.new)
+        (W.contents out.old) (W.contents out.new) s) }
     ensures cut_short { result ≡ 2 → (asked : Asked) → WasAsked asked stream
         → Keeps (W.contents out.old) (W.contents out.new)
         ⊎ IsStreamedInPart asked (R.remaining input.old) (W.contents out.old) (W.contents out.new) }
