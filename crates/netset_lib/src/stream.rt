@@ -162,9 +162,11 @@ impl Stream {
             → Keeps (X.contents (writer_of faults.old)) (X.contents (writer_of faults.new))) }
         ensures appended { (text : List ℕ)
             × Appends (X.contents (writer_of faults.old)) (X.contents (writer_of faults.new)) text }
-        ensures told { IfOk result (λ streamed. (asked : Asked) → WasAsked asked self → ¬ (HasFailed faults.new)
-            → AreTold ExplainsEntry names.now streamed.refused
-            (X.contents (writer_of faults.old)) (X.contents (writer_of faults.new))) }
+        ensures told { IfOk result (λ streamed. (asked : Asked) → WasAsked asked self
+            → ((is : IsStreamed asked (R.remaining input.old) (R.remaining input.new)
+            (W.contents out.old) (W.contents out.new) streamed)
+            × (¬ (HasFailed faults.new) → AreTold ExplainsEntry names.now is.refusals
+            (X.contents (writer_of faults.old)) (X.contents (writer_of faults.new))))) }
         ensures failure { IfErr result (λ failure. (asked : Asked) → WasAsked asked self
             → IsStreamFailure asked (R.remaining input.old) (W.contents out.old) (W.contents out.new) failure) }
     {

@@ -48,9 +48,9 @@ pub fn run_stream<R: Read, W: Write, X: Write>(
         → Keeps (W.contents out.old) (W.contents out.new)
         ⊎ IsStreamedInPart asked (R.remaining input.old) (W.contents out.old) (W.contents out.new) }
     ensures reported { result ≡ 2 → (asked : Asked) → WasAsked asked stream
-        → ((s : Streamed) × (s.refused ≢ 0)
-        × IsStreamed asked (R.remaining input.old) (R.remaining input.new) (W.contents out.old) (W.contents out.new) s
-        × (¬ (HasFailed faults.new) → AreTold ExplainsEntry names.now s.refused
+        → ((s : Streamed) × (s.refused ≢ 0) × (is : IsStreamed asked
+        (R.remaining input.old) (R.remaining input.new) (W.contents out.old) (W.contents out.new) s)
+        × (¬ (HasFailed faults.new) → AreTold ExplainsEntry names.now is.refusals
         (X.contents (writer_of faults.old)) (X.contents (writer_of faults.new))))
         ⊎ IsReportedLast (λ failure. IsWritten (IsStreamReport failure names.now))
         (λ failure. IsFrontWritten (IsStreamBegun failure names.now))

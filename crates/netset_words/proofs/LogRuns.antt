@@ -35,7 +35,7 @@ module _ (how : LinesRequest) (set : IpSet) (left left_after held held_after : O
       → IsResultFor how set left left_after held held_after log
   log_filtered filter f log h s printed nones undecided =
       let lines = lines_of (after_mark s.bytes) in
-      let w = whole_result how filter.set s.written 0 lines f s.all in (
+      let w = whole_result how filter.set s.written [] lines f s.all in (
         w.result,
         record {
           printed = printed ∙ w.printed;

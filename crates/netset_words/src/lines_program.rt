@@ -9,12 +9,14 @@ ghost use Rattle.ipnet_text.specs.Inputs.{GaveWhole};
 ghost use Rattle.ipnet_text.specs.Outputs.{IsWritten, IsFrontWritten};
 ghost use Rattle.ipnet_text.specs.Watched.{writer_of, HasFailed};
 ghost use Rattle.ipnet_lists.specs.Lists.{after_mark};
+ghost use Rattle.ipnet_lists.specs.RefusedLines.{AreRefused};
 ghost use Rattle.ipnet_lists.specs.declared.reading.ReadFailure.TheVariants.{Unreadable, Memory};
 ghost use Rattle.netset_lib.specs.Reports.{IsReportedAs};
 ghost use Rattle.netset_lib.specs.Runs.{IsReportedLast};
 ghost use Rattle.netset_lib.specs.StepReports.{AreTold, AreToldSince};
 ghost use Rattle.netset_words.specs.declared.lines_program.LogFailure.TheVariants as LogFailures;
 ghost use Rattle.netset_words.specs.declared.lines_request.LinesRequest.{LinesRequest};
+ghost use Rattle.netset_words.specs.Extracts.{WordRefusal};
 ghost use Rattle.netset_words.specs.LogLines.{LogResult};
 ghost use Rattle.netset_words.specs.LogReports.{lines_word, log_line, log_name, nones_line};
 ghost use Rattle.netset_words.specs.Logs.{IsLogFiltered, IsLogFilteredButSome, IsLogFilteredInPart, IsFrontPrinted};
@@ -85,9 +87,9 @@ fn put<W: Write>(text: &mut Vec<u8>, out: &mut W) -> Result<(), LogFailure>
 
 /// Reads bytes of a log, and its end if no more may come.
 fn take_bytes(filter: &mut LineFilter<'_>, bytes: &[u8], more: bool) -> Result<(), AllocError>
-    ensures { OnOk result ((how : LinesRequest) → (set : IpSet) → (written : List ℕ) → (least : ℕ)
-        → (before : List ℕ) → IsLogUpTo how set written least before filter.old
-        → IsTaken more how set written least (before ++ bytes.now) filter.new) }
+    ensures { OnOk result ((how : LinesRequest) → (set : IpSet) → (written : List ℕ) → (known : List WordRefusal)
+        → (before : List ℕ) → IsLogUpTo how set written known before filter.old
+        → IsTaken more how set written known (before ++ bytes.now) filter.new) }
 {
     filter.read(bytes)?;
     if more {
@@ -105,16 +107,17 @@ fn read_log<'a, R: Read, W: Write, X: Write>(
     faults: &mut Watched<'_, X>,
 ) -> Result<LineFilter<'a>, LogFailure>
     ensures whole { IfOk result (λ f. (how : LinesRequest) → (set : IpSet)
-        → IsLogUpTo how set [] 0 [] filter.entry → IsStreamed how set (R.remaining input.old) (R.remaining input.new)
+        → IsLogUpTo how set [] [] [] filter.entry → IsStreamed how set (R.remaining input.old) (R.remaining input.new)
         (W.contents out.old) (W.contents out.new) f) }
     ensures part { IfErr result (λ _. (how : LinesRequest) → (set : IpSet)
-        → IsLogUpTo how set [] 0 [] filter.entry → IsFrontPrinted how (IsMember set) (R.remaining input.old)
+        → IsLogUpTo how set [] [] [] filter.entry → IsFrontPrinted how (IsMember set) (R.remaining input.old)
         (W.contents out.old) (W.contents out.new)) }
     ensures appended { (text : List ℕ)
         × Appends (X.contents (writer_of faults.old)) (X.contents (writer_of faults.new)) text }
-    ensures told { IfOk result (λ f. ¬ (HasFailed faults.new) → AreToldSince ExplainsWord names.now
-        filter.entry.undecided f.undecided (X.contents (writer_of faults.old)) (X.contents (writer_of faults.new))) }
-    ensures quiet { IfOk result (λ f. (how : LinesRequest) → (set : IpSet) → IsLogUpTo how set [] 0 [] filter.entry
+    ensures told { IfOk result (λ f. (how : LinesRequest) → (set : IpSet) → IsLogUpTo how set [] [] [] filter.entry
+        → ¬ (HasFailed faults.new) → AreToldSince ExplainsWord names.now filter.entry.undecided f.undecided
+        (X.contents (writer_of faults.old)) (X.contents (writer_of faults.new))) }
+    ensures quiet { IfOk result (λ f. (how : LinesRequest) → (set : IpSet) → IsLogUpTo how set [] [] [] filter.entry
         → f.undecided.count ≡ 0 → Keeps (X.contents (writer_of faults.old)) (X.contents (writer_of faults.new))) }
 {
     let mut filter = filter;
@@ -160,9 +163,9 @@ pub fn filter_log<R: Read, W: Write, X: Write>(
         (W.contents out.old) (W.contents out.new)) }
     ensures appended { (text : List ℕ)
         × Appends (X.contents (writer_of faults.old)) (X.contents (writer_of faults.new)) text }
-    ensures told { IfOk result (λ log. (how : LinesRequest) → (set : IpSet)
-        → IsFilterFor how set filter.entry → ¬ (HasFailed faults.new)
-        → AreTold ExplainsWord names.now log.undecided.count
+    ensures told { IfOk result (λ log. (how : LinesRequest) → (set : IpSet) → IsFilterFor how set filter.entry
+        → (lines : List WordRefusal) → AreRefused log.undecided lines → ¬ (HasFailed faults.new)
+        → AreTold ExplainsWord names.now lines
         (X.contents (writer_of faults.old)) (X.contents (writer_of faults.new))) }
     ensures quiet { IfOk result (λ log. (how : LinesRequest) → (set : IpSet)
         → IsFilterFor how set filter.entry → log.undecided.count ≡ 0

@@ -16,12 +16,8 @@ returns-in-Err-clause-cut_short g c = λ two asked h.
 
 pub returns-in-Ok-clause-reported : goal.returns-in-Ok-clause-reported
 returns-in-Ok-clause-reported g c = λ two asked h.
-    inl (
-      c.in-Ok.streamed,
-      λ none. absurd (omega (arith, two, c.stream_status.ensures.whole.1 none)),
-      c.in-Ok.ensures.streamed asked h,
-      c.in-Ok.ensures.told asked h,
-    )
+    let (is, told) = c.in-Ok.ensures.told asked h in
+    inl (c.in-Ok.streamed, λ none. absurd (omega (arith, two, c.stream_status.ensures.whole.1 none)), is, told)
 
 pub returns-in-Err-clause-reported : goal.returns-in-Err-clause-reported
 returns-in-Err-clause-reported g c = λ two asked h.
