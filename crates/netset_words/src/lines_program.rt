@@ -18,7 +18,7 @@ ghost use Rattle.netset_words.specs.declared.lines_program.LogFailure.TheVariant
 ghost use Rattle.netset_words.specs.declared.lines_request.LinesRequest.{LinesRequest};
 ghost use Rattle.netset_words.specs.Extracts.{WordRefusal};
 ghost use Rattle.netset_words.specs.LogLines.{LogResult};
-ghost use Rattle.netset_words.specs.LogReports.{lines_word, log_line, log_name, nones_line};
+ghost use Rattle.netset_words.specs.LogReports.{AreLinesReported, lines_word, log_line, log_name, nones_line};
 ghost use Rattle.netset_words.specs.Logs.{IsLogFiltered, IsLogFilteredButSome, IsLogFilteredInPart, IsFrontPrinted};
 ghost use Rattle.netset_words.specs.Logs.{IsFilterFor, HasCounts};
 ghost use Rattle.netset_words.specs.FilterSteps.{IsLogUpTo, IsTaken, IsStreamed};
@@ -230,8 +230,8 @@ fn report_nones<X: Write>(faults: &mut Watched<'_, X>, name: &str, nones: usize)
     )
 }
 
-/// Reports the number of lines of the log of this name that have no entry. Nothing is written if there is none. The
-/// report is whole, unless a write to `faults` has failed.
+/// Reports the number of lines of the log of this name that have no entry. Nothing is written if there is none, or if a
+/// write to `faults` has failed before. The report is whole, unless a write has failed.
 ///
 /// ```text
 /// of log, with 2: "netset: log: 2 lines without an entry\n"
@@ -240,8 +240,12 @@ pub fn end_nones<X: Write>(faults: &mut Watched<'_, X>, name: &str, nones: usize
     ensures none { nones ≡ 0 → Keeps (X.contents (writer_of faults.old)) (X.contents (writer_of faults.new)) }
     ensures reported { nones ≢ 0 → IsReportedAs (nones_line name.now nones)
         (X.contents (writer_of faults.old)) (X.contents (writer_of faults.new)) (¬ (HasFailed faults.new)) }
+    ensures kept { HasFailed faults.old → HasFailed faults.new }
 {
     if nones == 0 {
+        return;
+    }
+    if faults.has_failed() {
         return;
     }
     let _ = report_nones(faults, name, nones);
@@ -309,8 +313,10 @@ pub fn run_lines<R: Read, W: Write, X: Write>(
         ⊎ IsLogFilteredInPart how set (R.remaining input.old) (W.contents out.old) (W.contents out.new) }
     ensures reported { result ≡ 2 → (how : LinesRequest) → (set : IpSet)
         → IsFilterFor how set filter.entry
-        → IsLogFilteredButSome how set (R.remaining input.old) (R.remaining input.new)
-        (W.contents out.old) (W.contents out.new)
+        → ((log : IsLogFilteredButSome how set (R.remaining input.old) (R.remaining input.new)
+        (W.contents out.old) (W.contents out.new))
+        × AreLinesReported names.now log.result
+        (X.contents (writer_of faults.old)) (X.contents (writer_of faults.new)) (¬ (HasFailed faults.new)))
         ⊎ IsReportedLast (λ failure. IsWritten (λ t. t ≡ log_line failure names.now))
         (λ failure. IsFrontWritten (λ t. t ≡ log_line failure names.now))
         (X.contents (writer_of faults.old)) (X.contents (writer_of faults.new)) (¬ (HasFailed faults.new)) }
