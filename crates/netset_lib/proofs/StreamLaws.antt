@@ -91,69 +91,62 @@ taken_written answerer more old new held now then found found_now none answers e
     (IsWritten answerer held now found) (IsWritten answerer held then (found || answers.found)) t
     (λ entries adds. written_more answerer held now then found none answers entries empty put adds))
 
--- the list that was streamed, by the entries of the first lists; its refused lines are those that were read
-stream_read : (asked : Asked) (s : Stream) (new : Reading) (left left_after held held_after : Option (List ℕ))
-    (streamed : Streamed) → WasAsked asked s → s.lists.reading.lines.refused.count ≡ 0
-    → (k : WasMadeOf left left_after s.lists.reading new
+-- ---- a list that was streamed
+
+module _ (asked : Asked) (s : Stream) (new : Reading) (left left_after held held_after : Option (List ℕ))
+    (streamed : Streamed) (h : WasAsked asked s) (none : s.lists.reading.lines.refused.count ≡ 0)
+    (k : WasMadeOf left left_after s.lists.reading new
     (IsWritten s.answerer held held_after (found_by s.answerer streamed.succeeded)))
-    → streamed.refused ≡ new.lines.refused.count
-    → (is : IsStreamed asked left left_after held held_after streamed) × (is.refusals ≡ k.refusals)
-stream_read asked s new left left_after held held_after streamed h none k count =
-    let grammar = asked.grammar in
-    let lists = asked.lists in
-    let r = h.read in
-    let read = subst (AreListsRead grammar 0 lists asked.before)
-    (none_of_length r.refusals (sym r.kept.count ∙ none)) r.read in
-    let some : All HasSome k.entries =
-    entries_some s.lists.reading.lines.grammar s.lists.reading.lines.list 1 k.read.0 k.entries k.refusals k.read.2 in
-    let at : s.lists.reading.lines.list ≡ 0 + length lists = omega (arith, r.count) in
-    let is = answered_right asked.query s.answerer asked.first k.entries k.made.text streamed.succeeded h.for some
-    k.made.answers k.made.is_found in (
-      record {
-        bytes = k.bytes;
-        given = k.given;
-        before_read = read;
-        entries = k.entries;
-        refusals = k.refusals;
-        read = lists_push grammar 0 lists asked.before [] k.bytes k.entries k.refusals read
-            (subst (λ n. IsListRead grammar n k.bytes k.entries k.refusals) at
-            (subst (λ g. IsListRead g s.lists.reading.lines.list k.bytes k.entries k.refusals) r.same_grammar k.read));
-        text = k.made.text;
-        right = is.replies;
-        written = k.made.written;
-        count = omega (arith, count, k.added.count, none);
-        is_found = is.is_found;
-      },
-      refl,
-    )
+    (count : streamed.refused ≡ new.lines.refused.count) where
+  -- by the entries of the first lists; its refused lines are those that were read
+  stream_read : (is : IsStreamed asked left left_after held held_after streamed) × (is.refusals ≡ k.refusals)
+  stream_read =
+      let grammar = asked.grammar in
+      let lists = asked.lists in
+      let r = h.read in
+      let read = subst (AreListsRead grammar 0 lists asked.before)
+      (none_of_length r.refusals (sym r.kept.count ∙ none)) r.read in
+      let some : All HasSome k.entries =
+      entries_some s.lists.reading.lines.grammar s.lists.reading.lines.list 1 k.read.0 k.entries k.refusals k.read.2 in
+      let at : s.lists.reading.lines.list ≡ 0 + length lists = omega (arith, r.count) in
+      let is = answered_right asked.query s.answerer asked.first k.entries k.made.text streamed.succeeded h.for some
+      k.made.answers k.made.is_found in (
+        record {
+          bytes = k.bytes;
+          given = k.given;
+          before_read = read;
+          entries = k.entries;
+          refusals = k.refusals;
+          read = lists_push grammar 0 lists asked.before [] k.bytes k.entries k.refusals read
+              (subst (λ n. IsListRead grammar n k.bytes k.entries k.refusals) at
+              (subst (λ g. IsListRead g s.lists.reading.lines.list k.bytes k.entries k.refusals) r.same_grammar
+              k.read));
+          text = k.made.text;
+          right = is.replies;
+          written = k.made.written;
+          count = omega (arith, count, k.added.count, none);
+          is_found = is.is_found;
+        },
+        refl,
+      )
 
-pub stream_right : (asked : Asked) (s : Stream) (new : Reading) (left left_after held held_after : Option (List ℕ))
-    (streamed : Streamed) → WasAsked asked s → s.lists.reading.lines.refused.count ≡ 0
-    → WasMadeOf left left_after s.lists.reading new
-    (IsWritten s.answerer held held_after (found_by s.answerer streamed.succeeded))
-    → streamed.refused ≡ new.lines.refused.count → IsStreamed asked left left_after held held_after streamed
-stream_right asked s new left left_after held held_after streamed h none k count =
-    (stream_read asked s new left left_after held held_after streamed h none k count).0
+  pub stream_right : IsStreamed asked left left_after held held_after streamed
+  stream_right = let (is, same) = stream_read in is
 
--- and the reports of its refused lines
-pub stream_told : (asked : Asked) (s : Stream) (new : Reading) (left left_after held held_after : Option (List ℕ))
-    (streamed : Streamed) (names : Names) (faults faults_after : Option (List ℕ)) (IsSure : Type 0) → WasAsked asked s
-    → s.lists.reading.lines.refused.count ≡ 0
-    → WasMadeOf left left_after s.lists.reading new
-    (IsWritten s.answerer held held_after (found_by s.answerer streamed.succeeded))
-    → streamed.refused ≡ new.lines.refused.count
-    → (IsSure
-    → AreToldSince ExplainsEntry names s.lists.reading.lines.refused new.lines.refused faults faults_after)
-    → (is : IsStreamed asked left left_after held held_after streamed)
-    × (IsSure → AreTold ExplainsEntry names is.refusals faults faults_after)
-stream_told asked s new left left_after held held_after streamed names faults faults_after IsSure h none k count since =
-    let start = s.lists.reading.lines.refused in
-    let (is, same) = stream_read asked s new left left_after held held_after streamed h none k count in
-    let begun : AreRefused start [] = subst (AreRefused start)
-    (none_of_length h.read.refusals (sym h.read.kept.count ∙ none)) h.read.kept in
-    let kept : AreRefused new.lines.refused is.refusals = subst (AreRefused new.lines.refused) (sym same)
-    (more_refused start new.lines.refused [] k.refusals begun k.added) in (
-      is,
-      λ sure. told_all ExplainsEntry names start new.lines.refused is.refusals faults faults_after begun kept
-          (since sure),
-    )
+  -- and the reports of its refused lines
+  pub stream_told : (names : Names) (faults faults_after : Option (List ℕ)) (IsSure : Type 0)
+      → (IsSure
+      → AreToldSince ExplainsEntry names s.lists.reading.lines.refused new.lines.refused faults faults_after)
+      → (is : IsStreamed asked left left_after held held_after streamed)
+      × (IsSure → AreTold ExplainsEntry names is.refusals faults faults_after)
+  stream_told names faults faults_after IsSure since =
+      let start = s.lists.reading.lines.refused in
+      let (is, same) = stream_read in
+      let begun : AreRefused start [] = subst (AreRefused start)
+      (none_of_length h.read.refusals (sym h.read.kept.count ∙ none)) h.read.kept in
+      let kept : AreRefused new.lines.refused is.refusals = subst (AreRefused new.lines.refused) (sym same)
+      (more_refused start new.lines.refused [] k.refusals begun k.added) in (
+        is,
+        λ sure. told_all ExplainsEntry names start new.lines.refused is.refusals faults faults_after begun kept
+            (since sure),
+      )

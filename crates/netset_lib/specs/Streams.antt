@@ -18,8 +18,8 @@ use Rattle.ipnet_lists.specs.Lists.{ListEntry, Refusal, AreContents, AreRead, af
 use Rattle.netset_lib.specs.Replies.{AreReplies, IsFoundFor, found_for}
 use Rattle.netset_lib.specs.SetReaders.{WereRead}
 
--- What a stream is asked: a query by a list with the entries `first`, of the list that follows after `lists`, which have
--- the entries `before`, in this grammar.
+-- A question to a stream: a query by a list with the entries `first`. It is about the list that follows after `lists`,
+-- which have the entries `before` in this grammar.
 -- Example: a filter by 10.0.0.0/8, after the list `10.0.0.0/8\n`. If `10.0.0.0/9` is taken out of that list, there are
 -- two lists, and the filter is by 10.128.0.0/9.
 pub record Asked : Type 0 where

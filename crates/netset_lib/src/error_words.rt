@@ -1,4 +1,4 @@
-//! The words of an error, such as those of the system for why a call failed.
+//! The words of an error, as it displays them.
 ghost use Rattle.netset_lib.specs.Reports.{IsReason};
 
 use arrayvec::ArrayString;

@@ -176,19 +176,20 @@ more_after old new a b h k = record {
   count = omega (arith, k.count, h.count, length-append a b);
 }
 
--- bytes were taken
-pub undecided_more : (more : Bool) (left left_now to to_now : Option (List ℕ)) (start now taken : LineFilter)
-    (window : Window) (shown : List ℕ) → IsLogReading more left left_now to to_now start now window
-    → ((how : LinesRequest) → (set : IpSet) → (written : List ℕ) → (known : List WordRefusal) → (before : List ℕ)
-    → IsLogUpTo how set written known before now → IsTaken more how set written known (before ++ shown) taken)
-    → (how : LinesRequest) → (set : IpSet) → IsLogUpTo how set [] [] [] start
-    → (later : List WordRefusal) × HasMore now.undecided taken.undecided later
-undecided_more more left left_now to to_now start now taken window shown h takes how set begun =
-    let log = h.log how set begun in
-    let known : List WordRefusal = log.up_to.result.undecided ++ log.up_to.partial.undecided in
-    let (later, kept) = taken_more more how set h.written known (h.bytes ++ shown) taken
-    (takes how set h.written known h.bytes (as_known how set h.written h.bytes now log)) in
-    (later, more_after now.undecided taken.undecided known later log.up_to.undecided kept)
+module _ (more : Bool) (left left_now to to_now : Option (List ℕ)) (start now taken : LineFilter) (window : Window)
+    (shown : List ℕ) (h : IsLogReading more left left_now to to_now start now window)
+    (takes : (how : LinesRequest) → (set : IpSet) → (written : List ℕ) → (known : List WordRefusal)
+    → (before : List ℕ) → IsLogUpTo how set written known before now
+    → IsTaken more how set written known (before ++ shown) taken) where
+  -- bytes were taken
+  pub undecided_more : (how : LinesRequest) → (set : IpSet) → IsLogUpTo how set [] [] [] start
+      → (later : List WordRefusal) × HasMore now.undecided taken.undecided later
+  undecided_more how set begun =
+      let log = h.log how set begun in
+      let known : List WordRefusal = log.up_to.result.undecided ++ log.up_to.partial.undecided in
+      let (later, kept) = taken_more more how set h.written known (h.bytes ++ shown) taken
+      (takes how set h.written known h.bytes (as_known how set h.written h.bytes now log)) in
+      (later, more_after now.undecided taken.undecided known later log.up_to.undecided kept)
 
 -- each line is decided, so nothing was reported
 pub still_quiet : (more : Bool) (left left_now to to_now faults then after : Option (List ℕ))

@@ -14,7 +14,7 @@ use Rattle.netset_words.specs.Extracts.{WordRefusal}
 use Rattle.netset_words.specs.LogLines.{AreLogLines, LogResult}
 use Rattle.netset_words.specs.LogSteps.{IsCurrentLine}
 
--- The lines and the front of one more line were read. Of these lines, `known` and perhaps more are not decided.
+-- The lines and the front of one more line were read. `known` and perhaps others of these lines are not decided.
 pub record IsFilterUpTo (how : LinesRequest) (set : IpSet) (written : List ℕ) (known : List WordRefusal)
     (lines : List (List ℕ)) (cur : List ℕ) (f : LineFilter) : Type 0 where
   pub same_request : f.request ≡ how

@@ -36,7 +36,7 @@ pub returns-clause-told : goal.returns-clause-told
 returns-clause-told g c = λ asked h.
     stream_told asked c.args.self c.in_ok-reading.reading (g.R.Read.remaining c.args.input.now)
     (g.R.Read.remaining c.stream_entries.new.input) (g.W.Write.contents c.args.out.now)
-    (g.W.Write.contents c.stream_entries.new.out) _ c.args.names.now (g.X.Write.contents (writer_of c.args.faults.now))
-    (g.X.Write.contents (writer_of c.stream_entries.new.faults)) _ h
-    (sym c.refused_count.ensures ∙ c.if-refused_count-ne0.false) c.in_ok-reading.ensures.whole refl
+    (g.W.Write.contents c.stream_entries.new.out) _ h
+    (sym c.refused_count.ensures ∙ c.if-refused_count-ne0.false) c.in_ok-reading.ensures.whole refl c.args.names.now
+    (g.X.Write.contents (writer_of c.args.faults.now)) (g.X.Write.contents (writer_of c.stream_entries.new.faults)) _
     c.in_ok-reading.ensures.told
