@@ -1,5 +1,5 @@
 -- Answers that are written while a list is read.
-use Rattle.std.proofs.Common.{◌≡◌, ℕ, ◌+◌, ◌||◌, Bool, false, List, [], ◌∷◌}
+use Rattle.std.proofs.Common.{◌≡◌, ℕ, ◌+◌, ◌||◌, Bool, false, List, []}
 use Rattle.std.proofs.Common.{◌++◌, All, length, Option, refl}
 use Rattle.std.proofs.Common.{sym, ◌∙◌, subst, arith, string_bytes}
 use Rattle.std.specs.Io.KnownBytes.{Appends}

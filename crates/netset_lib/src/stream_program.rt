@@ -1,5 +1,5 @@
 //! A filter or a route whose answers are written while its last list is read, over any writers.
-ghost use Rattle.std.specs.Prelude.{◌≡◌, ◌≢◌, ◌≤◌, ◌==◌, ◌⊎◌, ◌↔◌, List, ℕ};
+ghost use Rattle.std.specs.Prelude.{◌≡◌, ◌≢◌, ◌≤◌, ◌==◌, ◌⊎◌, ◌↔◌};
 ghost use Rattle.std.specs.Io.KnownBytes.{Keeps};
 ghost use Rattle.netset_lib.specs.Streams.{Asked, WasAsked, IsStreamed, IsStreamedInPart};
 ghost use Rattle.ipnet_lists.specs.Reports.{ExplainsEntry};
