@@ -1,6 +1,6 @@
 -- The reports of the refused lines of two lists, one after the other.
-use Rattle.std.proofs.Common.{◌≡◌, ◌++◌, ℕ, zero, suc, List, [], Option, length, take, drop, inl, inr, refl, sym, ap, ◌∙◌}
-use Rattle.std.proofs.Common.{append_assoc}
+use Rattle.std.proofs.Common.{◌≡◌, ◌++◌, ℕ, zero, suc, List, [], Option, length, take, drop, inl, inr, refl, sym, ap}
+use Rattle.std.proofs.Common.{◌∙◌, append_assoc}
 use Rattle.std.specs.Io.{StartsWith}
 use Rattle.std.proofs.KnownBytes.{Appends-trans, starts_with_rest}
 use Rattle.std.proofs.lemmas.List.{take_at}

@@ -20,6 +20,12 @@ abbrev pub of_piece : PieceFailure → WriteFailure
 of_piece Pieces.Memory = Memory
 of_piece Pieces.Unwritable = Unwritable
 
+-- Why only a front of an answer was written, perhaps nothing: memory ran out, or a write failed. A write comes after the
+-- lists were read, and `IsRead` says what is then known of them.
+abbrev pub IsPieceFailure : (IsRead : Type 0) → PieceFailure → Type 0
+IsPieceFailure IsRead Pieces.Memory = Unit {0}
+IsPieceFailure IsRead Pieces.Unwritable = IsRead
+
 -- These lines of the list are refused, perhaps none. Example: line 2 of `::1\nx\n`.
 abbrev pub AreRefusedOf : Grammar → List ℕ → Refusals NotEntry → Type 0
 AreRefusedOf grammar bytes lines = (entries : List NumberedEntry) × (refusals : List Refusal)
