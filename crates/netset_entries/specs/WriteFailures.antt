@@ -1,5 +1,5 @@
--- Why an answer about the entries of lists was not written, or only a part of it. When memory runs out is not specified.
--- A write fails only after the lists were read.
+-- Why an answer about the entries of lists was not written, or only a part of it. When memory runs out is not
+-- specified. A write fails only after the lists were read.
 use Rattle.std.specs.Prelude.{◌≡◌, ◌≢◌, ◌⊎◌, ℕ, List, [], Option, Some, None}
 use Rattle.std.specs.Borrow.{Bor}
 use Rattle.ipnet.specs.declared.parser.Grammar.{Grammar}
@@ -15,13 +15,17 @@ use Rattle.netset_entries.specs.declared.lines.WriteFailure.TheVariants.{Refused
 use Rattle.netset_lib.specs.declared.piece_failure.PieceFailure.{PieceFailure}
 use Rattle.netset_lib.specs.declared.piece_failure.PieceFailure.TheVariants as Pieces
 
+-- The exit status of each failure.
+abbrev pub exit_of_write : WriteFailure → ℕ
+exit_of_write failure = 2
+
 -- The failure of a piece of an answer is this failure of the answer.
 abbrev pub of_piece : PieceFailure → WriteFailure
 of_piece Pieces.Memory = Memory
 of_piece Pieces.Unwritable = Unwritable
 
--- Why only a front of an answer was written, perhaps nothing: memory ran out, or a write failed. A write comes after the
--- lists were read, and `IsRead` says what is then known of them.
+-- Why only a front of an answer was written, perhaps nothing: memory ran out, or a write failed. A write comes after
+-- the lists were read, and `IsRead` says what is then known of them.
 abbrev pub IsPieceFailure : (IsRead : Type 0) → PieceFailure → Type 0
 IsPieceFailure IsRead Pieces.Memory = Unit {0}
 IsPieceFailure IsRead Pieces.Unwritable = IsRead
@@ -39,8 +43,8 @@ IsListFailure grammar bytes (Refused lines others) =
 IsListFailure grammar bytes Memory = Unit {0}
 IsListFailure grammar bytes Unwritable = IsWholeList grammar bytes
 
--- Why there is no whole answer about two lists: some lines of one are refused, or memory ran out, or none is refused and
--- a write failed.
+-- Why there is no whole answer about two lists: some lines of one are refused, or memory ran out, or none is refused
+-- and a write failed.
 abbrev pub IsPairFailure : Grammar → (bytes other : List ℕ) → WriteFailure → Type 0
 IsPairFailure grammar bytes other (Refused first second) = AreRefusedOf grammar bytes first
     × AreRefusedOf grammar other second × ((first.count ≢ 0) ⊎ (second.count ≢ 0))
