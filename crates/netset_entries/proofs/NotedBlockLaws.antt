@@ -2,7 +2,6 @@
 use Rattle.std.proofs.Common.{◌≡◌, ◌≤◌, ◌⊎◌, ℕ, List, [], ◌∷◌, ◌++◌, All, Any, Contains, Option}
 use Rattle.std.proofs.Common.{sym, ap, ◌∙◌, subst, arith, inl, inr, refl}
 use Rattle.std.proofs.lemmas.List.Elements.{All-append, All-weaker}
-use Rattle.std.proofs.lemmas.List.Quantifiers.{Any-push}
 use Rattle.ipnet_base.proofs.ListLaws.{contains_cases, contains_nil}
 use Rattle.ipnet_base.specs.Address.{Family, IPv4, IPv6, width}
 use Rattle.ipnet_base.specs.Network.{Network}
@@ -12,14 +11,15 @@ use Rattle.ipnet.specs.declared.parser.Grammar.{Grammar}
 use Rattle.ipnet_rules.proofs.VerdictLaws.{any_append}
 use Rattle.ipnet_sets.proofs.JoinLaws.{any_push}
 use Rattle.netset_entries.specs.NotedEntries.{IsTitledBlock, IsTitledIn, IsNotedOf, HaveLargest, AreNoted, lines_of_all}
-use Rattle.netset_entries.specs.NotedEntries.{AreLargerFirst, MeetsFrame, Title, title_of}
+use Rattle.netset_entries.specs.NotedEntries.{AreInLineOrder, AreInOrder, AreLargerFirst, MeetsFrame, Title, title_of}
 use Rattle.netset_entries.specs.NoteSteps.{blocks_in, AreLargest, AreNone, IsOfFamily, IsHeld, KeepsHeld, TakesBlock}
-use Rattle.netset_entries.specs.NoteSteps.{AreBlocksOf, AreKept, KeepsBlock, ReadsLine, IsSmallLine}
-use Rattle.netset_entries.specs.NoteSteps.{largest_of}
+use Rattle.netset_entries.specs.NoteSteps.{AreBlocksOf, AreKept, AreOrdered, IsOfLast, KeepsBlock, OrdersBlock}
+use Rattle.netset_entries.specs.NoteSteps.{ReadsLine, IsSmallLine, largest_of}
 use Rattle.netset_entries.specs.declared.largest.Largest.{Largest}
 use Rattle.netset_entries.specs.declared.largest.NotedEntry.{NotedEntry}
 use Rattle.netset_entries.specs.declared.noted.NotedBlocks.{NotedBlocks}
 use Rattle.netset_entries.proofs.NoteLaws.{appended, largest_each, largest_none, largest_or_held, largest_weaker}
+use Rattle.netset_entries.proofs.NoteOrder.{after_all, of_last, ordered_more, ordered_none, pairs_filed}
 
 -- ---- both families
 
@@ -45,6 +45,8 @@ nothing_kept grammar frame b same_grammar same_frame ipv4 ipv6 = record {
     largest = both (λ f. AreLargest f (IsOfFamily grammar frame [] f) (largest_of f b))
         (largest_none IPv4 (IsOfFamily grammar frame [] IPv4) b.ipv4 ipv4)
         (largest_none IPv6 (IsOfFamily grammar frame [] IPv6) b.ipv6 ipv6);
+    ordered = both (λ f. AreOrdered grammar [] (largest_of f b)) (ordered_none grammar [] 33 b.ipv4 ipv4)
+        (ordered_none grammar [] 129 b.ipv6 ipv6);
   };
   all = λ n title h. absurd (contains_nil h.block.1 (h.block.0, h.block.2, h.block.3));
 }
@@ -73,6 +75,7 @@ blocks_more grammar frame lines more b h = record {
   largest = λ family.
       largest_weaker family (IsOfFamily grammar frame lines family) (IsOfFamily grammar frame (lines ++ more) family)
       (family_more grammar frame lines more family) (largest_of family b) (h.largest family);
+  ordered = λ family. ordered_more grammar lines more (largest_of family b) (h.ordered family);
 }
 
 same_blocks : (grammar : Grammar) (frame : Option IpNet) (lines : List (List ℕ)) (old new : NotedBlocks)
@@ -84,6 +87,7 @@ same_blocks grammar frame lines old new same_grammar same_frame same h = record 
   same_frame = same_frame ∙ h.same_frame;
   largest = λ family.
       subst (AreLargest family (IsOfFamily grammar frame lines family)) (sym (same family)) (h.largest family);
+  ordered = λ family. subst (AreOrdered grammar lines) (sym (same family)) (h.ordered family);
 }
 
 -- a block of the lines is one of those before the last, or of the last
@@ -174,26 +178,46 @@ module _ (old new : NotedBlocks) (block : NotedEntry) (title : Title) (same_gram
         subst (λ f. IsHeld (ip_network block.network) title (largest_of f new)) (sym same_family)
         (subst (λ z. IsHeld (ip_network block.network) z (largest_of family new)) same_title has)
 
-    pub ipv4_taken : (ip_network block.network).family ≡ IPv4 → TakesBlock old.ipv4 new.ipv4 block
+    -- the others come before the block
+    earlier : (family : Family) → (grammar : Grammar) (frame : Option IpNet) (lines : List (List ℕ))
+        → IsOfLast grammar (ip_network block.network) title lines → AreBlocksOf grammar frame lines old
+        → All (λ e. AreInOrder grammar lines e block) (blocks_in (largest_of family old).by_len.items)
+    earlier family grammar frame lines last h =
+        let Is = IsOfFamily grammar frame lines family in
+        let is_last = subst (λ z. IsOfLast grammar (ip_network block.network) z lines) (sym same_title) last in
+        All-weaker Is (λ e. AreInOrder grammar lines e block)
+        (λ e q. after_all grammar lines e block q.noted.block is_last) (blocks_in (largest_of family old).by_len.items)
+        (largest_each family Is (largest_of family old) (h.largest family))
+
+    pub ipv4_taken : (ip_network block.network).family ≡ IPv4
+        → TakesBlock old.ipv4 new.ipv4 block × OrdersBlock old.ipv4 new.ipv4 block
         → new.ipv6 ≡ old.ipv6 → KeepsBlock old new (ip_network block.network) title
-    ipv4_taken same_family takes same_ipv6 = λ grammar frame lines any h.
-        let got = takes grammar frame lines IPv4 (is_of IPv4 same_family grammar frame lines any h) (h.largest IPv4) in
+    ipv4_taken same_family takes same_ipv6 = λ grammar frame lines last h.
+        let any = of_last grammar (ip_network block.network) title lines last in
+        let got = takes.0 grammar frame lines IPv4 (is_of IPv4 same_family grammar frame lines any h)
+        (h.largest IPv4) in
         record {
           blocks = record {
             same_grammar = same_grammar ∙ h.same_grammar;
             same_frame = same_frame ∙ h.same_frame;
             largest = both (λ f. AreLargest f (IsOfFamily grammar frame lines f) (largest_of f new)) got.largest
                 (subst (AreLargest IPv6 (IsOfFamily grammar frame lines IPv6)) (sym same_ipv6) (h.largest IPv6));
+            ordered = both (λ f. AreOrdered grammar lines (largest_of f new))
+                (takes.1 grammar lines (earlier IPv4 grammar frame lines last h) (h.ordered IPv4))
+                (subst (AreOrdered grammar lines) (sym same_ipv6) (h.ordered IPv6));
           };
           held = both (λ f. KeepsHeld (largest_of f old) (largest_of f new)) got.held
               (still_held old.ipv6 new.ipv6 same_ipv6);
           has = λ within. held_as IPv4 same_family got.has;
         }
 
-    pub ipv6_taken : (ip_network block.network).family ≡ IPv6 → TakesBlock old.ipv6 new.ipv6 block
+    pub ipv6_taken : (ip_network block.network).family ≡ IPv6
+        → TakesBlock old.ipv6 new.ipv6 block × OrdersBlock old.ipv6 new.ipv6 block
         → new.ipv4 ≡ old.ipv4 → KeepsBlock old new (ip_network block.network) title
-    ipv6_taken same_family takes same_ipv4 = λ grammar frame lines any h.
-        let got = takes grammar frame lines IPv6 (is_of IPv6 same_family grammar frame lines any h) (h.largest IPv6) in
+    ipv6_taken same_family takes same_ipv4 = λ grammar frame lines last h.
+        let any = of_last grammar (ip_network block.network) title lines last in
+        let got = takes.0 grammar frame lines IPv6 (is_of IPv6 same_family grammar frame lines any h)
+        (h.largest IPv6) in
         record {
           blocks = record {
             same_grammar = same_grammar ∙ h.same_grammar;
@@ -201,6 +225,9 @@ module _ (old new : NotedBlocks) (block : NotedEntry) (title : Title) (same_gram
             largest = both (λ f. AreLargest f (IsOfFamily grammar frame lines f) (largest_of f new))
                 (subst (AreLargest IPv4 (IsOfFamily grammar frame lines IPv4)) (sym same_ipv4) (h.largest IPv4))
                 got.largest;
+            ordered = both (λ f. AreOrdered grammar lines (largest_of f new))
+                (subst (AreOrdered grammar lines) (sym same_ipv4) (h.ordered IPv4))
+                (takes.1 grammar lines (earlier IPv6 grammar frame lines last h) (h.ordered IPv6));
           };
           held = both (λ f. KeepsHeld (largest_of f old) (largest_of f new))
               (still_held old.ipv4 new.ipv4 same_ipv4) got.held;
@@ -240,8 +267,9 @@ pub part_more : (old now new : NotedBlocks) (line : List ℕ) (title : Title) (n
 part_more old now new line title n left block one reads keeps = λ grammar frame lines h.
     let part = reads grammar frame lines h in
     let is = subst (λ g. IsTitledBlock g n title line) h.same_grammar block in
-    let kept = keeps grammar frame (lines ++ line ∷ []) (Any-push (IsTitledBlock grammar n title) lines line is)
-    part.blocks in
+    let last : IsOfLast grammar n title (lines ++ line ∷ []) =
+    record { before = lines; line = line; cut = refl; block = is } in
+    let kept = keeps grammar frame (lines ++ line ∷ []) last part.blocks in
     record {
       blocks = kept.blocks;
       held = λ family k other held. kept.held family k other (part.held family k other held);
@@ -302,6 +330,12 @@ module _ (grammar : Grammar) (frame : Option IpNet) (lines : List (List ℕ)) (b
         (omega (arith, ap width same, titled.block.4.block.inside.network.prefix_fits))
         (subst (λ f. IsHeld n title (largest_of f b)) same (h.all n title titled))
 
+    in_line_order : (family : Family)
+        → AreInLineOrder grammar lines (blocks_in (largest_of family b).by_len.items)
+    in_line_order family =
+        pairs_filed (AreInOrder grammar lines) (IsOfFamily grammar frame lines family)
+        (largest_of family b).by_len.items 0 (h.blocks.largest family).filed (h.blocks.ordered family)
+
 pub all_appended : (grammar : Grammar) (frame : Option IpNet) (lists : List (List ℕ)) (b : NotedBlocks)
     (entries : List NotedEntry) → entries ≡ blocks_in b.ipv4.by_len.items ++ blocks_in b.ipv6.by_len.items
     → AreKept grammar frame (lines_of_all lists) b → AreNoted grammar frame lists entries
@@ -319,4 +353,6 @@ all_appended grammar frame lists b entries is h =
           (each_noted grammar frame (lines_of_all lists) b h IPv6));
       ipv4_largest = has_largest grammar frame (lines_of_all lists) b h IPv4;
       ipv6_largest = has_largest grammar frame (lines_of_all lists) b h IPv6;
+      ipv4_order = in_line_order grammar frame (lines_of_all lists) b h IPv4;
+      ipv6_order = in_line_order grammar frame (lines_of_all lists) b h IPv6;
     }
