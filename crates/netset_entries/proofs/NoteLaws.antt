@@ -139,6 +139,7 @@ push_kept old new block m few = λ grammar frame lines family is h.
           | inr (most, none) ↦ absurd (omega (arith, most, kept, few))
         ];
       };
+      once = omega (arith, kept);
       held = λ n title held less.
           more_any (IsNotedAs n title) old new block m (inl (held (omega (arith, less, m.same_end))));
       has = λ less.
@@ -184,6 +185,7 @@ push_dropped old now new block drop_one m many = λ grammar frame lines family i
         few = omega (arith, kept, drops.kept, h.few);
         full = inr (omega (arith, kept, drops.kept, h.few, many), drops.past);
       };
+      once = omega (arith, kept, drops.kept);
       held = λ n title held less.
           any_front Is now.by_len.items new.by_len.items new.end n title filed drops.larger less
           (more_any (IsNotedAs n title) old now block m
@@ -217,6 +219,7 @@ push_none : (old : Largest) (block : NotedEntry) → old.end ≤ (ip_network blo
     → TakesBlock old old block
 push_none old block small = λ grammar frame lines family is h. record {
   largest = h;
+  once = omega arith;
   held = λ n title held. held;
   has = λ less. absurd (omega (arith, small, less));
 }

@@ -1,6 +1,7 @@
 -- The blocks of both families, as the lines of lists are read.
 use Rattle.std.proofs.Common.{◌≡◌, ◌≤◌, ◌⊎◌, ℕ, List, [], ◌∷◌, ◌++◌, All, Any, Contains, Option}
-use Rattle.std.proofs.Common.{sym, ap, ◌∙◌, subst, arith, inl, inr, refl}
+use Rattle.std.proofs.Common.{sym, ap, ◌∙◌, subst, arith, inl, inr, refl, ◌+◌, length}
+use Rattle.std.proofs.lemmas.List.{length-append}
 use Rattle.std.proofs.lemmas.List.Elements.{All-append, All-weaker}
 use Rattle.ipnet_base.proofs.ListLaws.{contains_cases, contains_nil}
 use Rattle.ipnet_base.specs.Address.{Family, IPv4, IPv6, width}
@@ -34,6 +35,10 @@ same_of old new same_ipv4 same_ipv6 = both (λ f. largest_of f new ≡ largest_o
 still_held : (old new : Largest) → new ≡ old → KeepsHeld old new
 still_held old new same n title held = subst (IsHeld n title) (sym same) held
 
+-- At least this number of blocks more was counted, up to 3,000: of two families no more are noted.
+abbrev pub CountsMore : ℕ → NotedBlocks → NotedBlocks → Type 0
+CountsMore more old new = (k : ℕ) → k ≤ 3000 → k ≤ old.count + more → k ≤ new.count
+
 -- ---- no line
 
 pub nothing_kept : (grammar : Grammar) (frame : Option IpNet) (b : NotedBlocks) → b.grammar ≡ grammar
@@ -47,6 +52,7 @@ nothing_kept grammar frame b same_grammar same_frame ipv4 ipv6 = record {
         (largest_none IPv6 (IsOfFamily grammar frame [] IPv6) b.ipv6 ipv6);
     ordered = both (λ f. AreOrdered grammar [] (largest_of f b)) (ordered_none grammar [] 33 b.ipv4 ipv4)
         (ordered_none grammar [] 129 b.ipv6 ipv6);
+    counted = omega (arith, ipv4.kept, ipv6.kept);
   };
   all = λ n title h. absurd (contains_nil h.block.1 (h.block.0, h.block.2, h.block.3));
 }
@@ -76,19 +82,27 @@ blocks_more grammar frame lines more b h = record {
       largest_weaker family (IsOfFamily grammar frame lines family) (IsOfFamily grammar frame (lines ++ more) family)
       (family_more grammar frame lines more family) (largest_of family b) (h.largest family);
   ordered = λ family. ordered_more grammar lines more (largest_of family b) (h.ordered family);
+  counted = h.counted;
 }
 
 same_blocks : (grammar : Grammar) (frame : Option IpNet) (lines : List (List ℕ)) (old new : NotedBlocks)
     → new.grammar ≡ old.grammar → new.frame ≡ old.frame
-    → ((family : Family) → largest_of family new ≡ largest_of family old) → AreBlocksOf grammar frame lines old
-    → AreBlocksOf grammar frame lines new
-same_blocks grammar frame lines old new same_grammar same_frame same h = record {
-  same_grammar = same_grammar ∙ h.same_grammar;
-  same_frame = same_frame ∙ h.same_frame;
-  largest = λ family.
-      subst (AreLargest family (IsOfFamily grammar frame lines family)) (sym (same family)) (h.largest family);
-  ordered = λ family. subst (AreOrdered grammar lines) (sym (same family)) (h.ordered family);
-}
+    → ((family : Family) → largest_of family new ≡ largest_of family old) → CountsMore 0 old new
+    → AreBlocksOf grammar frame lines old → AreBlocksOf grammar frame lines new
+same_blocks grammar frame lines old new same_grammar same_frame same counts h =
+    let four : new.ipv4.kept ≡ old.ipv4.kept = ap (λ z. z.kept) (same IPv4) in
+    let six : new.ipv6.kept ≡ old.ipv6.kept = ap (λ z. z.kept) (same IPv6) in
+    let few : old.ipv4.kept ≤ 1500 = (h.largest IPv4).few in
+    let few_too : old.ipv6.kept ≤ 1500 = (h.largest IPv6).few in
+    record {
+      same_grammar = same_grammar ∙ h.same_grammar;
+      same_frame = same_frame ∙ h.same_frame;
+      largest = λ family.
+          subst (AreLargest family (IsOfFamily grammar frame lines family)) (sym (same family)) (h.largest family);
+      ordered = λ family. subst (AreOrdered grammar lines) (sym (same family)) (h.ordered family);
+      counted = counts (new.ipv4.kept + new.ipv6.kept) (omega (arith, four, six, few, few_too))
+          (omega (arith, four, six, h.counted));
+    }
 
 -- a block of the lines is one of those before the last, or of the last
 one_of : (grammar : Grammar) (frame : Option IpNet) (lines : List (List ℕ)) (line : List ℕ) (n : Network)
@@ -102,11 +116,12 @@ one_of grammar frame lines line n title h =
 
 -- a line whose blocks are too small
 pub line_skipped : (old new : NotedBlocks) (line : List ℕ) → new.grammar ≡ old.grammar → new.frame ≡ old.frame
-    → new.ipv4 ≡ old.ipv4 → new.ipv6 ≡ old.ipv6 → IsSmallLine old line → ReadsLine old new line
-line_skipped old new line same_grammar same_frame same_ipv4 same_ipv6 small = λ grammar frame lines h.
+    → new.ipv4 ≡ old.ipv4 → new.ipv6 ≡ old.ipv6 → CountsMore 0 old new → IsSmallLine old line
+    → ReadsLine old new line
+line_skipped old new line same_grammar same_frame same_ipv4 same_ipv6 counts small = λ grammar frame lines h.
     let same = same_of old new same_ipv4 same_ipv6 in
     record {
-      blocks = same_blocks grammar frame (lines ++ line ∷ []) old new same_grammar same_frame same
+      blocks = same_blocks grammar frame (lines ++ line ∷ []) old new same_grammar same_frame same counts
           (blocks_more grammar frame lines (line ∷ []) old h.blocks);
       all = λ n title titled.
           subst (IsHeld n title) (sym (same n.family))
@@ -125,18 +140,19 @@ line_skipped old new line same_grammar same_frame same_ipv4 same_ipv6 small = λ
 pub line_empty : (old : NotedBlocks) (line : List ℕ)
     → ((n : Network) → (title : Title) → ¬ (IsTitledBlock old.grammar n title line)) → ReadsLine old old line
 line_empty old line none =
-    line_skipped old old line refl refl refl refl (λ n title h. absurd (none n title h))
+    line_skipped old old line refl refl refl refl (λ k small le. omega (arith, le))
+    (λ n title h. absurd (none n title h))
 
 -- ---- a block
 
 -- a block outside the frame
 pub block_outside : (old new : NotedBlocks) (n : Network) (title : Title) → new.grammar ≡ old.grammar
-    → new.frame ≡ old.frame → new.ipv4 ≡ old.ipv4 → new.ipv6 ≡ old.ipv6
+    → new.frame ≡ old.frame → new.ipv4 ≡ old.ipv4 → new.ipv6 ≡ old.ipv6 → CountsMore 0 old new
     → ¬ (MeetsFrame old.frame n) → KeepsBlock old new n title
-block_outside old new n title same_grammar same_frame same_ipv4 same_ipv6 outside = λ grammar frame lines any h.
+block_outside old new n title same_grammar same_frame same_ipv4 same_ipv6 counts outside = λ grammar frame lines last h.
     let same = same_of old new same_ipv4 same_ipv6 in
     record {
-      blocks = same_blocks grammar frame lines old new same_grammar same_frame same h;
+      blocks = same_blocks grammar frame lines old new same_grammar same_frame same counts h;
       held = λ family. still_held (largest_of family old) (largest_of family new) (same family);
       has = λ inside.
           absurd (outside (subst (λ z. MeetsFrame z n) (sym h.same_frame) inside));
@@ -144,12 +160,12 @@ block_outside old new n title same_grammar same_frame same_ipv4 same_ipv6 outsid
 
 -- a block that is too small
 pub block_past : (old new : NotedBlocks) (n : Network) (title : Title) → new.grammar ≡ old.grammar
-    → new.frame ≡ old.frame → new.ipv4 ≡ old.ipv4 → new.ipv6 ≡ old.ipv6
+    → new.frame ≡ old.frame → new.ipv4 ≡ old.ipv4 → new.ipv6 ≡ old.ipv6 → CountsMore 0 old new
     → (largest_of n.family new).end ≤ n.prefix_len → KeepsBlock old new n title
-block_past old new n title same_grammar same_frame same_ipv4 same_ipv6 past = λ grammar frame lines any h.
+block_past old new n title same_grammar same_frame same_ipv4 same_ipv6 counts past = λ grammar frame lines last h.
     let same = same_of old new same_ipv4 same_ipv6 in
     record {
-      blocks = same_blocks grammar frame lines old new same_grammar same_frame same h;
+      blocks = same_blocks grammar frame lines old new same_grammar same_frame same counts h;
       held = λ family. still_held (largest_of family old) (largest_of family new) (same family);
       has = λ inside short. absurd (omega (arith, past, short));
     }
@@ -191,8 +207,8 @@ module _ (old new : NotedBlocks) (block : NotedEntry) (title : Title) (same_gram
 
     pub ipv4_taken : (ip_network block.network).family ≡ IPv4
         → TakesBlock old.ipv4 new.ipv4 block × OrdersBlock old.ipv4 new.ipv4 block
-        → new.ipv6 ≡ old.ipv6 → KeepsBlock old new (ip_network block.network) title
-    ipv4_taken same_family takes same_ipv6 = λ grammar frame lines last h.
+        → new.ipv6 ≡ old.ipv6 → CountsMore 1 old new → KeepsBlock old new (ip_network block.network) title
+    ipv4_taken same_family takes same_ipv6 counts = λ grammar frame lines last h.
         let any = of_last grammar (ip_network block.network) title lines last in
         let got = takes.0 grammar frame lines IPv4 (is_of IPv4 same_family grammar frame lines any h)
         (h.largest IPv4) in
@@ -205,6 +221,11 @@ module _ (old new : NotedBlocks) (block : NotedEntry) (title : Title) (same_gram
             ordered = both (λ f. AreOrdered grammar lines (largest_of f new))
                 (takes.1 grammar lines (earlier IPv4 grammar frame lines last h) (h.ordered IPv4))
                 (subst (AreOrdered grammar lines) (sym same_ipv6) (h.ordered IPv6));
+            counted =
+                let six : new.ipv6.kept ≡ old.ipv6.kept = ap (λ z. z.kept) same_ipv6 in
+                let few : old.ipv6.kept ≤ 1500 = (h.largest IPv6).few in
+                counts (new.ipv4.kept + new.ipv6.kept) (omega (arith, got.largest.few, six, few))
+                (omega (arith, got.once, six, h.counted));
           };
           held = both (λ f. KeepsHeld (largest_of f old) (largest_of f new)) got.held
               (still_held old.ipv6 new.ipv6 same_ipv6);
@@ -213,8 +234,8 @@ module _ (old new : NotedBlocks) (block : NotedEntry) (title : Title) (same_gram
 
     pub ipv6_taken : (ip_network block.network).family ≡ IPv6
         → TakesBlock old.ipv6 new.ipv6 block × OrdersBlock old.ipv6 new.ipv6 block
-        → new.ipv4 ≡ old.ipv4 → KeepsBlock old new (ip_network block.network) title
-    ipv6_taken same_family takes same_ipv4 = λ grammar frame lines last h.
+        → new.ipv4 ≡ old.ipv4 → CountsMore 1 old new → KeepsBlock old new (ip_network block.network) title
+    ipv6_taken same_family takes same_ipv4 counts = λ grammar frame lines last h.
         let any = of_last grammar (ip_network block.network) title lines last in
         let got = takes.0 grammar frame lines IPv6 (is_of IPv6 same_family grammar frame lines any h)
         (h.largest IPv6) in
@@ -228,6 +249,11 @@ module _ (old new : NotedBlocks) (block : NotedEntry) (title : Title) (same_gram
             ordered = both (λ f. AreOrdered grammar lines (largest_of f new))
                 (subst (AreOrdered grammar lines) (sym same_ipv4) (h.ordered IPv4))
                 (takes.1 grammar lines (earlier IPv6 grammar frame lines last h) (h.ordered IPv6));
+            counted =
+                let four : new.ipv4.kept ≡ old.ipv4.kept = ap (λ z. z.kept) same_ipv4 in
+                let few : old.ipv4.kept ≤ 1500 = (h.largest IPv4).few in
+                counts (new.ipv4.kept + new.ipv6.kept) (omega (arith, got.largest.few, four, few))
+                (omega (arith, got.once, four, h.counted));
           };
           held = both (λ f. KeepsHeld (largest_of f old) (largest_of f new))
               (still_held old.ipv4 new.ipv4 same_ipv4) got.held;
@@ -335,6 +361,22 @@ module _ (grammar : Grammar) (frame : Option IpNet) (lines : List (List ℕ)) (b
     in_line_order family =
         pairs_filed (AreInOrder grammar lines) (IsOfFamily grammar frame lines family)
         (largest_of family b).by_len.items 0 (h.blocks.largest family).filed (h.blocks.ordered family)
+
+-- at least as many blocks were counted
+pub all_counted : (grammar : Grammar) (frame : Option IpNet) (lines : List (List ℕ)) (b : NotedBlocks)
+    (entries : List NotedEntry) → entries ≡ blocks_in b.ipv4.by_len.items ++ blocks_in b.ipv6.by_len.items
+    → AreKept grammar frame lines b → length entries ≤ b.count
+all_counted grammar frame lines b entries is h =
+    let four : b.ipv4.kept ≡ length (blocks_in b.ipv4.by_len.items) = (h.blocks.largest IPv4).count in
+    let six : b.ipv6.kept ≡ length (blocks_in b.ipv6.by_len.items) = (h.blocks.largest IPv6).count in
+    omega (
+      arith,
+      ap length is,
+      length-append (blocks_in b.ipv4.by_len.items) (blocks_in b.ipv6.by_len.items),
+      four,
+      six,
+      h.blocks.counted,
+    )
 
 pub all_appended : (grammar : Grammar) (frame : Option IpNet) (lists : List (List ℕ)) (b : NotedBlocks)
     (entries : List NotedEntry) → entries ≡ blocks_in b.ipv4.by_len.items ++ blocks_in b.ipv6.by_len.items

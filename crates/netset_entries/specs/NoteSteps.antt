@@ -73,6 +73,7 @@ KeepsHeld old new = (n : Network) → (title : Title) → IsHeld n title old →
 pub record HasTaken (family : Family) (Is : NotedEntry → Type 0) (old new : Largest) (block : NotedEntry) : Type
     0 where
   pub largest : AreLargest family Is new
+  pub once : new.kept ≤ old.kept + 1
   pub held : KeepsHeld old new
   pub has : IsHeld (ip_network block.network) (title_of block) new
 
@@ -118,13 +119,15 @@ abbrev pub largest_of : Family → NotedBlocks → Largest
 largest_of IPv4 b = b.ipv4
 largest_of IPv6 b = b.ipv6
 
--- The blocks are noted of these lines, and blocks of one prefix length are in the order of the lines.
+-- The blocks are noted of these lines, and blocks of one prefix length are in the order of the lines. At least as many
+-- were counted.
 pub record AreBlocksOf (grammar : Grammar) (frame : Option IpNet) (lines : List (List ℕ)) (b : NotedBlocks) : Type
     0 where
   pub same_grammar : b.grammar ≡ grammar
   pub same_frame : b.frame ≡ frame
   pub largest : (family : Family) → AreLargest family (IsOfFamily grammar frame lines family) (largest_of family b)
   pub ordered : (family : Family) → AreOrdered grammar lines (largest_of family b)
+  pub counted : b.ipv4.kept + b.ipv6.kept ≤ b.count
 
 -- The blocks are noted of these lines, and none is missing, unless it is too small.
 pub record AreKept (grammar : Grammar) (frame : Option IpNet) (lines : List (List ℕ)) (b : NotedBlocks) : Type 0 where

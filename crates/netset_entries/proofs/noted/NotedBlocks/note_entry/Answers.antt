@@ -1,4 +1,4 @@
-use Rattle.std.proofs.Common.{rules, ◌∙◌, ap, Contains, refl, sym, subst, string_bytes}
+use Rattle.std.proofs.Common.{rules, ◌∙◌, ap, arith, Contains, refl, sym, subst, string_bytes}
 use Rattle.ipnet_base.specs.Blocks.{AreMaximalBlocks}
 use Rattle.ipnet_base.proofs.ListLaws.{contains_here, contains_there}
 use Rattle.ipnet.specs.NetworkOf.{ip_network}
@@ -25,6 +25,7 @@ returns-in-Some-count_small c =
     let old = c.args.self.now in
     let line = c.args.line.now in
     line_skipped old _ line refl refl refl refl
+    (λ k small le. omega (arith, small, le, c.saturating_add-self.ensures))
     (small_entry old line c.contents_of-text.result.now c.contents_of-text.ensures (entry_range c.in-Some.found.entry)
     c.in-Some.ensures.reads.some c.in-Some-count_small.ensures)
 
