@@ -2,7 +2,7 @@
 use Rattle.std.proofs.Common.{Bool, true, false}
 use Rattle.std.proofs.Common.{◌≡◌, ◌⊎◌, ℕ, zero, suc, ◌+◌, ◌-◌, ◌<◌, ◌≤◌, List, [], ◌∷◌, ◌++◌, length, get_or, set}
 use Rattle.std.proofs.Common.{take, drop, All, AllPairs, Any, Option, None, Some, refl, sym, ap, ◌∙◌, subst, arith}
-use Rattle.std.proofs.Common.{inl, inr}
+use Rattle.std.proofs.Common.{Contains, inl, inr}
 use Rattle.std.specs.Global.{Vec}
 use Rattle.std.specs.Option.{option_to_list, is_some}
 use Rattle.std.proofs.lemmas.Bool.{cases_lt}
@@ -21,7 +21,7 @@ use Rattle.netset_entries.specs.declared.largest.NotedEntry.{NotedEntry}
 use Rattle.netset_entries.proofs.FiledLaws.{len_of, blocks_cons, filed_none, filed_more, filed_less, members_filed}
 use Rattle.netset_entries.proofs.FiledLaws.{order_filed, filed_weaker, none_in, count_more, count_less, still_none}
 use Rattle.netset_entries.proofs.FiledLaws.{fewer_after, drops_set, any_more, any_front, all_short}
-use Rattle.netset_entries.proofs.NoteOrder.{pairs_less, pairs_more}
+use Rattle.netset_entries.proofs.NoteOrder.{none_more, one_more, pairs_less, pairs_more}
 
 -- ---- the blocks of one family
 
@@ -124,6 +124,13 @@ more_lengths : (old new : Largest) (block : NotedEntry) → HasMore old new bloc
     → length new.by_len.items ≡ length old.by_len.items
 more_lengths old new block m = ap length m.lists ∙ length-set old.by_len.items m.index m.longer
 
+-- no other block is there
+more_only : (old new : Largest) (block : NotedEntry) → HasMore old new block → (e : NotedEntry)
+    → Contains (blocks_in new.by_len.items) e → Contains (blocks_in old.by_len.items) e ⊎ (e ≡ block)
+more_only old new block m e is_in =
+    one_more old.by_len.items m.index m.list m.longer block m.within m.read m.items e
+    (subst (λ z. Contains (blocks_in z) e) m.lists is_in)
+
 push_kept : (old new : Largest) (block : NotedEntry) → HasMore old new block → new.kept ≤ 1500
     → TakesBlock old new block
 push_kept old new block m few = λ grammar frame lines family is h.
@@ -140,6 +147,7 @@ push_kept old new block m few = λ grammar frame lines family is h.
         ];
       };
       once = omega (arith, kept);
+      only = more_only old new block m;
       held = λ n title held less.
           more_any (IsNotedAs n title) old new block m (inl (held (omega (arith, less, m.same_end))));
       has = λ less.
@@ -186,6 +194,7 @@ push_dropped old now new block drop_one m many = λ grammar frame lines family i
         full = inr (omega (arith, kept, drops.kept, h.few, many), drops.past);
       };
       once = omega (arith, kept, drops.kept);
+      only = λ e is_in. more_only old now block m e (drop_one.fewer e is_in);
       held = λ n title held less.
           any_front Is now.by_len.items new.by_len.items new.end n title filed drops.larger less
           (more_any (IsNotedAs n title) old now block m
@@ -220,6 +229,7 @@ push_none : (old : Largest) (block : NotedEntry) → old.end ≤ (ip_network blo
 push_none old block small = λ grammar frame lines family is h. record {
   largest = h;
   once = omega arith;
+  only = λ e is_in. inl is_in;
   held = λ n title held. held;
   has = λ less. absurd (omega (arith, small, less));
 }
@@ -238,6 +248,7 @@ pub record IsUpTo (index : ℕ) (start now : Largest) : Type 0 where
       → AreFiled (IsOfFamily grammar frame lines family) 0 now.by_len.items
   pub ordered : (grammar : Grammar) → (lines : List (List ℕ)) → AreOrdered grammar lines start
       → AreOrdered grammar lines now
+  pub fewer : (e : NotedEntry) → Contains (blocks_in now.by_len.items) e → Contains (blocks_in start.by_len.items) e
   pub blocks : (j : ℕ) → length (blocks_in (drop j now.by_len.items)) ≡ length (blocks_in (drop j start.by_len.items))
   pub larger : (j : ℕ) → j ≤ index → take j now.by_len.items ≡ take j start.by_len.items
   pub kept : now.kept ≡ start.kept
@@ -248,6 +259,7 @@ up_to_start index start past = record {
   lengths = refl;
   filed = λ grammar frame lines family h. h;
   ordered = λ grammar lines h. h;
+  fewer = λ e is_in. is_in;
   blocks = λ j. refl;
   larger = λ j le. refl;
   kept = refl;
@@ -288,6 +300,11 @@ module _ (start now new : Largest) (index before : ℕ) (list shorter : Vec Note
         subst (All (λ v. AllPairs R v.items)) (sym lists)
         (pairs_less R now.by_len.items index list shorter popped within read items (h.ordered grammar lines k))
 
+    fewer_now : (e : NotedEntry) → Contains (blocks_in new.by_len.items) e → Contains (blocks_in start.by_len.items) e
+    fewer_now e is_in =
+        h.fewer e (none_more now.by_len.items index list shorter popped within read items e
+        (subst (λ z. Contains (blocks_in z) e) lists is_in))
+
     larger_now : (j : ℕ) → j ≤ index → take j new.by_len.items ≡ take j start.by_len.items
     larger_now j le =
         ap (take j) lists ∙ take-set-le j now.by_len.items index shorter le ∙ h.larger j (omega (arith, le, next))
@@ -309,6 +326,7 @@ module _ (start now new : Largest) (index before : ℕ) (list shorter : Vec Note
           lengths = lengths_now;
           filed = filed_now;
           ordered = ordered_now;
+          fewer = fewer_now;
           blocks = λ j.
               ap (λ z. length (blocks_in (drop j z))) lists
               ∙ drops_set now.by_len.items index shorter list j within as_many ∙ h.blocks j;
@@ -348,6 +366,7 @@ module _ (start now new : Largest) (index before : ℕ) (list shorter : Vec Note
         record {
           filed = filed_now;
           ordered = ordered_now;
+          fewer = fewer_now;
           lengths = lengths_now;
           smallest = λ any. record {
             count = omega (arith, count_now, size, all);
@@ -373,6 +392,7 @@ up_to_none index start now h zero_index =
     record {
       filed = h.filed;
       ordered = h.ordered;
+      fewer = h.fewer;
       lengths = h.lengths;
       smallest = λ any. absurd (omega (arith, any, none, all));
     }

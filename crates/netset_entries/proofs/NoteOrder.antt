@@ -1,9 +1,10 @@
 -- Blocks of one prefix length, in the order of the lines.
 use Rattle.std.proofs.Common.{◌≡◌, ℕ, zero, suc, ◌+◌, ◌<◌, ◌≤◌, List, [], ◌∷◌, ◌++◌, length, get_or, set, All, AllPairs}
-use Rattle.std.proofs.Common.{Any, Option, sym, ap, ◌∙◌, subst, arith, append_assoc}
+use Rattle.std.proofs.Common.{Any, Contains, Option, ◌⊎◌, inl, inr, refl, sym, ap, ◌∙◌, subst, arith, append_assoc}
 use Rattle.std.specs.Global.{Vec}
 use Rattle.std.specs.Option.{option_to_list}
-use Rattle.std.proofs.lemmas.List.Elements.{All-contains, All-get_or, All-head, All-set, All-tail, All-weaker}
+use Rattle.std.proofs.lemmas.List.Elements.{All-append, All-contains, All-contains_itself, All-get_or, All-head}
+use Rattle.std.proofs.lemmas.List.Elements.{All-pop, All-push, All-set, All-tail, All-weaker}
 use Rattle.std.proofs.lemmas.List.Quantifiers.{Any-push, all_pairs_push}
 use Rattle.ipnet_base.proofs.ListLaws.{pairs_append, pairs_weaker}
 use Rattle.ipnet_base.specs.Network.{Network}
@@ -28,6 +29,7 @@ order_more grammar lines more e later h = record {
   cut = ap (λ z. z ++ more) h.cut ∙ append_assoc h.before (h.line ∷ h.after) more;
   first = h.first;
   second = h.second;
+  once = h.once;
 }
 
 -- a block of the last line is a block of the lines
@@ -40,15 +42,62 @@ of_last grammar n title lines h =
 -- and it comes after each block of the lines
 pub after_all : (grammar : Grammar) (lines : List (List ℕ)) (e block : NotedEntry)
     → Any (IsTitledBlock grammar (ip_network e.network) (title_of e)) lines
-    → IsOfLast grammar (ip_network block.network) (title_of block) lines → AreInOrder grammar lines e block
-after_all grammar lines e block any h = record {
+    → (h : IsOfLast grammar (ip_network block.network) (title_of block) lines)
+    → (ip_network e.network ≡ ip_network block.network
+    → Any (IsTitledBlock grammar (ip_network e.network) (title_of e)) h.before)
+    → AreInOrder grammar lines e block
+after_all grammar lines e block any h fresh = record {
   before = h.before;
   line = h.line;
   after = [];
   cut = h.cut;
   first = subst (Any (IsTitledBlock grammar (ip_network e.network) (title_of e))) h.cut any;
   second = h.block;
+  once = fresh;
 }
+
+-- ---- which blocks there are
+
+-- what holds of all blocks holds of the blocks of each list
+all_in : (P : NotedEntry → Type 0) (lists : List (Vec NotedEntry)) (i : ℕ) (d : Vec NotedEntry) → i < length lists
+    → All P (blocks_in lists) → All P (get_or lists i d).items
+all_in P [] i d less h = absurd (omega (arith, less))
+all_in P (x ∷ lists) zero d less h = all_left P x.items (blocks_in lists) h
+all_in P (x ∷ lists) (suc i) d less h =
+    all_in P lists i d (omega (arith, less)) (all_right P x.items (blocks_in lists) h)
+
+-- and of all with one list exchanged, if it holds of that list
+all_set : (P : NotedEntry → Type 0) (lists : List (Vec NotedEntry)) (i : ℕ) (w : Vec NotedEntry) → i < length lists
+    → All P (blocks_in lists) → All P w.items → All P (blocks_in (set lists i w))
+all_set P [] i w less h k = absurd (omega (arith, less))
+all_set P (x ∷ lists) zero w less h k =
+    All-append P w.items (blocks_in lists) k (all_right P x.items (blocks_in lists) h)
+all_set P (x ∷ lists) (suc i) w less h k =
+    All-append P x.items (blocks_in (set lists i w)) (all_left P x.items (blocks_in lists) h)
+    (all_set P lists i w (omega (arith, less)) (all_right P x.items (blocks_in lists) h) k)
+
+-- one block more
+pub one_more : (lists : List (Vec NotedEntry)) (i : ℕ) (v w : Vec NotedEntry) (block : NotedEntry) → i < length lists
+    → v ≡ get_or lists i v → w.items ≡ v.items ++ block ∷ [] → (e : NotedEntry)
+    → Contains (blocks_in (set lists i w)) e → Contains (blocks_in lists) e ⊎ (e ≡ block)
+one_more lists i v w block less read items e is_in =
+    let P : NotedEntry → Type 0 = λ z. Contains (blocks_in lists) z ⊎ (z ≡ block) in
+    let blocks = blocks_in lists in
+    let old : All P blocks = All-weaker (Contains blocks) P (λ z c. inl c) blocks (All-contains_itself blocks) in
+    let earlier : All P v.items = subst (λ z. All P z.items) (sym read) (all_in P lists i v less old) in
+    let all : All P w.items = subst (All P) (sym items) (All-push P v.items block earlier (inr refl)) in
+    All-contains P (blocks_in (set lists i w)) e (all_set P lists i w less old all) is_in
+
+-- one block less, or none
+pub none_more : (lists : List (Vec NotedEntry)) (i : ℕ) (v w : Vec NotedEntry) (popped : Option NotedEntry)
+    → i < length lists → v ≡ get_or lists i v → v.items ≡ w.items ++ option_to_list popped → (e : NotedEntry)
+    → Contains (blocks_in (set lists i w)) e → Contains (blocks_in lists) e
+none_more lists i v w popped less read items e is_in =
+    let P : NotedEntry → Type 0 = Contains (blocks_in lists) in
+    let old : All P (blocks_in lists) = All-contains_itself (blocks_in lists) in
+    let earlier : All P v.items = subst (λ z. All P z.items) (sym read) (all_in P lists i v less old) in
+    let all : All P w.items = (All-pop P v.items w.items popped items earlier).0 in
+    All-contains P (blocks_in (set lists i w)) e (all_set P lists i w less old all) is_in
 
 -- ---- the blocks of one family
 
@@ -68,16 +117,9 @@ module _ (R : NotedEntry → NotedEntry → Type 0) where
       → All (λ x. AllPairs R x.items) (set lists i w)
   pairs_more lists i v w block less read items first h =
       let earlier : All (λ e. R e block) v.items =
-      subst (λ z. All (λ e. R e block) z.items) (sym read) (in_list (λ e. R e block) lists i v less first) in
+      subst (λ z. All (λ e. R e block) z.items) (sym read) (all_in (λ e. R e block) lists i v less first) in
       All-set (λ x. AllPairs R x.items) lists i w
       (subst (AllPairs R) (sym items) (all_pairs_push R v.items block (here lists i v less read h) earlier)) h
-    where
-      in_list : (P : NotedEntry → Type 0) (lists : List (Vec NotedEntry)) (i : ℕ) (d : Vec NotedEntry)
-          → i < length lists → All P (blocks_in lists) → All P (get_or lists i d).items
-      in_list P [] i d less h = absurd (omega (arith, less))
-      in_list P (x ∷ lists) zero d less h = all_left P x.items (blocks_in lists) h
-      in_list P (x ∷ lists) (suc i) d less h =
-          in_list P lists i d (omega (arith, less)) (all_right P x.items (blocks_in lists) h)
 
   -- one block less at the end, or none
   pub pairs_less : (lists : List (Vec NotedEntry)) (i : ℕ) (v w : Vec NotedEntry) (popped : Option NotedEntry)

@@ -1,7 +1,7 @@
 -- Notes of lists that are read in pieces, and the private steps of noting their entries.
 -- Public contracts use only HaveNoted and IsBroken.
 use Rattle.std.specs.Prelude.{◌≡◌, ◌≢◌, ◌⊎◌, ◌<◌, ◌≤◌, ℕ, ◌+◌, ◌-◌, Bool, true, false, List, [], ◌∷◌, ◌++◌, length}
-use Rattle.std.specs.Prelude.{All, AllPairs, Any, Option, ⊤, take, drop, ◌==◌, ◌||◌, cond, nat_lt}
+use Rattle.std.specs.Prelude.{All, AllPairs, Any, Contains, Option, ⊤, take, drop, ◌==◌, ◌||◌, cond, nat_lt}
 use Rattle.std.specs.Char.{digit_value}
 use Rattle.std.specs.Global.{Vec}
 use Rattle.std.specs.List.{flat_map}
@@ -74,6 +74,8 @@ pub record HasTaken (family : Family) (Is : NotedEntry → Type 0) (old new : La
     0 where
   pub largest : AreLargest family Is new
   pub once : new.kept ≤ old.kept + 1
+  pub only : (e : NotedEntry) → Contains (blocks_in new.by_len.items) e
+      → Contains (blocks_in old.by_len.items) e ⊎ (e ≡ block)
   pub held : KeepsHeld old new
   pub has : IsHeld (ip_network block.network) (title_of block) new
 
@@ -109,6 +111,7 @@ pub record DropsOne (old new : Largest) : Type 0 where
       → AreFiled (IsOfFamily grammar frame lines family) 0 new.by_len.items
   pub ordered : (grammar : Grammar) → (lines : List (List ℕ)) → AreOrdered grammar lines old
       → AreOrdered grammar lines new
+  pub fewer : (e : NotedEntry) → Contains (blocks_in new.by_len.items) e → Contains (blocks_in old.by_len.items) e
   pub lengths : length new.by_len.items ≡ length old.by_len.items
   pub smallest : 0 < length (blocks_in old.by_len.items) → DropsSmallest old new
 
@@ -140,6 +143,8 @@ pub record HasKept (grammar : Grammar) (frame : Option IpNet) (lines : List (Lis
     (n : Network) (title : Title) : Type 0 where
   pub blocks : AreBlocksOf grammar frame lines new
   pub held : (family : Family) → KeepsHeld (largest_of family old) (largest_of family new)
+  pub only : (family : Family) → (e : NotedEntry) → Contains (blocks_in (largest_of family new).by_len.items) e
+      → Contains (blocks_in (largest_of family old).by_len.items) e ⊎ (ip_network e.network ≡ n)
   pub has : MeetsFrame frame n → IsHeld n title (largest_of n.family new)
 
 -- The network is a block of the entry of the last line, with this title.
@@ -149,11 +154,18 @@ pub record IsOfLast (grammar : Grammar) (n : Network) (title : Title) (lines : L
   pub cut : lines ≡ before ++ line ∷ []
   pub block : IsTitledBlock grammar n title line
 
--- A block of the entry of the last line was noted, unless it is too small or outside the frame.
+-- The notes of this network are of these lines.
+abbrev pub AreEarlier : Grammar → Network → List (List ℕ) → List NotedEntry → Type 0
+AreEarlier grammar n lines = All (λ e. ip_network e.network ≡ n
+    → Any (IsTitledBlock grammar (ip_network e.network) (title_of e)) lines)
+
+-- A block of the entry of the last line was noted, unless it is too small or outside the frame. The same network was
+-- noted of earlier lines only.
 abbrev pub KeepsBlock : NotedBlocks → NotedBlocks → Network → Title → Type 0
 KeepsBlock old new n title = (grammar : Grammar) → (frame : Option IpNet) → (lines : List (List ℕ))
-    → IsOfLast grammar n title lines → AreBlocksOf grammar frame lines old
-    → HasKept grammar frame lines old new n title
+    → (last : IsOfLast grammar n title lines)
+    → AreEarlier grammar n last.before (blocks_in (largest_of n.family old).by_len.items)
+    → AreBlocksOf grammar frame lines old → HasKept grammar frame lines old new n title
 
 -- One line more was read.
 abbrev pub ReadsLine : NotedBlocks → NotedBlocks → List ℕ → Type 0
