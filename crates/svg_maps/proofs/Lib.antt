@@ -2,6 +2,7 @@
 pub mod NodeLaws
 pub mod FormLaws
 pub mod LegendLaws
+pub mod CaptionLaws
 pub mod PageLaws
 pub mod CountLaws
 pub mod GroupLaws

@@ -3,6 +3,7 @@ pub mod ClassTexts
 pub mod Pages
 pub mod Counts
 pub mod Squares
+pub mod Captions
 pub mod Maps
 pub mod Legends
 pub mod Styles

@@ -7,15 +7,14 @@ use Rattle.ipnet_sets.specs.declared.set.IpSet.{IpSet}
 use Rattle.ipnet_sets.specs.ManySets.{IsInSome}
 use Rattle.ipnet_sets.specs.Members.{IsMember}
 use Rattle.ipnet_routes.specs.RoutesOf.{routes_of}
-use Rattle.ipnet_maps.specs.declared.drawing.Drawing.{Drawing}
+use Rattle.svg_maps.specs.declared.form.MapForm.{MapForm}
 use Rattle.svg_maps.specs.declared.outline.Outline.{Outline}
 use Rattle.svg_maps.specs.declared.overlay.Look.{Look}
 use Rattle.svg_maps.specs.declared.square.Counted.{Counted}
 use Rattle.svg_maps.specs.EntryOutlines.{AreEntryOutlines}
 use Rattle.svg_maps.specs.FreeOutlines.{AreOutlinesOf}
 use Rattle.svg_maps.specs.NamedOutlines.{AreNamedOutlines}
-use Rattle.svg_maps.specs.Maps.{IsMapText, IsSetMap, IsNamedChangeMap, IsSetsMap}
-use Rattle.svg_maps.specs.Pages.{PageView}
+use Rattle.svg_maps.specs.Maps.{IsSetMap, IsNamedChangeMap, IsSetsMap}
 use Rattle.svg_maps.specs.Styles.{style_text}
 
 -- The outlines over a map with this look that counts these sets: the areas of entries, then around the networks with
@@ -31,34 +30,27 @@ pub record AreOutlinesOver (look : Look) (counted : List Counted) (InSet : Addre
   pub are_free : AreOutlinesOf look.shows_free InSet frame depth free
   pub all : outlines ≡ entries ++ (named ++ free)
 
--- The page has this look: the style sheet is its theme's, and the outlines are over the map of these addresses, which
+-- The form has this look: the style sheet is its theme's, and the outlines are over the map of these addresses, which
 -- counts these sets.
--- Example: a page with the look `Dark` has the colours of a dark page, whatever the reader prefers.
+-- Example: a form with the look `Dark` has the colours of a dark page, whatever the reader prefers.
 pub record HasLook (look : Look) (counted : List Counted) (InSet : Address → Type 0) (frame : Network) (depth : ℕ)
-    (view : PageView) : Type 0 where
-  pub style : view.style ≡ style_text look.theme
-  pub outlines : AreOutlinesOver look counted InSet frame depth view.outlines
-
--- The text is a map of the drawing, for lists with these names, with this note in its foot, this style sheet, and these
--- outlines.
-abbrev pub IsOutlinedMap : Network → List Counted → Drawing → (names : List (List ℕ)) → (note style : List ℕ)
-    → List Outline → List ℕ → Type 0
-IsOutlinedMap frame counted d names note style outlines text =
-    (page : IsMapText frame counted d names note text) × (page.view.style ≡ style) × (page.view.outlines ≡ outlines)
+    (form : MapForm) : Type 0 where
+  pub style : form.style.now ≡ style_text look.theme
+  pub outlines : AreOutlinesOver look counted InSet frame depth form.overlay.now.outlines.items
 
 -- The text is a map of the set with this look. It outlines the networks with names, and the free blocks if they are to
 -- be shown.
 -- Example: the map of 10.0.0.0 to 10.0.0.9 in 10.0.0.0/28 has the outlines of 10.0.0.12/30 and 10.0.0.10/31.
 abbrev pub IsOutlinedSetMap : Look → IpSet → Network → List ℕ → Type 0
 IsOutlinedSetMap look set frame text = (m : IsSetMap set frame text)
-    × HasLook look m.counted (IsMember set) frame m.drawing.depth m.page.view
+    × HasLook look m.counted (IsMember set) frame m.drawing.depth m.form
 
 -- The text is a map of the change between two sets, which have these names, with this look. A block is free if neither
 -- set has an address of it.
 abbrev pub IsOutlinedNamedChangeMap : Look → (before after : IpSet) → (names : List (List ℕ)) → Network → List ℕ
     → Type 0
 IsOutlinedNamedChangeMap look before after names frame text = (m : IsNamedChangeMap before after names frame text)
-    × HasLook look m.counted (IsInEither (IsMember before) (IsMember after)) frame m.drawing.depth m.page.view
+    × HasLook look m.counted (IsInEither (IsMember before) (IsMember after)) frame m.drawing.depth m.form
 
 -- The text is such a map of two sets without names.
 abbrev pub IsOutlinedChangeMap : Look → (before after : IpSet) → Network → List ℕ → Type 0
@@ -68,4 +60,4 @@ IsOutlinedChangeMap look before after = IsOutlinedNamedChangeMap look before aft
 -- it.
 abbrev pub IsOutlinedSetsMap : Look → List IpSet → (names : List (List ℕ)) → Network → List ℕ → Type 0
 IsOutlinedSetsMap look sets names frame text = (m : IsSetsMap sets names frame text)
-    × HasLook look m.counted (IsInSome IsMember sets) frame m.drawing.depth m.page.view
+    × HasLook look m.counted (IsInSome IsMember sets) frame m.drawing.depth m.form

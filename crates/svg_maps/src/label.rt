@@ -82,7 +82,9 @@ pub struct Swatch {
 
 /// The label with this text, whose left side is at this place.
 pub(crate) fn label_at(ink: Ink, column: u32, row: u32, words: String) -> Label
-    ensures { result.words ≡ words }
+    ensures words { result.words ≡ words }
+    ensures ink { result.ink ≡ ink }
+    ensures place { (result.place.column ≡ column) × (result.place.row ≡ row) }
 {
     Label {
         ink,

@@ -2,7 +2,8 @@ use Rattle.std.proofs.Common.{◌≡◌, ◌^◌, ◌∙◌, ap, map, refl, subs
 use Rattle.std.proofs.lemmas.Result.{IfOk-weaker}
 use Rattle.ipnet.specs.NetworkOf.{ip_network}
 use Rattle.svg_text.specs.Documents.{nodes_text}
-use Rattle.svg_maps.specs.Overlays.{IsOutlinedMap}
+use Rattle.svg_maps.specs.Captions.{foot_text, AreCaptions}
+use Rattle.svg_maps.specs.Maps.{IsMapText}
 use Rattle.ipnet_maps.specs.Cuts.{columns_in}
 use Rattle.ipnet_maps.specs.Squares.{square_cuts}
 use Rattle.svg_maps.specs.Legends.{HasLine, row_of, legend_rows}
@@ -34,26 +35,37 @@ returns c =
       sides = c.sides_of-sides.result;
       scale = sheet.scale;
     } in
+    let form = c.args.form in
+    let overlay = form.overlay.now in
+    let lines = map string_bytes overlay.lines.items in
+    let without_ring = c.in_ok-rings.rings.left_out in
+    let foot = foot_text n d.depth (string_bytes overlay.note) without_ring in
+    let texts = c.in_ok-texts.texts in
     IfOk-weaker c.page_text.result (λ text. string_bytes text ≡ nodes_text (page_nodes view))
-    (λ text. IsOutlinedMap n counted d (map (λ k. k.now) c.args.form.names.now) c.args.form.note.now
-    c.args.form.style.now c.args.form.overlay.now.outlines.items (string_bytes text)) (λ text e. (
-      record {
-        view = view;
-        layers = c.as_slice-layers.ensures.value;
-        width = c.sides_of-sides.ensures.width;
-        height = c.sides_of-sides.ensures.height;
-        scale = c.in_ok-texts.ensures.scale ∙ ap cell_pixels (sym c.sides_of-sides.ensures.width);
-        fits = subst (λ z. FitsPage sheet.chart_place sheet.scale z c.sides_of-sides.result.height sheet.area)
-            (sym c.sides_of-sides.ensures.width)
-            (subst (λ z. FitsPage sheet.chart_place sheet.scale (2 ^ columns_in cuts) z sheet.area)
-            (sym c.sides_of-sides.ensures.height) c.in_ok-texts.ensures.fits);
-        legend = ap (map row_of) c.as_slice-7.ensures.value ∙ c.in_ok-texts.ensures.legend
-            ∙ ap (legend_rows (map (λ k. k.now) c.args.form.names.now) d.layers.items) (sym c.as_slice-9.ensures.value);
-        foot = subst (HasLine c.args.form.note.now) (sym c.as_slice-5.ensures.value) c.in_ok-texts.ensures.foot;
-        squares = subst (AreSquaresOf n d.depth counted) (sym c.as_slice-8.ensures.value) c.in_ok-squares.ensures;
-        summary = subst (IsTitle n counted) (sym c.as_str-3.ensures.value) c.in_ok-summary.ensures;
-        spelled = e;
-      },
-      refl,
-      c.as_slice-outlines.ensures.value,
-    )) c.page_text.ensures
+    (λ text. IsMapText n counted d form (string_bytes text)) (λ text e. record {
+      view = view;
+      title = c.as_str-2.ensures.value ∙ c.in_ok-texts.ensures.title;
+      style = refl;
+      layers = c.as_slice-layers.ensures.value;
+      outlines = c.as_slice-outlines.ensures.value;
+      width = c.sides_of-sides.ensures.width;
+      height = c.sides_of-sides.ensures.height;
+      scale = c.in_ok-texts.ensures.scale ∙ ap cell_pixels (sym c.sides_of-sides.ensures.width);
+      fits = subst (λ z. FitsPage sheet.chart_place sheet.scale z c.sides_of-sides.result.height sheet.area)
+          (sym c.sides_of-sides.ensures.width)
+          (subst (λ z. FitsPage sheet.chart_place sheet.scale (2 ^ columns_in cuts) z sheet.area)
+          (sym c.sides_of-sides.ensures.height) c.in_ok-texts.ensures.fits);
+      legend = ap (map row_of) c.as_slice-7.ensures.value ∙ c.in_ok-texts.ensures.legend
+          ∙ ap (legend_rows (map (λ k. k.now) form.names.now) d.layers.items) (sym c.as_slice-9.ensures.value);
+      without_ring = without_ring;
+      captions = subst (AreCaptions c.as_str-2.result.now c.as_str-3.result.now lines foot form.note.now)
+          (sym c.as_slice-5.ensures.value)
+          (subst (λ z. AreCaptions c.as_str-2.result.now z lines foot form.note.now texts.captions.items)
+          (c.as_str.ensures.value ∙ sym c.as_str-3.ensures.value)
+          (subst (λ z. AreCaptions z c.as_str.result.now lines foot form.note.now texts.captions.items)
+          (sym c.as_str-2.ensures.value) c.in_ok-texts.ensures.captions));
+      foot = subst (HasLine form.note.now) (sym c.as_slice-5.ensures.value) c.in_ok-texts.ensures.foot;
+      squares = subst (AreSquaresOf n d.depth counted) (sym c.as_slice-8.ensures.value) c.in_ok-squares.ensures;
+      summary = subst (IsTitle n counted) (sym c.as_str-3.ensures.value) c.in_ok-summary.ensures;
+      spelled = e;
+    }) c.page_text.ensures
