@@ -1,13 +1,14 @@
 -- Captions: lines that are joined again, and captions that are added.
 use Rattle.std.proofs.Common.{◌≡◌, ◌<◌, ◌+◌, ℕ, List, [], ◌∷◌, ◌++◌, ◌==◌, length, get_or, take, map, flat_map, codes}
 use Rattle.std.proofs.Common.{true, false, String, Global, string_bytes, refl, sym, ap, ◌∙◌, append_assoc, append-nil}
-use Rattle.std.proofs.Common.{arith, eqb-true}
+use Rattle.std.proofs.Common.{arith, eqb-true, subst}
 use Rattle.std.proofs.lemmas.List.{take_more, map_push}
+use Rattle.std.specs.Borrow.{Bor}
 use Rattle.std.specs.List.{join_by}
 use Rattle.svg_maps.specs.declared.label.Ink.{Ink}
 use Rattle.svg_maps.specs.declared.label.Ink.TheVariants.{Faint}
 use Rattle.svg_maps.specs.declared.label.Label.{Label}
-use Rattle.svg_maps.specs.Captions.{joined_lines, caption_of, line_captions, note_captions}
+use Rattle.svg_maps.specs.Captions.{joined_lines, AreCutLines, caption_of, line_captions, note_captions}
 
 rest_again : {X : Type 0} (f : X → List ℕ) (mark : List ℕ) (xs : List X)
     → flat_map (λ x. mark ++ f x) xs ≡ flat_map (λ y. mark ++ y) (map f xs)
@@ -44,6 +45,26 @@ module _ (ink : Ink) (lines : List (String Global)) (i : ℕ) (line : String Glo
       ∙ ap (λ z. start ++ line_captions ink z) (sym (map_push string_bytes (take i lines) line))
       ∙ ap (λ z. start ++ line_captions ink (map string_bytes z))
       (sym (take_more lines i line less ∙ ap (λ z. take i lines ++ z ∷ []) (sym is)))
+
+cut_push : (texts : List (List ℕ)) (text : List ℕ) (old cut new : List (List ℕ)) → AreCutLines texts old
+    → joined_lines cut ≡ text → new ≡ old ++ cut → AreCutLines (texts ++ text ∷ []) new
+cut_push [] text old cut new none is grown =
+    (cut, [], is, refl, grown ∙ ap (λ z. z ++ cut) none ∙ sym (append-nil cut))
+cut_push (t ∷ texts) text old cut new (first, rest, of_first, so_far, parts) is grown = (
+  first,
+  rest ++ cut,
+  of_first,
+  cut_push texts text rest cut (rest ++ cut) so_far is refl,
+  grown ∙ ap (λ z. z ++ cut) parts ∙ append_assoc first rest cut,
+)
+
+-- the lines of one text more
+pub one_text_more : (texts : List (Bor (List ℕ))) (text : Bor (List ℕ)) (old cut new : List (List ℕ))
+    → AreCutLines (map (λ t. t.now) texts) old → joined_lines cut ≡ text.now → new ≡ old ++ cut
+    → AreCutLines (map (λ t. t.now) (texts ++ text ∷ [])) new
+one_text_more texts text old cut new so_far is grown =
+    subst (λ z. AreCutLines z new) (sym (map_push (λ t. t.now) texts text))
+    (cut_push (map (λ t. t.now) texts) text.now old cut new so_far is grown)
 
 -- an empty note has no caption, and any other one has one
 pub no_note : (note : List ℕ) → true ≡ (length note == 0) → note_captions note ≡ []

@@ -17,6 +17,19 @@ map_title heading n = heading ++ codes " " ++ canonical_text n
 abbrev pub joined_lines : List (List ℕ) → List ℕ
 joined_lines lines = join_by (λ line. line) (codes " ") lines
 
+-- The lines of these texts, in order: each text is cut into lines.
+-- Example: three lines, if the first of two texts is cut once.
+abbrev pub AreCutLines : (texts lines : List (List ℕ)) → Type 0
+AreCutLines [] lines = lines ≡ []
+AreCutLines (text ∷ texts) lines = (first : List (List ℕ)) × (rest : List (List ℕ)) × (joined_lines first ≡ text)
+    × AreCutLines texts rest × (lines ≡ first ++ rest)
+
+-- The words of a foot about things that a map leaves out; nothing if it leaves out none.
+-- Example: ` Free blocks without an outline: 3.`.
+abbrev pub left_out_text : (words : List ℕ) → ℕ → List ℕ
+left_out_text words zero = []
+left_out_text words (suc n) = codes " " ++ words ++ codes ": " ++ decimal (suc n) ++ codes "."
+
 -- The words of a foot about small parts without a ring; nothing if there are none.
 -- Example: ` Small parts without a ring: 121.`.
 abbrev pub ringless_text : ℕ → List ℕ

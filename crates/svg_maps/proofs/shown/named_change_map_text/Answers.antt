@@ -17,7 +17,6 @@ returns c =
     let before = c.args.change.before.now in
     let after = c.args.change.after.now in
     let names = map (λ name. name.now) c.args.change.names.now in
-    let outlines = c.in_ok-overlay.overlay.outlines.items in
     IfOk-weaker c.map_text.result (λ text. IsMapText n _ d _ (string_bytes text))
     (λ text. IsOutlinedNamedChangeMap look before after names n (string_bytes text)) (λ text m. (
       record {
@@ -43,7 +42,7 @@ returns c =
       },
       record {
         style = c.as_str.ensures.value ∙ c.in_ok-style.ensures;
-        outlines = over_same look _ (IsMember c.in_ok-all.all) (IsInEither (IsMember before) (IsMember after)) n
-            d.depth outlines c.in_ok-all.ensures.members c.in_ok-overlay.ensures;
+        overlay = over_same look _ (IsMember c.in_ok-all.all) (IsInEither (IsMember before) (IsMember after)) n
+            d.depth c.in_ok-overlay.overlay c.in_ok-all.ensures.members c.in_ok-overlay.ensures;
       },
     )) c.map_text.ensures

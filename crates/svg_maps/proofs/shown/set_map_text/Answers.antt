@@ -29,6 +29,6 @@ returns c =
       },
       record {
         style = c.as_str.ensures.value ∙ c.in_ok-style.ensures;
-        outlines = c.in_ok-overlay.ensures;
+        overlay = c.in_ok-overlay.ensures;
       },
     )) c.map_text.ensures

@@ -29,7 +29,6 @@ returns c =
     ap (λ z. length z) c.as_slice.ensures.value ∙ sym (length-map words string_bytes)
     ∙ ap (λ z. length z) c.in_ok-words.ensures ∙ length-map given (λ name. list_words name.now) in
     let look = c.args.look in
-    let outlines = c.in_ok-overlay.overlay.outlines.items in
     IfOk-weaker c.map_text.result (λ text. IsMapText n counted d _ (string_bytes text))
     (λ text. IsOutlinedSetsMap look sets names n (string_bytes text)) (λ text m. (
       record {
@@ -52,7 +51,7 @@ returns c =
       },
       record {
         style = c.as_str.ensures.value ∙ c.in_ok-style.ensures;
-        outlines = over_same look counted (IsMember c.in_ok-all.all) (IsInSome IsMember sets) n d.depth outlines
-            c.in_ok-all.ensures.members c.in_ok-overlay.ensures;
+        overlay = over_same look counted (IsMember c.in_ok-all.all) (IsInSome IsMember sets) n d.depth
+            c.in_ok-overlay.overlay c.in_ok-all.ensures.members c.in_ok-overlay.ensures;
       },
     )) c.map_text.ensures
