@@ -10,3 +10,4 @@ pub mod FreeLaws
 pub mod NamedLaws
 pub mod EntryLaws
 pub mod SquareLaws
+pub mod NameLaws

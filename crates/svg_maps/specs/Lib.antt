@@ -2,6 +2,7 @@
 pub mod ClassTexts
 pub mod Pages
 pub mod Counts
+pub mod Names
 pub mod Squares
 pub mod Captions
 pub mod Maps
