@@ -1,5 +1,6 @@
 -- Maps: the document that shows a drawing of sets.
-use Rattle.std.specs.Prelude.{◌≡◌, ◌↔◌, ℕ, ◌^◌, List, [], ◌∷◌, ◌++◌, length, map, codes, string_bytes}
+use Rattle.std.specs.Prelude.{◌≡◌, ◌⊎◌, ◌<◌, ◌≤◌, ◌↔◌, ℕ, ◌*◌, ◌^◌, List, [], ◌∷◌, ◌++◌, length, map, codes}
+use Rattle.std.specs.Prelude.{string_bytes}
 use Rattle.ipnet_base.specs.Address.{Address}
 use Rattle.ipnet_base.specs.Blocks.{IsInEither}
 use Rattle.ipnet_base.specs.Network.{Network}
@@ -14,11 +15,19 @@ use Rattle.ipnet_maps.specs.Cuts.{columns_in, rows_in}
 use Rattle.ipnet_maps.specs.Squares.{square_cuts}
 use Rattle.svg_text.specs.Documents.{nodes_text}
 use Rattle.svg_maps.specs.declared.form.MapForm.{MapForm}
+use Rattle.svg_maps.specs.declared.ring.Ring.{Ring}
 use Rattle.svg_maps.specs.declared.square.Counted.{Counted}
 use Rattle.svg_maps.specs.Captions.{map_title, foot_text, AreCaptions}
 use Rattle.svg_maps.specs.Legends.{HasLine, IsOutsideNote, row_of, legend_rows}
 use Rattle.svg_maps.specs.Pages.{PageView, page_nodes, cell_pixels, FitsPage}
 use Rattle.svg_maps.specs.Squares.{AreSquaresOf, IsTitle}
+
+-- A map whose cells are this many pixels wide has these rings, and its foot says how many small parts have none. If a
+-- cell has more than 9 pixels, no part is too small to see. If more than 120 parts are, the map has no ring.
+pub record AreRings (scale : ℕ) (rings : List Ring) (without_ring : ℕ) : Type 0 where
+  pub few : length rings ≤ 120
+  pub left_out : (without_ring ≡ 0) ⊎ ((rings ≡ []) × (120 < without_ring))
+  pub coarse : 9 < scale * scale → (rings ≡ []) × (without_ring ≡ 0)
 
 -- The text is the document of a page that shows the drawing in this frame, in this form. The page has a path for each
 -- layer, whose rectangles are the layer's, and all squares, whose titles say how many addresses each set has in them. A
@@ -39,6 +48,7 @@ pub record IsMapText (frame : Network) (counted : List Counted) (d : Drawing) (f
     pub fits : FitsPage view.chart_place view.scale view.sides.width view.sides.height view.area
     pub legend : map row_of view.swatches ≡ legend_rows (map (λ n. n.now) form.names.now) d.layers.items view.rings
     pub without_ring : ℕ
+    pub rings : AreRings (cell_pixels view.sides.width) view.rings without_ring
     pub captions : AreCaptions view.title view.summary (map string_bytes form.overlay.now.lines.items)
         (foot_text frame d.depth (string_bytes form.overlay.now.note) without_ring) form.note.now view.captions
     pub foot : HasLine form.note.now view.captions

@@ -3,7 +3,7 @@ use Rattle.std.proofs.lemmas.Result.{IfOk-weaker}
 use Rattle.ipnet.specs.NetworkOf.{ip_network}
 use Rattle.svg_text.specs.Documents.{nodes_text}
 use Rattle.svg_maps.specs.Captions.{foot_text, AreCaptions}
-use Rattle.svg_maps.specs.Maps.{IsMapText}
+use Rattle.svg_maps.specs.Maps.{AreRings, IsMapText}
 use Rattle.ipnet_maps.specs.Cuts.{columns_in}
 use Rattle.ipnet_maps.specs.Squares.{square_cuts}
 use Rattle.svg_maps.specs.Legends.{HasLine, row_of, legend_rows}
@@ -58,6 +58,12 @@ returns c =
       legend = ap (map row_of) c.as_slice-7.ensures.value ∙ c.in_ok-texts.ensures.legend
           ∙ ap (legend_rows (map (λ k. k.now) form.names.now) d.layers.items) (sym c.as_slice-9.ensures.value);
       without_ring = without_ring;
+      rings = subst (λ z. AreRings z c.as_slice-9.result.now without_ring) c.scale_of.ensures.pixels
+          (subst (λ z. AreRings c.scale_of.result z without_ring) (sym c.as_slice-9.ensures.value) record {
+            few = c.in_ok-rings.ensures.few;
+            left_out = c.in_ok-rings.ensures.left_out;
+            coarse = c.in_ok-rings.ensures.coarse;
+          });
       captions = subst (AreCaptions c.as_str-2.result.now c.as_str-3.result.now lines foot form.note.now)
           (sym c.as_slice-5.ensures.value)
           (subst (λ z. AreCaptions c.as_str-2.result.now z lines foot form.note.now texts.captions.items)
