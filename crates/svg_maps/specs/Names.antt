@@ -1,6 +1,6 @@
 -- The names of squares: the parts of their addresses that differ.
-use Rattle.std.specs.Prelude.{◌≡◌, ℕ, ◌+◌, ◌/◌, ◌&&◌, ◌++◌, List, [], ◌∷◌, map, codes, decimal, nat_eq, nat_le, nat_lt}
-use Rattle.std.specs.Prelude.{if◌then◌else◌, ⊤}
+use Rattle.std.specs.Prelude.{◌≡◌, ℕ, ◌+◌, ◌/◌, ◌&&◌, ◌++◌, List, [], ◌∷◌, map, drop, codes, decimal, nat_eq, nat_le}
+use Rattle.std.specs.Prelude.{nat_lt, if◌then◌else◌, ⊤}
 use Rattle.std.specs.Net.Addr.{ipv4_octets}
 use Rattle.std.specs.declared.net.ip_addr.IpAddr.{IpAddr}
 use Rattle.std.specs.declared.net.ip_addr.IpAddr.TheVariants as Ip
@@ -37,3 +37,7 @@ IsAddressName (Ip.V6 a) len frame_len name = ⊤
 abbrev pub IsNameOf : Network → (frame_len : ℕ) → List ℕ → Type 0
 IsNameOf n frame_len name =
     (a : IpAddr) × (ip_address a ≡ own_address n) × IsAddressName a n.prefix_len frame_len name
+
+-- The text is the end of the other one. Example: `.168.0/22` of `10.20.168.0/22`.
+abbrev pub IsEndOf : (whole text : List ℕ) → Type 0
+IsEndOf whole text = (start : ℕ) × (text ≡ drop start whole)

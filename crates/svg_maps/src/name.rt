@@ -1,7 +1,8 @@
 //! The names of squares and the labels of entries: the parts of their texts that differ.
 ghost use Rattle.std.specs.Prelude.{◌≡◌, ◌&&◌, ◌++◌, IfOk, OnOk, codes, decimal, map, nat_le, nat_lt, string_bytes};
+ghost use Rattle.ipnet.specs.CanonicalTexts.{canonical_text};
 ghost use Rattle.ipnet.specs.NetworkOf.{ip_network};
-ghost use Rattle.svg_maps.specs.Names.{mark_at, part_text, parts_text, IsAddressName, IsNameOf};
+ghost use Rattle.svg_maps.specs.Names.{mark_at, part_text, parts_text, IsAddressName, IsNameOf, IsEndOf};
 
 use ipnet::{IpAddr, IpNet};
 use std::alloc::{AllocError, Global};
@@ -126,6 +127,16 @@ fn start_after(text: &[u8], mark: u8, parts: usize) -> usize {
     0
 }
 
+/// The text from this place on; all of it if no character begins there.
+fn text_from(text: &str, start: usize) -> &str
+    ensures { IsEndOf text.now result.now }
+{
+    match text.split_at_checked(start) {
+        Some((_, rest)) => rest,
+        None => text,
+    }
+}
+
 /// Returns the network's text without the octets or groups that all networks of the frame share.
 ///
 /// ```text
@@ -135,7 +146,9 @@ pub(crate) fn short_text(
     alloc: Global,
     network: &IpNet,
     frame_len: u8,
-) -> Result<String, AllocError> {
+) -> Result<String, AllocError>
+    ensures { IfOk result (λ text. IsEndOf (canonical_text (ip_network network.now)) (string_bytes text)) }
+{
     let text = network.to_text();
     let text = text.as_str();
     let frame_len = usize::from(frame_len);
@@ -143,8 +156,7 @@ pub(crate) fn short_text(
         IpNet::V4(_) => start_after(text.as_bytes(), b'.', frame_len / 8),
         IpNet::V6(_) => start_after(text.as_bytes(), b':', frame_len / 16),
     };
-    match text.split_at_checked(start) {
-        Some((_, rest)) => String::from_str(alloc, rest),
-        None => String::from_str(alloc, text),
-    }
+    let rest = text_from(text, start);
+    let words = String::from_str(alloc, rest)?;
+    Ok(words)
 }
