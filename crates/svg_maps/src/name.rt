@@ -82,7 +82,8 @@ fn address_name(
         IpAddr::V4(address) => {
             let first = frame_len / 8;
             let end = (len + 7) / 8;
-            octets_name(alloc, &address.octets(), Parts { first, end })
+            let octets = address.octets();
+            octets_name(alloc, &octets, Parts { first, end })
         }
         IpAddr::V6(address) => {
             let first = frame_len / 16;
