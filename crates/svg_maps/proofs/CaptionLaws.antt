@@ -8,7 +8,7 @@ use Rattle.std.specs.List.{join_by}
 use Rattle.svg_maps.specs.declared.label.Ink.{Ink}
 use Rattle.svg_maps.specs.declared.label.Ink.TheVariants.{Faint}
 use Rattle.svg_maps.specs.declared.label.Label.{Label}
-use Rattle.svg_maps.specs.Captions.{joined_lines, AreCutLines, caption_of, line_captions, note_captions}
+use Rattle.svg_maps.specs.Captions.{joined_lines, AreCutLines, AreCaptions, caption_of, line_captions, note_captions}
 
 rest_again : {X : Type 0} (f : X → List ℕ) (mark : List ℕ) (xs : List X)
     → flat_map (λ x. mark ++ f x) xs ≡ flat_map (λ y. mark ++ y) (map f xs)
@@ -65,6 +65,15 @@ pub one_text_more : (texts : List (Bor (List ℕ))) (text : Bor (List ℕ)) (old
 one_text_more texts text old cut new so_far is grown =
     subst (λ z. AreCutLines z new) (sym (map_push (λ t. t.now) texts text))
     (cut_push (map (λ t. t.now) texts) text.now old cut new so_far is grown)
+
+-- captions in other words
+module _ (lines : List (List ℕ)) (foot note : List ℕ) where
+  pub captions_same : (title other summary more : List ℕ) (old new : List Label) → title ≡ other → summary ≡ more
+      → old ≡ new → AreCaptions title summary lines foot note old → AreCaptions other more lines foot note new
+  captions_same title other summary more old new e1 e2 e3 h =
+      subst (AreCaptions other more lines foot note) e3
+      (subst (λ z. AreCaptions other z lines foot note old) e2
+      (subst (λ z. AreCaptions z summary lines foot note old) e1 h))
 
 -- an empty note has no caption, and any other one has one
 pub no_note : (note : List ℕ) → true ≡ (length note == 0) → note_captions note ≡ []

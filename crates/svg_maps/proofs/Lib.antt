@@ -11,3 +11,4 @@ pub mod NamedLaws
 pub mod EntryLaws
 pub mod SquareLaws
 pub mod NameLaws
+pub mod LabelLaws

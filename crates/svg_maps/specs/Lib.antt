@@ -4,6 +4,7 @@ pub mod Pages
 pub mod Counts
 pub mod Names
 pub mod Squares
+pub mod Labels
 pub mod Captions
 pub mod Maps
 pub mod Legends

@@ -1,6 +1,6 @@
 -- Maps: the document that shows a drawing of sets.
 use Rattle.std.specs.Prelude.{◌≡◌, ◌⊎◌, ◌<◌, ◌≤◌, ◌↔◌, ℕ, ◌*◌, ◌^◌, List, [], ◌∷◌, ◌++◌, length, map, codes}
-use Rattle.std.specs.Prelude.{string_bytes}
+use Rattle.std.specs.Prelude.{All, if◌then◌else◌, string_bytes}
 use Rattle.ipnet_base.specs.Address.{Address}
 use Rattle.ipnet_base.specs.Blocks.{IsInEither}
 use Rattle.ipnet_base.specs.Network.{Network}
@@ -14,10 +14,12 @@ use Rattle.ipnet_maps.specs.Drawings.{IsDrawingOf}
 use Rattle.ipnet_maps.specs.Cuts.{columns_in, rows_in}
 use Rattle.ipnet_maps.specs.Squares.{square_cuts}
 use Rattle.svg_text.specs.Documents.{nodes_text}
+use Rattle.svg_maps.specs.declared.chart.Square.{Square}
 use Rattle.svg_maps.specs.declared.form.MapForm.{MapForm}
 use Rattle.svg_maps.specs.declared.ring.Ring.{Ring}
 use Rattle.svg_maps.specs.declared.square.Counted.{Counted}
 use Rattle.svg_maps.specs.Captions.{map_title, foot_text, AreCaptions}
+use Rattle.svg_maps.specs.Labels.{HasOwnName, seat_of, has_heads, heads_of}
 use Rattle.svg_maps.specs.Legends.{HasLine, IsOutsideNote, row_of, legend_rows}
 use Rattle.svg_maps.specs.Pages.{PageView, page_nodes, cell_pixels, FitsPage}
 use Rattle.svg_maps.specs.Squares.{AreSquaresOf, IsTitle}
@@ -33,7 +35,8 @@ pub record AreRings (scale : ℕ) (rings : List Ring) (without_ring : ℕ) : Typ
 -- layer, whose rectangles are the layer's, and all squares, whose titles say how many addresses each set has in them. A
 -- cell has as many pixels as its share of the width of the map allows, and the whole map is on the page. The title has
 -- the heading and the frame; it is the first caption, and the summary, the lines of the overlay, the foot and the note
--- are the others. The legend has a row for each class with cells, in its words, and one for rings if there are any.
+-- are the others. The legend has a row for each class with cells, in its words, and one for rings if there are any. The
+-- heads of rows and columns are names of squares at their places.
 -- Example: for 10.20.0.0/16 with 16 bits, the map is 256 cells wide and high, and a cell has 4 pixels.
 pub record IsMapText (frame : Network) (counted : List Counted) (d : Drawing) (form : MapForm) (text : List ℕ) : Type 0
   where
@@ -53,6 +56,10 @@ pub record IsMapText (frame : Network) (counted : List Counted) (d : Drawing) (f
         (foot_text frame d.depth (string_bytes form.overlay.now.note) without_ring) form.note.now view.captions
     pub foot : HasLine form.note.now view.captions
     pub squares : AreSquaresOf frame d.depth counted view.squares
+    pub labelled : List Square
+    pub own_names : (labelled ≡ view.squares) ⊎ All (HasOwnName frame d.depth) labelled
+    pub heads : map seat_of view.heads
+        ≡ (if has_heads frame.prefix_len d.depth then heads_of view.scale view.chart_place labelled else [])
     pub summary : IsTitle frame counted view.summary
     pub spelled : text ≡ nodes_text (page_nodes view)
 

@@ -7,6 +7,7 @@ ghost use Rattle.ipnet_maps.specs.Squares.{square_cuts};
 ghost use Rattle.svg_maps.specs.Captions.{map_title, joined_lines, ringless_text, foot_text, caption_of};
 ghost use Rattle.svg_maps.specs.Captions.{line_captions, note_captions, AreCaptions};
 ghost use Rattle.svg_maps.specs.declared.label.Ink.TheVariants.{Head};
+ghost use Rattle.svg_maps.specs.Labels.{has_heads};
 ghost use Rattle.svg_maps.specs.Legends.{HasLine, row_of, legend_rows};
 ghost use Rattle.svg_maps.specs.Pages.{cell_pixels, FitsPage};
 
@@ -101,7 +102,9 @@ fn foot_of(
 }
 
 /// Whether the map has heads of rows and columns: its squares are all values of an octet.
-fn has_heads(frame_len: u8, depth: u8) -> bool {
+fn has_heads(frame_len: u8, depth: u8) -> bool
+    ensures { result ≡ has_heads frame_len depth }
+{
     depth >= 6 && frame_len % 8 <= 2
 }
 
@@ -161,6 +164,8 @@ pub(crate) fn captions_of(
     ensures legend { IfOk result (λ texts. map row_of texts.swatches.items
         ≡ legend_rows (map (λ n. n.now) form.entry.names.now) drawing.now.layers.items
         facts.entry.rings.now.list.items) }
+    ensures heads { IfOk result (λ texts.
+        texts.sheet.has_heads ≡ has_heads (ip_network frame.now).prefix_len drawing.now.depth) }
     ensures title { IfOk result (λ texts.
         string_bytes texts.title ≡ map_title form.entry.heading.now (ip_network frame.now)) }
     ensures captions { let f = form.entry in let overlay = f.overlay.now in IfOk result (λ texts.

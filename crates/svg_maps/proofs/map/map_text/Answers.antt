@@ -1,14 +1,16 @@
-use Rattle.std.proofs.Common.{◌≡◌, ◌^◌, ◌∙◌, ap, map, refl, subst, sym, string_bytes}
+use Rattle.std.proofs.Common.{◌≡◌, ◌^◌, ◌∙◌, [], ap, map, refl, subst, sym, string_bytes, if◌then◌else◌}
 use Rattle.std.proofs.lemmas.Result.{IfOk-weaker}
 use Rattle.ipnet.specs.NetworkOf.{ip_network}
 use Rattle.svg_text.specs.Documents.{nodes_text}
-use Rattle.svg_maps.specs.Captions.{foot_text, AreCaptions}
 use Rattle.svg_maps.specs.Maps.{AreRings, IsMapText}
 use Rattle.ipnet_maps.specs.Cuts.{columns_in}
 use Rattle.ipnet_maps.specs.Squares.{square_cuts}
+use Rattle.svg_maps.specs.Labels.{seat_of, heads_of}
 use Rattle.svg_maps.specs.Legends.{HasLine, row_of, legend_rows}
 use Rattle.svg_maps.specs.Pages.{PageView, FitsPage, cell_pixels, page_nodes}
 use Rattle.svg_maps.specs.Squares.{AreSquaresOf, IsTitle}
+use Rattle.svg_maps.proofs.CaptionLaws.{captions_same}
+use Rattle.svg_maps.proofs.LabelLaws.{labelled_own}
 use Rattle.svg_maps.proofs.map.map_text.Goals as goal
 
 pub returns : goal.returns
@@ -36,11 +38,8 @@ returns c =
       scale = sheet.scale;
     } in
     let form = c.args.form in
-    let overlay = form.overlay.now in
-    let lines = map string_bytes overlay.lines.items in
     let without_ring = c.in_ok-rings.rings.left_out in
-    let foot = foot_text n d.depth (string_bytes overlay.note) without_ring in
-    let texts = c.in_ok-texts.texts in
+    let labelled = c.choose_labelled-labelled.result.now in
     IfOk-weaker c.page_text.result (λ text. string_bytes text ≡ nodes_text (page_nodes view))
     (λ text. IsMapText n counted d form (string_bytes text)) (λ text e. record {
       view = view;
@@ -64,13 +63,16 @@ returns c =
             left_out = c.in_ok-rings.ensures.left_out;
             coarse = c.in_ok-rings.ensures.coarse;
           });
-      captions = subst (AreCaptions c.as_str-2.result.now c.as_str-3.result.now lines foot form.note.now)
-          (sym c.as_slice-5.ensures.value)
-          (subst (λ z. AreCaptions c.as_str-2.result.now z lines foot form.note.now texts.captions.items)
-          (c.as_str.ensures.value ∙ sym c.as_str-3.ensures.value)
-          (subst (λ z. AreCaptions z c.as_str.result.now lines foot form.note.now texts.captions.items)
-          (sym c.as_str-2.ensures.value) c.in_ok-texts.ensures.captions));
+      captions = captions_same _ _ form.note.now _ _ _ _ _ _ (sym c.as_str-2.ensures.value)
+          (c.as_str.ensures.value ∙ sym c.as_str-3.ensures.value) (sym c.as_slice-5.ensures.value)
+          c.in_ok-texts.ensures.captions;
       foot = subst (HasLine form.note.now) (sym c.as_slice-5.ensures.value) c.in_ok-texts.ensures.foot;
+      labelled = labelled;
+      own_names = labelled_own n d.depth labelled _ _ _ _ c.choose_labelled-labelled.ensures
+          (c.as_slice-2.ensures.value ∙ sym c.as_slice-8.ensures.value) c.as_slice-3.ensures.value
+          c.in_ok-octets.ensures;
+      heads = ap (map seat_of) c.as_slice-6.ensures.value ∙ c.in_ok-labels.ensures.heads
+          ∙ ap (λ b. if b then heads_of sheet.scale sheet.chart_place labelled else []) c.in_ok-texts.ensures.heads;
       squares = subst (AreSquaresOf n d.depth counted) (sym c.as_slice-8.ensures.value) c.in_ok-squares.ensures;
       summary = subst (IsTitle n counted) (sym c.as_str-3.ensures.value) c.in_ok-summary.ensures;
       spelled = e;
