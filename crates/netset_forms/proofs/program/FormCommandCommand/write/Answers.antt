@@ -21,8 +21,8 @@ returns-in-Ok-write_form-clause-outcome g c =
     expected_same of.expected of.form (IsMember set) (IsInWithout of.combination of.excepts.items) right.1
     c.is_expected-succeeds.result c.is_expected-succeeds.ensures
 
-pub returns-in-Err-write_form-clause-front : goal.returns-in-Err-write_form-clause-front
-returns-in-Err-write_form-clause-front g c =
+pub returns-clause-front : goal.returns-clause-front
+returns-clause-front g c =
     let of = c.args.self in
     let set = c.in-Ok.set in
     let right = subst (λ z. IsCombinedWithout of.combination z set) c.as_slice.ensures.value c.in-Ok.ensures.combined in
@@ -35,8 +35,8 @@ returns-in-Err-write_form-clause-front g c =
       )
     ]
 
-pub returns-in-Err-write_form-clause-failure : goal.returns-in-Err-write_form-clause-failure
-returns-in-Err-write_form-clause-failure g c =
+pub returns-clause-failure : goal.returns-clause-failure
+returns-clause-failure g c =
     let of = c.args.self in
     let set = c.in-Ok.set in (
       set,
