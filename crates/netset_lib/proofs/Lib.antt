@@ -38,3 +38,4 @@ pub mod TextLaws
 pub mod TextAnswerLaws
 pub mod TextLineLaws
 pub mod PrefixCompareLaws
+pub mod ErrorTexts

@@ -1,13 +1,11 @@
 -- Answers that are written while a list is read.
-use Rattle.std.proofs.Common.{◌≡◌, ℕ, ◌+◌, ◌||◌, Bool, false, List, [], ◌∷◌}
+use Rattle.std.proofs.Common.{◌≡◌, ℕ, ◌+◌, ◌||◌, Bool, false, List, []}
 use Rattle.std.proofs.Common.{◌++◌, All, length, Option, refl}
 use Rattle.std.proofs.Common.{sym, ◌∙◌, subst, arith, string_bytes}
 use Rattle.std.specs.Io.KnownBytes.{Appends}
 use Rattle.std.proofs.KnownBytes.{Appends-nil, Appends-trans}
-use Rattle.ipnet.specs.declared.parser.Grammar.{Grammar}
 use Rattle.ipnet.specs.Lines.{lines_of}
 use Rattle.netset_lib.specs.declared.answerer.Answerer.{Answerer}
-use Rattle.netset_lib.specs.declared.query.Query.{Query}
 use Rattle.netset_lib.specs.declared.stream.Stream.{Stream}
 use Rattle.netset_lib.specs.declared.stream.Streamed.{Streamed}
 use Rattle.netset_lib.specs.declared.answerer.Answers.{Answers}
@@ -16,8 +14,14 @@ use Rattle.ipnet_lists.specs.declared.reading.Reading.{Reading}
 use Rattle.netset_lib.specs.Answering.{IsAnswerBy, IsFoundBy, AreAnswersBy, found_by}
 use Rattle.netset_lib.specs.Answers.{AreListsRead}
 use Rattle.ipnet_lists.specs.Lists.{ListEntry, IsListRead}
+use Rattle.ipnet_lists.specs.Names.{Names}
+use Rattle.ipnet_lists.specs.RefusedLines.{AreRefused}
+use Rattle.ipnet_lists.specs.Reports.{ExplainsEntry}
+use Rattle.ipnet_lists.proofs.RefusalLaws.{more_refused}
+use Rattle.netset_lib.specs.StepReports.{AreTold, AreToldSince}
+use Rattle.netset_lib.proofs.StepLaws.{told_all}
 use Rattle.ipnet_lists.specs.Reading.{Adds, ReadsLines, TakesLines, WasMadeOf}
-use Rattle.netset_lib.specs.Streams.{WasAsked, IsWritten, IsStreamed}
+use Rattle.netset_lib.specs.Streams.{Asked, WasAsked, IsWritten, IsStreamed}
 use Rattle.netset_lib.proofs.AnsweringLaws.{answered_right}
 use Rattle.netset_lib.proofs.EntryAnswerLaws.{answers_append, found_append, found_none}
 use Rattle.netset_lib.proofs.ListsReading.{lists_push, none_of_length}
@@ -87,36 +91,62 @@ taken_written answerer more old new held now then found found_now none answers e
     (IsWritten answerer held now found) (IsWritten answerer held then (found || answers.found)) t
     (λ entries adds. written_more answerer held now then found none answers entries empty put adds))
 
--- the list that was streamed, by the entries of the first list
-pub stream_right : (query : Query) (grammar : Grammar) (lists : List (List ℕ)) (s : Stream) (new : Reading)
-    (left left_after held held_after : Option (List ℕ)) (streamed : Streamed) → WasAsked query grammar lists s
-    → s.lists.reading.lines.refused.count ≡ 0
-    → WasMadeOf left left_after s.lists.reading new
-    (IsWritten s.answerer held held_after (found_by s.answerer streamed.succeeded))
-    → streamed.refused ≡ new.lines.refused.count
-    → IsStreamed query grammar lists left left_after held held_after streamed
-stream_right query grammar lists s new left left_after held held_after streamed h none k count =
-    let r = h.read in
-    let read = subst (AreListsRead grammar 0 lists (h.first ∷ []))
-    (none_of_length r.refusals (sym r.kept.count ∙ none)) r.read in
-    let some : All HasSome k.entries =
-    entries_some s.lists.reading.lines.grammar s.lists.reading.lines.list 1 k.read.0 k.entries k.refusals k.read.2 in
-    let at : s.lists.reading.lines.list ≡ 0 + length lists = omega (arith, r.count) in
-    let is = answered_right query s.answerer h.first k.entries k.made.text streamed.succeeded h.for some k.made.answers
-    k.made.is_found in
-    record {
-      bytes = k.bytes;
-      given = k.given;
-      first = h.first;
-      first_read = read;
-      entries = k.entries;
-      refusals = k.refusals;
-      read = lists_push grammar 0 lists (h.first ∷ []) [] k.bytes k.entries k.refusals read
-          (subst (λ n. IsListRead grammar n k.bytes k.entries k.refusals) at
-          (subst (λ g. IsListRead g s.lists.reading.lines.list k.bytes k.entries k.refusals) r.same_grammar k.read));
-      text = k.made.text;
-      right = is.replies;
-      written = k.made.written;
-      count = omega (arith, count, k.added.count, none);
-      is_found = is.is_found;
-    }
+-- ---- a list that was streamed
+
+module _ (asked : Asked) (s : Stream) (new : Reading) (left left_after held held_after : Option (List ℕ))
+    (streamed : Streamed) (h : WasAsked asked s) (none : s.lists.reading.lines.refused.count ≡ 0)
+    (k : WasMadeOf left left_after s.lists.reading new
+    (IsWritten s.answerer held held_after (found_by s.answerer streamed.succeeded)))
+    (count : streamed.refused ≡ new.lines.refused.count) where
+  -- by the entries of the first lists; its refused lines are those that were read
+  stream_read : (is : IsStreamed asked left left_after held held_after streamed) × (is.refusals ≡ k.refusals)
+  stream_read =
+      let grammar = asked.grammar in
+      let lists = asked.lists in
+      let r = h.read in
+      let read = subst (AreListsRead grammar 0 lists asked.before)
+      (none_of_length r.refusals (sym r.kept.count ∙ none)) r.read in
+      let some : All HasSome k.entries =
+      entries_some s.lists.reading.lines.grammar s.lists.reading.lines.list 1 k.read.0 k.entries k.refusals k.read.2 in
+      let at : s.lists.reading.lines.list ≡ 0 + length lists = omega (arith, r.count) in
+      let is = answered_right asked.query s.answerer asked.first k.entries k.made.text streamed.succeeded h.for some
+      k.made.answers k.made.is_found in (
+        record {
+          bytes = k.bytes;
+          given = k.given;
+          before_read = read;
+          entries = k.entries;
+          refusals = k.refusals;
+          read = lists_push grammar 0 lists asked.before [] k.bytes k.entries k.refusals read
+              (subst (λ n. IsListRead grammar n k.bytes k.entries k.refusals) at
+              (subst (λ g. IsListRead g s.lists.reading.lines.list k.bytes k.entries k.refusals) r.same_grammar
+              k.read));
+          text = k.made.text;
+          right = is.replies;
+          written = k.made.written;
+          count = omega (arith, count, k.added.count, none);
+          is_found = is.is_found;
+        },
+        refl,
+      )
+
+  pub stream_right : IsStreamed asked left left_after held held_after streamed
+  stream_right = let (is, same) = stream_read in is
+
+  -- and the reports of its refused lines
+  pub stream_told : (names : Names) (faults faults_after : Option (List ℕ)) (IsSure : Type 0)
+      → (IsSure
+      → AreToldSince ExplainsEntry names s.lists.reading.lines.refused new.lines.refused faults faults_after)
+      → (is : IsStreamed asked left left_after held held_after streamed)
+      × (IsSure → AreTold ExplainsEntry names is.refusals faults faults_after)
+  stream_told names faults faults_after IsSure since =
+      let start = s.lists.reading.lines.refused in
+      let (is, same) = stream_read in
+      let begun : AreRefused start [] = subst (AreRefused start)
+      (none_of_length h.read.refusals (sym h.read.kept.count ∙ none)) h.read.kept in
+      let kept : AreRefused new.lines.refused is.refusals = subst (AreRefused new.lines.refused) (sym same)
+      (more_refused start new.lines.refused [] k.refusals begun k.added) in (
+        is,
+        λ sure. told_all ExplainsEntry names start new.lines.refused is.refusals faults faults_after begun kept
+            (since sure),
+      )

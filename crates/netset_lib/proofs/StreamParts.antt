@@ -10,7 +10,6 @@ use Rattle.ipnet.specs.declared.parser.Grammar.{Grammar}
 use Rattle.ipnet.specs.Lines.{lines_of}
 use Rattle.netset_lib.specs.declared.answerer.Answerer.{Answerer}
 use Rattle.netset_lib.specs.declared.answerer.Answers.{Answers}
-use Rattle.netset_lib.specs.declared.query.Query.{Query}
 use Rattle.ipnet_lists.specs.declared.reader.LineReader.{LineReader}
 use Rattle.ipnet_lists.specs.declared.reading.Reading.{Reading}
 use Rattle.netset_lib.specs.declared.stream.Stream.{Stream}
@@ -22,7 +21,7 @@ use Rattle.netset_lib.specs.Answers.{AreListsRead}
 use Rattle.ipnet_lists.specs.Lists.{ListEntry, Refusal, AreRead, IsListRead, after_mark}
 use Rattle.ipnet_lists.specs.Reading.{Adds, AreTexts, ReadsLines, TakesLines, pending}
 use Rattle.netset_lib.specs.Streams.{IsWritten, IsPartWritten, IsWrittenInPart, IsFrontRead, IsStreamedInPart}
-use Rattle.netset_lib.specs.Streams.{WasAsked, IsStreamed, IsStreamFailure, IsBroken}
+use Rattle.netset_lib.specs.Streams.{Asked, WasAsked, IsStreamed, IsStreamFailure, IsBroken}
 use Rattle.netset_lib.proofs.AnsweringLaws.{replies_right}
 use Rattle.netset_lib.proofs.EntryAnswerLaws.{answers_append}
 use Rattle.ipnet_lists.proofs.ListReading.{reads_more}
@@ -223,28 +222,26 @@ still_quiet more taken left left_now start now next A B C D faults then after h 
 
 -- ---- the same of a stream
 
-pub part_right : (query : Query) (grammar : Grammar) (lists : List (List ℕ)) (s : Stream)
-    (left held held_after : Option (List ℕ)) (failure : StreamFailure) → WasAsked query grammar lists s
-    → s.lists.reading.lines.refused.count ≡ 0
+pub part_right : (asked : Asked) (s : Stream) (left held held_after : Option (List ℕ)) (failure : StreamFailure)
+    → WasAsked asked s → s.lists.reading.lines.refused.count ≡ 0
     → IsWrittenInPart s.answerer s.lists.reading.lines.grammar s.lists.reading.lines.list left held held_after
-    → IsBroken failure → IsStreamFailure query grammar lists left held held_after failure
-part_right query grammar lists s left held held_after failure h none part broken = by_failure failure broken
+    → IsBroken failure → IsStreamFailure asked left held held_after failure
+part_right asked s left held held_after failure h none part broken = by_failure failure broken
   where
-    in_part : IsStreamedInPart query grammar lists left held held_after
+    in_part : IsStreamedInPart asked left held held_after
     in_part =
         let r = h.read in
         let at = part.read in
         record {
-          first = h.first;
-          first_read = subst (AreListsRead grammar 0 lists (h.first ∷ []))
+          before_read = subst (AreListsRead asked.grammar 0 asked.lists asked.before)
               (none_of_length r.refusals (sym r.kept.count ∙ none)) r.read;
           entries = part.entries;
           refusals = part.refusals;
-          read = subst (λ g. IsFrontRead g (length lists) left part.entries part.refusals) r.same_grammar
+          read = subst (λ g. IsFrontRead g (length asked.lists) left part.entries part.refusals) r.same_grammar
               (subst (λ n. IsFrontRead s.lists.reading.lines.grammar n left part.entries part.refusals) r.count at);
           written = record {
             text = part.written.text;
-            right = replies_right query s.answerer h.first part.entries part.written.text h.for
+            right = replies_right asked.query s.answerer asked.first part.entries part.written.text h.for
                 (entries_some s.lists.reading.lines.grammar s.lists.reading.lines.list 1 at.texts part.entries
                 part.refusals at.read) part.written.right;
             front = part.written.front;
@@ -253,61 +250,50 @@ part_right query grammar lists s left held held_after failure h none part broken
           };
         }
 
-    by_failure : (failure : StreamFailure) → IsBroken failure
-        → IsStreamFailure query grammar lists left held held_after failure
+    by_failure : (failure : StreamFailure) → IsBroken failure → IsStreamFailure asked left held held_after failure
     by_failure (StreamFailures.Start lines) broken = absurd broken
     by_failure (StreamFailures.Read failure) broken = in_part
     by_failure StreamFailures.Unwritable broken = in_part
 
 -- what was written when a stream failed
-pub part_or_kept : (query : Query) (grammar : Grammar) (lists : List (List ℕ)) (left held held_after : Option (List ℕ))
-    (failure : StreamFailure) → IsStreamFailure query grammar lists left held held_after failure
-    → Keeps held held_after ⊎ IsStreamedInPart query grammar lists left held held_after
-part_or_kept query grammar lists left held held_after (StreamFailures.Start lines) h = inl h.1
-part_or_kept query grammar lists left held held_after (StreamFailures.Read failure) h = inr h
-part_or_kept query grammar lists left held held_after StreamFailures.Unwritable h = inr h
+pub part_or_kept : (asked : Asked) (left held held_after : Option (List ℕ)) (failure : StreamFailure)
+    → IsStreamFailure asked left held held_after failure
+    → Keeps held held_after ⊎ IsStreamedInPart asked left held held_after
+part_or_kept asked left held held_after (StreamFailures.Start lines) h = inl h.1
+part_or_kept asked left held held_after (StreamFailures.Read failure) h = inr h
+part_or_kept asked left held held_after StreamFailures.Unwritable h = inr h
 
 -- ---- a list that was streamed whole
 
--- the second of two lists
-second_read : (grammar : Grammar) (lists : List (List ℕ)) (bytes : List ℕ) (first entries : List ListEntry)
-    (refusals : List Refusal) → AreListsRead grammar 0 lists (first ∷ []) []
-    → AreListsRead grammar 0 (lists ++ bytes ∷ []) (first ∷ entries ∷ []) refusals
-    → (here : List Refusal) × IsListRead grammar (length lists) bytes entries here
-second_read grammar [] bytes first entries refusals h k = let clash : first ∷ [] ≡ [] = h.0 in absurd cc
-second_read grammar (b ∷ []) bytes first entries refusals h (
-  e,
-  es,
-  r,
-  rs,
-  cut,
-  split,
-  is,
-  (
-    e2,
-    es2,
-    r2,
-    rs2,
-    cut2,
-    split2,
-    is2,
-    end,
-  ),
-) =
-    let same : e2 ≡ entries = cc in (r2, subst (λ z. IsListRead grammar 1 bytes z r2) same is2)
-second_read grammar (b ∷ c ∷ lists) bytes first entries refusals (e, es, r, rs, cut, split, is, more) k =
-    let next : es ≡ more.0 ∷ more.1 = more.4 in absurd cc
+-- the last of some lists
+last_read : (grammar : Grammar) (list : ℕ) (lists : List (List ℕ)) (bytes : List ℕ) (before : List (List ListEntry))
+    (entries : List ListEntry) (earlier refusals : List Refusal) → AreListsRead grammar list lists before earlier
+    → AreListsRead grammar list (lists ++ bytes ∷ []) (before ++ entries ∷ []) refusals
+    → (here : List Refusal) × IsListRead grammar (list + length lists) bytes entries here
+last_read grammar list [] bytes before entries earlier refusals h (e, es, r, rs, cut, split, is, end) =
+    let only : entries ∷ [] ≡ e ∷ es = ap (λ z. z ++ entries ∷ []) (sym h.0) ∙ cut in
+    let same : e ≡ entries = cc in
+    let at : list ≡ list + 0 = omega arith in
+    (r, subst (λ n. IsListRead grammar n bytes entries r) at (subst (λ z. IsListRead grammar list bytes z r) same is))
+last_read grammar list (b ∷ lists) bytes before entries earlier refusals (e, es, r, rs, cut, split, is, more)
+    (e2, es2, r2, rs2, cut2, split2, is2, more2) =
+    let all : e ∷ (es ++ entries ∷ []) ≡ e2 ∷ es2 = ap (λ z. z ++ entries ∷ []) (sym cut) ∙ cut2 in
+    let next : es2 ≡ es ++ entries ∷ [] = cc in
+    let (here, read) = last_read grammar (list + 1) lists bytes es entries rs rs2 more
+    (subst (λ z. AreListsRead grammar (list + 1) (lists ++ bytes ∷ []) z rs2) next more2) in
+    let at : list + 1 + length lists ≡ list + length (b ∷ lists) = omega arith in
+    (here, subst (λ n. IsListRead grammar n bytes entries here) at read)
 
 -- all that was written is a part of it
-pub streamed_part : (query : Query) (grammar : Grammar) (lists : List (List ℕ))
-    (left left_after held held_after : Option (List ℕ)) (streamed : Streamed)
-    → IsStreamed query grammar lists left left_after held held_after streamed
-    → IsStreamedInPart query grammar lists left held held_after
-streamed_part query grammar lists left left_after held held_after streamed h =
-    let (here, is) = second_read grammar lists h.bytes h.first h.entries h.refusals h.first_read h.read in
+pub streamed_part : (asked : Asked) (left left_after held held_after : Option (List ℕ)) (streamed : Streamed)
+    → IsStreamed asked left left_after held held_after streamed → IsStreamedInPart asked left held held_after
+streamed_part asked left left_after held held_after streamed h =
+    let (here, is) = last_read asked.grammar 0 asked.lists h.bytes asked.before h.entries [] h.refusals h.before_read
+    h.read in
+    let at : 0 + length asked.lists ≡ length asked.lists = omega arith in
+    let read = subst (λ n. IsListRead asked.grammar n h.bytes h.entries here) at is in
     record {
-      first = h.first;
-      first_read = h.first_read;
+      before_read = h.before_read;
       entries = h.entries;
       refusals = here;
       read = record {
@@ -316,9 +302,9 @@ streamed_part query grammar lists left left_after held held_after streamed h =
         front = Consumes-whole left left_after h.bytes
             (λ bytes. lines_of (after_mark bytes) ≡ lines_of (after_mark h.bytes) ++ []) h.given.given h.given.whole
             (sym (append-nil (lines_of (after_mark h.bytes))));
-        texts = is.0;
-        contents = is.1;
-        read = is.2;
+        texts = read.0;
+        contents = read.1;
+        read = read.2;
       };
       written = record {
         text = h.text;

@@ -1,5 +1,7 @@
 -- Plans of networks in the addresses of a set: their text, and why there is none.
 use Rattle.std.specs.Prelude.{◌≡◌, ◌≢◌, ◌↔◌, ◌<◌, ◌≤◌, ◌⊎◌, ◌++◌, ◌∷◌, ℕ, List, [], Any, All, length, codes, drop}
+use Rattle.std.specs.Prelude.{Some, nat_lt}
+use Rattle.std.specs.List.{find}
 use Rattle.ipnet_base.specs.Address.{Family, IPv4, IPv6, width, Address}
 use Rattle.ipnet_base.specs.Network.{Network}
 use Rattle.ipnet.specs.CanonicalTexts.{canonical_text}
@@ -74,7 +76,8 @@ pub record HasRoomForEach (InSet : Address → Type 0) (families : Families) (le
   pub chosen : IsPlanFamily families InSet family
   pub room : All (HasRoom InSet family) lengths
 
--- The prefix length `p` is one of the lengths, and is above `greatest`, the width of the family.
+-- The prefix length `p` is the first of the lengths that is above `greatest`, the width of the family.
+-- Example: in IPv4, 40 of the lengths 8, 40 and 50, with 32.
 pub record HasLongLength (InSet : Address → Type 0) (families : Families) (lengths : List ℕ) (p greatest : ℕ) : Type 0
   where
     pub family : Family
@@ -82,6 +85,7 @@ pub record HasLongLength (InSet : Address → Type 0) (families : Families) (len
     pub member : Any (λ q. q ≡ p) lengths
     pub width_is : greatest ≡ width family
     pub long : greatest < p
+    pub first : find (λ q. nat_lt greatest q) lengths ≡ Some p
 
 -- Why a set has no plan. Memory runs out only if the set has room for each length by itself; when it runs out is not
 -- specified otherwise.

@@ -1,5 +1,5 @@
 -- The reports of failures, as they are on standard error.
-use Rattle.std.specs.Prelude.{◌≡◌, ℕ, List, [], ◌∷◌, ◌++◌, codes, decimal, Option}
+use Rattle.std.specs.Prelude.{◌≡◌, ◌⊎◌, ℕ, List, [], ◌∷◌, ◌++◌, codes, decimal, Option, Some, None}
 use Rattle.std.specs.List.{concat}
 use Rattle.ipnet.specs.CanonicalTexts.{canonical_text}
 use Rattle.ipnet_base.specs.Network.{Network}
@@ -22,11 +22,21 @@ abbrev pub named_line : List ℕ → List ℕ → List ℕ
 named_line name words =
     concat (codes "netset: " ∷ escaped name ∷ codes ": " ∷ words ∷ (10 ∷ []) ∷ [])
 
--- The line that reports these words, and a reason in the words of the system.
+-- The words of an error, which displays this text: the text, or nothing if it does not fit. If the text is not
+-- specified, they are any words.
+abbrev pub IsReason : Option (List ℕ) → List ℕ → Type 0
+IsReason None reason = Unit {0}
+IsReason (Some text) reason = (reason ≡ text) ⊎ (reason ≡ [])
+
+-- The line that reports these words and this reason.
 -- Example: `netset: output cannot be written: No space left on device (os error 28)`.
-abbrev pub IsReasonLine : List ℕ → List ℕ → Type 0
-IsReasonLine words line = (reason : List ℕ)
-    × (line ≡ concat (codes "netset: " ∷ words ∷ codes ": " ∷ reason ∷ (10 ∷ []) ∷ []))
+abbrev pub reason_line : List ℕ → List ℕ → List ℕ
+reason_line words reason = concat (codes "netset: " ∷ words ∷ codes ": " ∷ reason ∷ (10 ∷ []) ∷ [])
+
+-- The line that reports these words, and the words of an error, which displays this text.
+abbrev pub IsReasonLine : List ℕ → Option (List ℕ) → List ℕ → Type 0
+IsReasonLine words shown line = (reason : List ℕ) × IsReason shown reason
+    × (line ≡ reason_line words reason)
 
 -- The line that reports that a network has no subnet of this prefix length.
 -- Example: `netset: /7: no subnet of 10.0.0.0/8 has this prefix length`.

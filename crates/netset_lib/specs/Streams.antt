@@ -1,4 +1,4 @@
--- The answers of a filter or a route that are written while the second list is read.
+-- The answers of a filter or a route that are written while the last list is read.
 use Rattle.std.specs.Prelude.{◌≡◌, Bool, ℕ, List, [], ◌∷◌, ◌++◌, length, Option, IfSome}
 use Rattle.std.specs.Io.KnownBytes.{Appends, Keeps}
 use Rattle.ipnet.specs.declared.parser.Grammar.{Grammar}
@@ -18,30 +18,40 @@ use Rattle.ipnet_lists.specs.Lists.{ListEntry, Refusal, AreContents, AreRead, af
 use Rattle.netset_lib.specs.Replies.{AreReplies, IsFoundFor, found_for}
 use Rattle.netset_lib.specs.SetReaders.{WereRead}
 
--- The stream has read one list, of which its answerer was made for the query.
-pub record WasAsked (query : Query) (grammar : Grammar) (lists : List (List ℕ)) (stream : Stream) : Type 0 where
+-- A question to a stream: a query by a list with the entries `first`. It is about the list that follows after `lists`,
+-- which have the entries `before` in this grammar.
+-- Example: a filter by 10.0.0.0/8, after the list `10.0.0.0/8\n`. If `10.0.0.0/9` is taken out of that list, there are
+-- two lists, and the filter is by 10.128.0.0/9.
+pub record Asked : Type 0 where
+  pub query : Query
   pub first : List ListEntry
-  pub read : WereRead grammar lists (first ∷ []) stream.lists
-  pub for : IsAnswererFor query stream.answerer first
+  pub grammar : Grammar
+  pub lists : List (List ℕ)
+  pub before : List (List ListEntry)
 
--- After the first list the reader gave the bytes of the second one, up to their end. Exactly the answers to the entries
--- of the second list were written, in order. Refused lines are left out and counted; the first list has none.
+-- The stream has read these lists, and its answerer was made for the query by the entries `first`. If there is one
+-- list, `first` can be its entries.
+pub record WasAsked (asked : Asked) (stream : Stream) : Type 0 where
+  pub read : WereRead asked.grammar asked.lists asked.before stream.lists
+  pub for : IsAnswererFor asked.query stream.answerer asked.first
+
+-- After the first lists the reader gave the bytes of the last one, up to their end. Exactly the answers to the entries
+-- of the last list were written, in order. Refused lines are left out and counted; the first lists have none.
 -- Example: a filter with `10.0.0.0/8` first, and then `10.0.0.1`, `x`, `::1`, writes `10.0.0.1`; one line is refused,
 -- and the filter succeeded.
-pub record IsStreamed (query : Query) (grammar : Grammar) (lists : List (List ℕ)) (left left_after : Option (List ℕ))
-    (held held_after : Option (List ℕ)) (streamed : Streamed) : Type 0 where
+pub record IsStreamed (asked : Asked) (left left_after held held_after : Option (List ℕ)) (streamed : Streamed) : Type
+    0 where
   pub bytes : List ℕ
   pub given : GaveWhole left left_after bytes
-  pub first : List ListEntry
-  pub first_read : AreListsRead grammar 0 lists (first ∷ []) []
+  pub before_read : AreListsRead asked.grammar 0 asked.lists asked.before []
   pub entries : List ListEntry
   pub refusals : List Refusal
-  pub read : AreListsRead grammar 0 (lists ++ bytes ∷ []) (first ∷ entries ∷ []) refusals
+  pub read : AreListsRead asked.grammar 0 (asked.lists ++ bytes ∷ []) (asked.before ++ entries ∷ []) refusals
   pub text : List ℕ
-  pub right : AreReplies query first entries text
+  pub right : AreReplies asked.query asked.first entries text
   pub written : Appends held held_after text
   pub count : streamed.refused ≡ length refusals
-  pub is_found : IsFoundIn (IsFoundFor query first) (found_for query streamed.succeeded) entries
+  pub is_found : IsFoundIn (IsFoundFor asked.query asked.first) (found_for asked.query streamed.succeeded) entries
 
 -- The first lines of a list have these entries and refused lines. `left` has the bytes of the list.
 -- Example: `10.0.0.1` is the entry of the first line of `10.0.0.1\n::1\n`.
@@ -54,29 +64,24 @@ pub record IsFrontRead (grammar : Grammar) (list : ℕ) (left : Option (List ℕ
   pub contents : AreContents lines texts
   pub read : AreRead grammar list 1 texts entries refusals
 
--- The reader had the bytes `left` of the second list. A first part of the answers to the entries of its first lines was
--- written; the first list has no refused line.
+-- The reader had the bytes `left` of the last list. A first part of the answers to the entries of its first lines was
+-- written; the first lists have no refused line.
 -- Example: the reader of `10.0.0.1`, `::1`, `10.0.0.2` fails after two lines. A filter with `10.0.0.0/8` first has
 -- written `10.0.0.1`, and may have written less.
-pub record IsStreamedInPart (query : Query) (grammar : Grammar) (lists : List (List ℕ)) (left : Option (List ℕ))
-    (held held_after : Option (List ℕ)) : Type 0 where
-  pub first : List ListEntry
-  pub first_read : AreListsRead grammar 0 lists (first ∷ []) []
+pub record IsStreamedInPart (asked : Asked) (left held held_after : Option (List ℕ)) : Type 0 where
+  pub before_read : AreListsRead asked.grammar 0 asked.lists asked.before []
   pub entries : List ListEntry
   pub refusals : List Refusal
-  pub read : IsFrontRead grammar (length lists) left entries refusals
-  pub written : IsFrontWritten (AreReplies query first entries) held held_after
+  pub read : IsFrontRead asked.grammar (length asked.lists) left entries refusals
+  pub written : IsFrontWritten (AreReplies asked.query asked.first entries) held held_after
 
--- Why a stream ended, and what was written then: the first list has refused lines, or it ended in the second. When a
--- read, a write or memory fails is not specified.
-abbrev pub IsStreamFailure : Query → Grammar → List (List ℕ) → Option (List ℕ) → Option (List ℕ) → Option (List ℕ)
-    → StreamFailure → Type 0
-IsStreamFailure query grammar lists left held held_after (StreamFailures.Start lines) =
-    HasRefused grammar lists lines × Keeps held held_after
-IsStreamFailure query grammar lists left held held_after (StreamFailures.Read failure) =
-    IsStreamedInPart query grammar lists left held held_after
-IsStreamFailure query grammar lists left held held_after StreamFailures.Unwritable =
-    IsStreamedInPart query grammar lists left held held_after
+-- Why a stream ended, and what was written then: the first lists have refused lines, or it ended in the last list. When
+-- a read, a write or memory fails is not specified.
+abbrev pub IsStreamFailure : Asked → Option (List ℕ) → Option (List ℕ) → Option (List ℕ) → StreamFailure → Type 0
+IsStreamFailure asked left held held_after (StreamFailures.Start lines) =
+    HasRefused asked.grammar asked.lists lines × Keeps held held_after
+IsStreamFailure asked left held held_after (StreamFailures.Read failure) = IsStreamedInPart asked left held held_after
+IsStreamFailure asked left held held_after StreamFailures.Unwritable = IsStreamedInPart asked left held held_after
 
 -- The stream had begun when it failed.
 -- Only private contracts use this.

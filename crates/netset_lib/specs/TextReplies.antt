@@ -9,16 +9,20 @@ use Rattle.ipnet_lists.specs.Lists.{Refusal, RefusalFor}
 use Rattle.ipnet_lists.specs.RefusedLines.{AreRefused}
 use Rattle.ipnet_text.specs.Outputs.{IsWritten, IsFrontWritten}
 use Rattle.netset_lib.specs.ListReports.{IsRouteReport, IsRouteBegun}
-use Rattle.netset_lib.specs.TextTables.{HasRefusedTextLines, HasRefusedEntries}
+use Rattle.netset_lib.specs.TextTables.{TextLine, HasRefusedTextLines, HasRefusedEntries, IsTextTable}
 
--- Why not all entries were looked up: refused lines of the table; refused lines of the list; or out of memory. When
--- memory runs out is not specified.
+-- No line of the table is refused. Example: `10.0.0.0/8 eth0\n`; not `10.0.0.0/33 eth0\n`.
+abbrev pub IsWholeTable : Grammar → List ℕ → Type 0
+IsWholeTable grammar table = (lines : List TextLine) × IsTextTable grammar table lines []
+
+-- Why not all entries were looked up: refused lines of the table; refused lines of the list, if the table has none; or
+-- out of memory. When memory runs out is not specified.
 abbrev pub IsTextFailure : Grammar → (table list : List ℕ) → TextFailure → Type 0
 IsTextFailure grammar table list (Failures.Table lines) =
     (refusals : List (RefusalFor NotTextLine)) × HasRefusedTextLines grammar table refusals
     × AreRefused lines refusals
-IsTextFailure grammar table list (Failures.List lines) =
-    (refusals : List Refusal) × HasRefusedEntries grammar list refusals × AreRefused lines refusals
+IsTextFailure grammar table list (Failures.List lines) = IsWholeTable grammar table
+    × (refusals : List Refusal) × HasRefusedEntries grammar list refusals × AreRefused lines refusals
 IsTextFailure grammar table list Failures.Memory = Unit {0}
 
 -- The bytes are not a table, for refused lines or out of memory, and a front of the report about it was written; all of

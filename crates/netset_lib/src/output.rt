@@ -1,5 +1,5 @@
 //! An output that takes effect only when it is whole, and the name of the file that has its bytes until then.
-ghost use Rattle.std.specs.Prelude.{◌≡◌, ◌≢◌, ◌≤◌, ◌↔◌, ◌++◌, List, ℕ, IsOk, IsTrue, IfOk, MatchOption};
+ghost use Rattle.std.specs.Prelude.{◌≡◌, ◌≢◌, ◌≤◌, ◌↔◌, ◌++◌, List, ℕ, IsOk, IsTrue, IfOk, MatchOption, None};
 ghost use Rattle.std.specs.Prelude.{string_bytes};
 ghost use Rattle.std.specs.Io.KnownBytes.{Keeps};
 ghost use Rattle.netset_lib.specs.Outputs.{unfinished_name, AreFileDigits, IsUnfinishedName};
@@ -44,7 +44,8 @@ pub fn finish<O: Output, X: Write>(status: u8, out: &mut O, faults: &mut Watched
     ensures contents { Keeps (O.contents out.old) (O.contents out.new) }
     ensures faultless { result ≤ 1 → Keeps (X.contents (writer_of faults.old)) (X.contents (writer_of faults.new)) }
     ensures reported { status ≤ 1 → result ≡ 2 → ¬ (HasFailed faults.new)
-        → IsWritten (IsReasonLine unwritable) (X.contents (writer_of faults.old)) (X.contents (writer_of faults.new)) }
+        → IsWritten (IsReasonLine unwritable None) (X.contents (writer_of faults.old))
+        (X.contents (writer_of faults.new)) }
     ensures quiet { 2 ≤ status → Keeps (X.contents (writer_of faults.old)) (X.contents (writer_of faults.new)) }
 {
     if status > 1 {

@@ -1,6 +1,7 @@
 //! Plans: networks of given prefix lengths in the addresses of a set, as text.
 ghost use Rattle.std.specs.Prelude.{◌≡◌, ◌↔◌, ◌⊎◌, ◌<◌, ◌≤◌, Any, All, IfOk, IsOk, IfErr, IsErr, Err};
-ghost use Rattle.std.specs.Prelude.{IfSome, IfNone, Some, OnOk, drop};
+ghost use Rattle.std.specs.Prelude.{IfSome, IfNone, Some, OnOk, drop, nat_lt};
+ghost use Rattle.std.specs.List.{find};
 ghost use Rattle.std.specs.Fmt.{DisplaysOnOk, DisplaysStyledOnOk};
 ghost use Rattle.ipnet_text.specs.Outputs.{IsWritten, IsFrontWritten};
 ghost use Rattle.std.specs.Prelude.{map, string_bytes};
@@ -121,6 +122,7 @@ pub struct PlanRequest<'a> {
 
 /// The first of the lengths that is above `greatest`.
 fn first_above(lengths: &[u8], greatest: u8) -> Option<u8>
+    ensures first { result ≡ find (λ q. nat_lt greatest q) lengths.now }
     ensures some { IfSome result (λ p. Any (λ q. q ≡ p) lengths.now × (greatest < p)) }
     ensures none { IfNone result (All (λ q. q ≤ greatest) lengths.now) }
 {
@@ -198,8 +200,9 @@ pub fn plan_networks(
     let Some(family) = plan_family(request.families, set) else {
         return Err(PlanFailure::Family);
     };
-    if let Some(long) = first_above(request.lengths, family.width()) {
-        return Err(PlanFailure::PrefixLen(long, family.width()));
+    let greatest = family.width();
+    if let Some(long) = first_above(request.lengths, greatest) {
+        return Err(PlanFailure::PrefixLen(long, greatest));
     }
     match plan_of(alloc, set, family, request.lengths) {
         Ok(networks) => Ok(Plan { family, networks }),

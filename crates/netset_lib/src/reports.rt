@@ -5,13 +5,14 @@ ghost use Rattle.ipnet_lists.specs.Names.{Names};
 ghost use Rattle.ipnet_lists.specs.Reports.{OfNew, IsReport};
 ghost use Rattle.ipnet_text.specs.Outputs.{IsWritten, IsFrontWritten};
 ghost use Rattle.ipnet_text.specs.Watched.{writer_of, HasFailed};
-ghost use Rattle.netset_lib.specs.Reports.{words_line, named_line, IsReasonLine, long_words};
+ghost use Rattle.netset_lib.specs.Reports.{words_line, named_line, reason_line, IsReasonLine, long_words};
 
 use crate::error_words::error_words;
 use arrayvec::ArrayString;
 use ipnet_lists::{LineCause, Part, Refusals, report_since, write_parts};
 use ipnet_text::Watched;
 use itoa::Buffer;
+use std::fmt::Display;
 use std::io;
 use std::io::Write;
 
@@ -106,9 +107,9 @@ fn report_reason<'a, X: Write>(
     words: &'a str,
     reason: &'a str,
 ) -> io::Result<()>
-    ensures whole { OnOk result (IsWritten (IsReasonLine words.now)
+    ensures whole { OnOk result (IsWritten (λ t. t ≡ reason_line words.now reason.now)
         (X.contents (writer_of faults.old)) (X.contents (writer_of faults.new))) }
-    ensures front { IsFrontWritten (IsReasonLine words.now)
+    ensures front { IsFrontWritten (λ t. t ≡ reason_line words.now reason.now)
         (X.contents (writer_of faults.old)) (X.contents (writer_of faults.new)) }
     ensures failed { IsErr result → HasFailed faults.new }
 {
@@ -124,20 +125,20 @@ fn report_reason<'a, X: Write>(
     )
 }
 
-/// Reports these words, and the words of the system for the error, in one line. If a write fails, a front of the line
-/// has been written.
+/// Reports these words, and the words of the error, in one line. The words of the error are empty if they have more
+/// than 320 bytes. If a write fails, a front of the line has been written.
 ///
 /// ```text
 /// "output cannot be written": "netset: output cannot be written: No space left on device (os error 28)\n"
 /// ```
-pub fn report_error<X: Write>(
+pub fn report_error<X: Write, E: Display>(
     faults: &mut Watched<'_, X>,
     words: &str,
-    error: &io::Error,
+    error: &E,
 ) -> io::Result<()>
-    ensures whole { OnOk result (IsWritten (IsReasonLine words.now)
+    ensures whole { OnOk result (IsWritten (IsReasonLine words.now (E.output error.now))
         (X.contents (writer_of faults.old)) (X.contents (writer_of faults.new))) }
-    ensures front { IsFrontWritten (IsReasonLine words.now)
+    ensures front { IsFrontWritten (IsReasonLine words.now (E.output error.now))
         (X.contents (writer_of faults.old)) (X.contents (writer_of faults.new)) }
     ensures failed { IsErr result → HasFailed faults.new }
 {

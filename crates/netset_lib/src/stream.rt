@@ -1,14 +1,12 @@
-//! The answers of a filter or a route, written while the second list is read.
+//! The answers of a filter or a route, written while the last list is read.
 ghost use Rattle.std.specs.Prelude.{◌≡◌, List, ℕ, [], IfOk, IfErr, OnOk, false, string_bytes};
 ghost use Rattle.std.specs.Io.{StartsWith};
 ghost use Rattle.std.specs.Io.KnownBytes.{Appends, Keeps};
-ghost use Rattle.ipnet.specs.declared.parser.Grammar.{Grammar};
 ghost use Rattle.ipnet_lists.specs.Reading.{WasMadeOf};
 ghost use Rattle.ipnet_lists.specs.Reports.{ExplainsEntry};
 ghost use Rattle.netset_lib.specs.Answering.{found_by};
 ghost use Rattle.netset_lib.specs.StepReports.{AreTold, AreToldSince};
 ghost use Rattle.netset_lib.specs.Streams.{IsStreamed, IsWritten, IsWrittenInPart, IsStreamFailure, IsBroken};
-ghost use Rattle.netset_lib.specs.declared.query.Query.{Query};
 ghost use Rattle.ipnet_lists.specs.declared.reading.ReadFailure.TheVariants.{Unreadable, Memory};
 ghost use Rattle.netset_lib.specs.declared.stream.StreamFailure.TheVariants as StreamFailures;
 ghost use Rattle.ipnet_text.specs.Watched.{writer_of, HasFailed};
@@ -34,7 +32,7 @@ pub struct Streamed {
 /// Why a stream ended before the end of its list.
 #[derive(Debug, Drop)]
 pub enum StreamFailure {
-    /// The first list has lines that are not entries.
+    /// The lists before the last have lines that are not entries.
     Start(RefusedLines),
     /// The list could not be read, or memory ran out.
     Read(ReadFailure),
@@ -66,12 +64,12 @@ impl From<AllocError> for StreamFailure {
     }
 }
 
-/// A filter or a route whose first list was read.
+/// A filter or a route that has read all lists except the last.
 #[derive(Drop)]
 pub struct Stream {
-    /// The reader, after the first list.
+    /// The reader, after these lists.
     pub lists: SetReader,
-    /// The answerer, made of the first list.
+    /// The answerer, made of these lists.
     pub answerer: Answerer,
 }
 
@@ -137,12 +135,12 @@ fn stream_entries<R: Read, W: Write, X: Write>(
 }
 
 impl Stream {
-    ghost use Rattle.netset_lib.specs.Streams.{WasAsked};
+    ghost use Rattle.netset_lib.specs.Streams.{Asked, WasAsked};
 
-    /// Reads the second list of a filter or a route, and writes the answer to each entry before more of the list is
+    /// Reads the last list of a filter or a route, and writes the answer to each entry before more of the list is
     /// read, so that memory does not grow with the list. Lines that are not entries are left out: the first ten of all
-    /// are reported to `faults` when they are read, and of others how many they are. `names` are the names of the two
-    /// lists for these reports.
+    /// are reported to `faults` when they are read, and of others how many they are. `names` are the names of all lists
+    /// for these reports.
     ///
     /// After an error, a part of the lines may be written. Without a refused line, the text of
     /// `SetReader::read_answers` is written.
@@ -157,22 +155,20 @@ impl Stream {
         out: &mut W,
         faults: &mut Watched<'_, X>,
     ) -> Result<Streamed, StreamFailure>
-        ensures streamed { IfOk result (λ streamed. (query : Query) → (grammar : Grammar) → (lists : List (List ℕ))
-            → WasAsked query grammar lists self
-            → IsStreamed query grammar lists (R.remaining input.old) (R.remaining input.new)
+        ensures streamed { IfOk result (λ streamed. (asked : Asked) → WasAsked asked self
+            → IsStreamed asked (R.remaining input.old) (R.remaining input.new)
             (W.contents out.old) (W.contents out.new) streamed) }
         ensures quiet { IfOk result (λ streamed. streamed.refused ≡ 0
             → Keeps (X.contents (writer_of faults.old)) (X.contents (writer_of faults.new))) }
         ensures appended { (text : List ℕ)
             × Appends (X.contents (writer_of faults.old)) (X.contents (writer_of faults.new)) text }
-        ensures told { IfOk result (λ streamed. (query : Query) → (grammar : Grammar) → (lists : List (List ℕ))
-            → WasAsked query grammar lists self → ¬ (HasFailed faults.new)
-            → AreTold ExplainsEntry names.now streamed.refused
-            (X.contents (writer_of faults.old)) (X.contents (writer_of faults.new))) }
-        ensures failure { IfErr result (λ failure. (query : Query) → (grammar : Grammar) → (lists : List (List ℕ))
-            → WasAsked query grammar lists self
-            → IsStreamFailure query grammar lists (R.remaining input.old) (W.contents out.old) (W.contents out.new)
-            failure) }
+        ensures told { IfOk result (λ streamed. (asked : Asked) → WasAsked asked self
+            → ((is : IsStreamed asked (R.remaining input.old) (R.remaining input.new)
+            (W.contents out.old) (W.contents out.new) streamed)
+            × (¬ (HasFailed faults.new) → AreTold ExplainsEntry names.now is.refusals
+            (X.contents (writer_of faults.old)) (X.contents (writer_of faults.new))))) }
+        ensures failure { IfErr result (λ failure. (asked : Asked) → WasAsked asked self
+            → IsStreamFailure asked (R.remaining input.old) (W.contents out.old) (W.contents out.new) failure) }
     {
         if self.lists.refused_count() != 0 {
             let lists = self.lists;

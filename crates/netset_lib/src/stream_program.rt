@@ -1,9 +1,7 @@
-//! A filter or a route whose answers are written while its second list is read, over any writers.
-ghost use Rattle.std.specs.Prelude.{◌≡◌, ◌≢◌, ◌≤◌, ◌==◌, ◌⊎◌, ◌↔◌, List, ℕ};
+//! A filter or a route whose answers are written while its last list is read, over any writers.
+ghost use Rattle.std.specs.Prelude.{◌≡◌, ◌≢◌, ◌≤◌, ◌==◌, ◌⊎◌, ◌↔◌};
 ghost use Rattle.std.specs.Io.KnownBytes.{Keeps};
-ghost use Rattle.ipnet.specs.declared.parser.Grammar.{Grammar};
-ghost use Rattle.netset_lib.specs.Streams.{WasAsked, IsStreamed, IsStreamedInPart};
-ghost use Rattle.netset_lib.specs.declared.query.Query.{Query};
+ghost use Rattle.netset_lib.specs.Streams.{Asked, WasAsked, IsStreamed, IsStreamedInPart};
 ghost use Rattle.ipnet_lists.specs.Reports.{ExplainsEntry};
 ghost use Rattle.ipnet_text.specs.Outputs.{IsWritten, IsFrontWritten};
 ghost use Rattle.ipnet_text.specs.Watched.{writer_of, HasFailed};
@@ -24,9 +22,9 @@ use std::io::{Read, Write};
 ///
 /// | Status | On `faults` | When |
 /// |---|---|---|
-/// | 2 | `NAME:LINE: not a network, an address or a range: TEXT (CAUSE)`, ten at most | such lines of the first list |
-/// | 2 | the same | such lines of the second list are left out |
-/// | 2 | `netset: NAME: cannot be read`, or `out of memory` | the second list is answered in part |
+/// | 2 | `NAME:LINE: not a network, an address or a range: TEXT (CAUSE)`, ten at most | such lines of the first lists |
+/// | 2 | the same | such lines of the last list are left out |
+/// | 2 | `netset: NAME: cannot be read`, or `out of memory` | the last list is answered in part |
 /// | 2 | `netset: output cannot be written` | a write fails, or a flush |
 /// | 1 | nothing | a filter printed nothing, or an entry has no route |
 /// | 0 | nothing | otherwise |
@@ -42,21 +40,17 @@ pub fn run_stream<R: Read, W: Write, X: Write>(
     faults: &mut Watched<'_, X>,
 ) -> u8
     ensures status { result ≤ 2 }
-    ensures streamed { result ≤ 1 → (query : Query) → (grammar : Grammar) → (lists : List (List ℕ))
-        → WasAsked query grammar lists stream
+    ensures streamed { result ≤ 1 → (asked : Asked) → WasAsked asked stream
         → ((s : Streamed) × (s.refused ≡ 0) × (s.succeeded ≡ (result == 0))
-        × IsStreamed query grammar lists (R.remaining input.old) (R.remaining input.new)
+        × IsStreamed asked (R.remaining input.old) (R.remaining input.new)
         (W.contents out.old) (W.contents out.new) s) }
-    ensures cut_short { result ≡ 2 → (query : Query) → (grammar : Grammar) → (lists : List (List ℕ))
-        → WasAsked query grammar lists stream
+    ensures cut_short { result ≡ 2 → (asked : Asked) → WasAsked asked stream
         → Keeps (W.contents out.old) (W.contents out.new)
-        ⊎ IsStreamedInPart query grammar lists (R.remaining input.old) (W.contents out.old) (W.contents out.new) }
-    ensures reported { result ≡ 2 → (query : Query) → (grammar : Grammar) → (lists : List (List ℕ))
-        → WasAsked query grammar lists stream
-        → ((s : Streamed) × (s.refused ≢ 0)
-        × IsStreamed query grammar lists (R.remaining input.old) (R.remaining input.new)
-        (W.contents out.old) (W.contents out.new) s
-        × (¬ (HasFailed faults.new) → AreTold ExplainsEntry names.now s.refused
+        ⊎ IsStreamedInPart asked (R.remaining input.old) (W.contents out.old) (W.contents out.new) }
+    ensures reported { result ≡ 2 → (asked : Asked) → WasAsked asked stream
+        → ((s : Streamed) × (s.refused ≢ 0) × (is : IsStreamed asked
+        (R.remaining input.old) (R.remaining input.new) (W.contents out.old) (W.contents out.new) s)
+        × (¬ (HasFailed faults.new) → AreTold ExplainsEntry names.now is.refusals
         (X.contents (writer_of faults.old)) (X.contents (writer_of faults.new))))
         ⊎ IsReportedLast (λ failure. IsWritten (IsStreamReport failure names.now))
         (λ failure. IsFrontWritten (IsStreamBegun failure names.now))

@@ -272,8 +272,9 @@ pub fn plain_table_or_report<'a, X: Write>(
         (λ _. Keeps (X.contents (writer_of faults.old)) (X.contents (writer_of faults.new))) }
     ensures reported { IsNone result → IsEntriesReported grammar bytes.now name.entry
         (X.contents (writer_of faults.old)) (X.contents (writer_of faults.new)) (¬ (HasFailed faults.new))
-        ⊎ IsTableReported grammar bytes.now name.entry
-        (X.contents (writer_of faults.old)) (X.contents (writer_of faults.new)) (¬ (HasFailed faults.new)) }
+        ⊎ (((entries : List ListEntry) × IsListRead grammar 0 bytes.now entries [])
+        × IsTableReported grammar bytes.now name.entry
+        (X.contents (writer_of faults.old)) (X.contents (writer_of faults.new)) (¬ (HasFailed faults.new))) }
 {
     match check_entries(alloc, bytes, grammar) {
         Ok(()) => table_or_report(alloc, bytes, grammar, name, faults),

@@ -16,6 +16,7 @@ use Rattle.ipnet_lists.proofs.LineEnds.{ended, ended_closed, only, before_end, n
 use Rattle.netset_words.specs.declared.line_filter.LineFilter.{LineFilter}
 use Rattle.netset_words.specs.declared.line_filter.Rest.TheVariants as Rests
 use Rattle.netset_words.specs.declared.lines_request.LinesRequest.{LinesRequest}
+use Rattle.netset_words.specs.Extracts.{WordRefusal}
 use Rattle.ipnet_lists.specs.RefusedLines.{AreRefused}
 use Rattle.netset_words.specs.LogLines.{LogResult, AreLogLines, treated_front}
 use Rattle.netset_words.specs.FilterSteps.{IsFilterUpTo, IsLogUpTo, ReadsUpTo, GoesOn, ReadsEnd}
@@ -23,12 +24,12 @@ use Rattle.netset_words.proofs.LogFilterLaws.{not_kept, or_false}
 
 -- ---- steps
 
-module _ (how : LinesRequest) (chosen : IpSet) (written : List ℕ) (least : ℕ) (before : List ℕ) (old : LineFilter)
-    (h : IsLogUpTo how chosen written least before old) where
+module _ (how : LinesRequest) (chosen : IpSet) (written : List ℕ) (known : List WordRefusal) (before : List ℕ)
+    (old : LineFilter) (h : IsLogUpTo how chosen written known before old) where
   -- bytes without the end of a line
   pub log_grows : (piece : List ℕ) (new : LineFilter) → All (λ b. b ≢ 10) piece
-      → IsFilterUpTo how chosen written least (lines_of h.closed) (h.cur ++ piece) new
-      → IsLogUpTo how chosen written least (before ++ piece) new
+      → IsFilterUpTo how chosen written known (lines_of h.closed) (h.cur ++ piece) new
+      → IsLogUpTo how chosen written known (before ++ piece) new
   log_grows piece new none up_to = record {
     closed = h.closed;
     cur = h.cur ++ piece;
@@ -40,8 +41,8 @@ module _ (how : LinesRequest) (chosen : IpSet) (written : List ℕ) (least : ℕ
 
   -- the rest of a line, and its end
   pub line_closes : (piece : List ℕ) (new : LineFilter) → All (λ b. b ≢ 10) piece
-      → IsFilterUpTo how chosen written least (lines_of h.closed ++ (h.cur ++ piece) ∷ []) [] new
-      → IsLogUpTo how chosen written least (before ++ (piece ++ 10 ∷ [])) new
+      → IsFilterUpTo how chosen written known (lines_of h.closed ++ (h.cur ++ piece) ∷ []) [] new
+      → IsLogUpTo how chosen written known (before ++ (piece ++ 10 ∷ [])) new
   line_closes piece new none up_to =
       let line = h.cur ++ piece in
       let all = All-append (λ b. b ≢ 10) h.cur piece h.no_end none in
@@ -63,15 +64,15 @@ module _ (how : LinesRequest) (chosen : IpSet) (written : List ℕ) (least : ℕ
   lines_are = ap lines_of h.cut ∙ h.is_closed h.cur
 
   -- nothing is left
-  pub no_line_left : h.cur ≡ [] → IsFilterUpTo how chosen written least (lines_of before) [] old
+  pub no_line_left : h.cur ≡ [] → IsFilterUpTo how chosen written known (lines_of before) [] old
   no_line_left none =
       rw (lines_are, none, append-nil (lines_of h.closed))
-      (subst (λ z. IsFilterUpTo how chosen written least (lines_of h.closed) z old) none h.up_to)
+      (subst (λ z. IsFilterUpTo how chosen written known (lines_of h.closed) z old) none h.up_to)
 
   -- a last line, without its end
   pub one_line_left : (new : LineFilter) → 0 < length h.cur
-      → IsFilterUpTo how chosen written least (lines_of h.closed ++ h.cur ∷ []) [] new
-      → IsFilterUpTo how chosen written least (lines_of before) [] new
+      → IsFilterUpTo how chosen written known (lines_of h.closed ++ h.cur ∷ []) [] new
+      → IsFilterUpTo how chosen written known (lines_of before) [] new
   one_line_left new some up_to =
       let last : lines_of h.cur ≡ h.cur ∷ [] = only h.cur some h.no_end in
       rw (lines_are, last) up_to
@@ -79,20 +80,20 @@ module _ (how : LinesRequest) (chosen : IpSet) (written : List ℕ) (least : ℕ
 -- ---- the front of a line, as a filter has it
 
 -- nothing is kept
-pub is_nothing : (how : LinesRequest) (chosen : IpSet) (written : List ℕ) (least : ℕ) (lines : List (List ℕ))
-    (cur : List ℕ) (f : LineFilter) → IsFilterUpTo how chosen written least lines cur f → f.rest ≡ Rests.Kept
-    → f.front.items ≡ [] → cur ≡ []
-is_nothing how chosen written least lines cur f h kept none =
+pub is_nothing : (how : LinesRequest) (chosen : IpSet) (written : List ℕ) (known : List WordRefusal)
+    (lines : List (List ℕ)) (cur : List ℕ) (f : LineFilter) → IsFilterUpTo how chosen written known lines cur f
+    → f.rest ≡ Rests.Kept → f.front.items ≡ [] → cur ≡ []
+is_nothing how chosen written known lines cur f h kept none =
     elim h.current [
       | inl k ↦ sym k.kept ∙ none
       | inr d ↦ absurd (not_kept (treated_front how.any how.others d.verdict) (sym d.rest_is ∙ kept))
     ]
 
 -- something is
-pub is_something : (how : LinesRequest) (chosen : IpSet) (written : List ℕ) (least : ℕ) (lines : List (List ℕ))
-    (cur : List ℕ) (f : LineFilter) → IsFilterUpTo how chosen written least lines cur f
+pub is_something : (how : LinesRequest) (chosen : IpSet) (written : List ℕ) (known : List WordRefusal)
+    (lines : List (List ℕ)) (cur : List ℕ) (f : LineFilter) → IsFilterUpTo how chosen written known lines cur f
     → (f.rest ≡ Rests.Kept → f.front.items ≡ [] → ⊥) → 0 < length cur
-is_something how chosen written least lines cur f h some =
+is_something how chosen written known lines cur f h some =
     elim h.current [ inl k ↦ kept cur k.kept k.rest_is | inr d ↦ omega (arith, d.long) ]
   where
     kept : (cs : List ℕ) → f.front.items ≡ cs → f.rest ≡ Rests.Kept → 0 < length cs
@@ -100,8 +101,8 @@ is_something how chosen written least lines cur f h some =
     kept (c ∷ cs) is rest = omega arith
 
 -- the result after all lines
-pub record IsWholeResult (how : LinesRequest) (chosen : IpSet) (written : List ℕ) (least : ℕ) (lines : List (List ℕ))
-    (f : LineFilter) : Type 0 where
+pub record IsWholeResult (how : LinesRequest) (chosen : IpSet) (written : List ℕ) (known : List WordRefusal)
+    (lines : List (List ℕ)) (f : LineFilter) : Type 0 where
   pub result : LogResult
   pub are : AreLogLines how (IsMember chosen) 1 lines result
   pub text : written ++ f.answers.text.items ≡ result.text
@@ -109,9 +110,10 @@ pub record IsWholeResult (how : LinesRequest) (chosen : IpSet) (written : List �
   pub nones : f.answers.nones ≡ result.nones
   pub undecided : AreRefused f.undecided result.undecided
 
-pub whole_result : (how : LinesRequest) (chosen : IpSet) (written : List ℕ) (least : ℕ) (lines : List (List ℕ))
-    (f : LineFilter) → IsFilterUpTo how chosen written least lines [] f → IsWholeResult how chosen written least lines f
-whole_result how chosen written least lines f h = elim h.current [
+pub whole_result : (how : LinesRequest) (chosen : IpSet) (written : List ℕ) (known : List WordRefusal)
+    (lines : List (List ℕ)) (f : LineFilter) → IsFilterUpTo how chosen written known lines [] f
+    → IsWholeResult how chosen written known lines f
+whole_result how chosen written known lines f h = elim h.current [
   | inr d ↦ absurd (omega (arith, d.long))
   | inl k ↦
       record {
@@ -141,8 +143,8 @@ pub none_read : (start : LineFilter) (bytes : List ℕ) → ReadsUpTo start star
 none_read start bytes = record {
   taken = [];
   cut = refl;
-  log = λ how set written least before h.
-      subst (λ z. IsLogUpTo how set written least z start) (sym (append-nil before)) h;
+  log = λ how set written known before h.
+      subst (λ z. IsLogUpTo how set written known z start) (sym (append-nil before)) h;
 }
 
 pub more_read : (start now next : LineFilter) (bytes rest after : List ℕ) → ReadsUpTo start now bytes rest
@@ -150,18 +152,18 @@ pub more_read : (start now next : LineFilter) (bytes rest after : List ℕ) → 
 more_read start now next bytes rest after h k = record {
   taken = h.taken ++ k.taken;
   cut = h.cut ∙ ap (λ z. h.taken ++ z) k.cut ∙ sym (append_assoc h.taken k.taken after);
-  log = λ how set written least before begun.
-      subst (λ z. IsLogUpTo how set written least z next) (append_assoc before h.taken k.taken)
-      (k.log how set written least (before ++ h.taken) (h.log how set written least before begun));
+  log = λ how set written known before begun.
+      subst (λ z. IsLogUpTo how set written known z next) (append_assoc before h.taken k.taken)
+      (k.log how set written known (before ++ h.taken) (h.log how set written known before begun));
 }
 
 -- all of them
 pub all_read : (start now : LineFilter) (bytes rest : List ℕ) → length rest ≡ 0 → ReadsUpTo start now bytes rest
-    → (how : LinesRequest) → (set : IpSet) → (written : List ℕ) → (least : ℕ) → (before : List ℕ)
-    → IsLogUpTo how set written least before start → IsLogUpTo how set written least (before ++ bytes) now
-all_read start now bytes [] none h = λ how set written least before begun.
-    subst (λ z. IsLogUpTo how set written least (before ++ z) now) (sym (h.cut ∙ append-nil h.taken))
-    (h.log how set written least before begun)
+    → (how : LinesRequest) → (set : IpSet) → (written : List ℕ) → (known : List WordRefusal) → (before : List ℕ)
+    → IsLogUpTo how set written known before start → IsLogUpTo how set written known (before ++ bytes) now
+all_read start now bytes [] none h = λ how set written known before begun.
+    subst (λ z. IsLogUpTo how set written known (before ++ z) now) (sym (h.cut ∙ append-nil h.taken))
+    (h.log how set written known before begun)
 all_read start now bytes (b ∷ rest) none h = absurd (omega arith)
 
 -- bytes without the end of a line
@@ -170,9 +172,9 @@ pub piece_goes : (old new : LineFilter) (bytes rest : List ℕ) → Nowhere (Pas
 piece_goes old new bytes rest none goes empty = record {
   taken = bytes;
   cut = sym (append-nil bytes) ∙ ap (λ z. bytes ++ z) (sym empty);
-  log = λ how set written least before h.
-      log_grows how set written least before old h bytes new (no_end bytes none)
-      (goes how set written least (lines_of h.closed) h.cur h.up_to);
+  log = λ how set written known before h.
+      log_grows how set written known before old h bytes new (no_end bytes none)
+      (goes how set written known (lines_of h.closed) h.cur h.up_to);
 }
 
 -- the bytes up to the end of a line
@@ -183,8 +185,8 @@ pub piece_ends : (old new : LineFilter) (bytes : List ℕ) (i : ℕ)
 piece_ends old new bytes i before found ends = record {
   taken = take i bytes ++ 10 ∷ [];
   cut = to_end bytes i before.high found;
-  log = λ how set written least earlier h.
-      line_closes how set written least earlier old h (take i bytes) new
+  log = λ how set written known earlier h.
+      line_closes how set written known earlier old h (take i bytes) new
       (before_end bytes i (omega (arith, before.high)) before)
-      (ends how set written least (lines_of h.closed) h.cur h.up_to);
+      (ends how set written known (lines_of h.closed) h.cur h.up_to);
 }

@@ -17,6 +17,7 @@ use Rattle.netset_words.specs.declared.log_line.Treatment.TheVariants as Treatme
 use Rattle.netset_words.specs.declared.log_line.Verdict.{Verdict}
 use Rattle.netset_words.specs.declared.log_line.Verdict.TheVariants as Verdicts
 use Rattle.netset_words.specs.declared.refused_word.WordCause.TheVariants as Causes
+use Rattle.netset_words.specs.Extracts.{WordRefusal}
 use Rattle.ipnet_lists.specs.RefusedLines.{HasMore, AreRefused}
 use Rattle.netset_words.specs.LogLines.{LogResult, no_result, joined, IsShortLine, IsLogLine, AreLogLines}
 use Rattle.netset_words.specs.LogLines.{IsLineVerdict, treated, treated_front, is_printed, report_of, result_of}
@@ -139,12 +140,12 @@ pub record IsSameFilter (old new : LineFilter) : Type 0 where
   pub set : new.set ≡ old.set
   pub line : new.line ≡ old.line
 
-module _ (how : LinesRequest) (chosen : IpSet) (written : List ℕ) (least : ℕ) (lines : List (List ℕ))
-    (cur piece : List ℕ) (old new : LineFilter) (h : IsFilterUpTo how chosen written least lines cur old) where
+module _ (how : LinesRequest) (chosen : IpSet) (written : List ℕ) (known : List WordRefusal) (lines : List (List ℕ))
+    (cur piece : List ℕ) (old new : LineFilter) (h : IsFilterUpTo how chosen written known lines cur old) where
   -- a line that is kept goes on
   pub kept_grows : IsSameFilter old new → new.answers ≡ old.answers → new.undecided ≡ old.undecided
       → old.rest ≡ Rests.Kept → new.rest ≡ old.rest → new.front.items ≡ old.front.items ++ piece
-      → length old.front.items + length piece ≤ 1048576 → IsFilterUpTo how chosen written least lines (cur ++ piece) new
+      → length old.front.items + length piece ≤ 1048576 → IsFilterUpTo how chosen written known lines (cur ++ piece) new
   kept_grows same answers undecided kept rest front short = record {
     same_request = same.request ∙ h.same_request;
     same_set = same.set ∙ h.same_set;
@@ -165,14 +166,14 @@ module _ (how : LinesRequest) (chosen : IpSet) (written : List ℕ) (least : ℕ
     printed = rw answers h.printed;
     nones = rw answers h.nones;
     undecided = rw undecided h.undecided;
-    least_count = rw undecided h.least_count;
+    since = h.since;
   }
 
   -- a line that was decided goes on
   pub long_grows : IsSameFilter old new → new.answers.text.items ≡ old.answers.text.items ++ after_front old.rest piece
       → new.answers.printed ≡ old.answers.printed → new.answers.nones ≡ old.answers.nones
       → new.undecided ≡ old.undecided → (old.rest ≡ Rests.Kept → ⊥) → new.rest ≡ old.rest
-      → new.front.items ≡ old.front.items → IsFilterUpTo how chosen written least lines (cur ++ piece) new
+      → new.front.items ≡ old.front.items → IsFilterUpTo how chosen written known lines (cur ++ piece) new
   long_grows same text printed nones undecided other rest front =
       elim h.current [
         | inl k ↦ absurd (other k.rest_is)
@@ -181,6 +182,10 @@ module _ (how : LinesRequest) (chosen : IpSet) (written : List ℕ) (least : ℕ
             let t = treated_front how.any how.others d.verdict in
             let was = result_of number 0 cur cur t in
             let now = result_of number 0 (cur ++ piece) (cur ++ piece) t in
+            let same_ones : h.result.undecided ++ h.partial.undecided ≡ h.result.undecided ++ now.undecided =
+            ap (λ us. h.result.undecided ++ us)
+            (ap (λ p. p.undecided) d.is
+            ∙ sym (same_report number (cur ++ piece) cur t (take-append-le 101 cur piece (omega (arith, d.long))))) in
             record {
               same_request = same.request ∙ h.same_request;
               same_set = same.set ∙ h.same_set;
@@ -204,13 +209,8 @@ module _ (how : LinesRequest) (chosen : IpSet) (written : List ℕ) (least : ℕ
                   ∙ ap (λ z. h.result.text ++ z) (sym (more_text number cur piece (cur ++ piece) t old.rest d.rest_is));
               printed = printed ∙ h.printed ∙ ap (λ p. h.result.printed || p.printed) d.is;
               nones = nones ∙ h.nones;
-              least_count = rw undecided h.least_count;
-              undecided = rw undecided
-                  (subst (λ us. AreRefused old.undecided (h.result.undecided ++ us))
-                  (ap (λ p. p.undecided) d.is
-                  ∙ sym (same_report number (cur ++ piece) cur t
-                  (take-append-le 101 cur piece (omega (arith, d.long)))))
-                  h.undecided);
+              undecided = rw undecided (subst (λ us. AreRefused old.undecided us) same_ones h.undecided);
+              since = (h.since.0, sym same_ones ∙ h.since.1);
             }
       ]
 
@@ -226,7 +226,7 @@ module _ (how : LinesRequest) (chosen : IpSet) (written : List ℕ) (least : ℕ
       → HasMore old.undecided new.undecided
       (report_of (old.line + 1) (old.front.items ++ last) (treated_front how.any how.others verdict))
       → old.rest ≡ Rests.Kept → new.rest ≡ rest_of (treated_front how.any how.others verdict)
-      → new.front.items ≡ [] → IsFilterUpTo how chosen written least lines (cur ++ piece) new
+      → new.front.items ≡ [] → IsFilterUpTo how chosen written known lines (cur ++ piece) new
   front_passed last more verdict same cut full some right text printed nones undecided kept rest front =
       elim h.current [
         | inr d ↦ absurd (not_kept (treated_front how.any how.others d.verdict) (sym d.rest_is ∙ kept))
@@ -244,6 +244,8 @@ module _ (how : LinesRequest) (chosen : IpSet) (written : List ℕ) (least : ℕ
             ∙ take_all 1048576 whole (omega (arith, full)) in
             let partial = result_of number 0 (cur ++ piece) (cur ++ piece) t in
             let none : h.partial ≡ no_result = k.nothing in
+            let only : h.result.undecided ++ h.partial.undecided ≡ h.result.undecided =
+            ap (λ p. h.result.undecided ++ p.undecided) none ∙ append-nil h.result.undecided in
             record {
               same_request = same.request ∙ h.same_request;
               same_set = same.set ∙ h.same_set;
@@ -270,10 +272,13 @@ module _ (how : LinesRequest) (chosen : IpSet) (written : List ℕ) (least : ℕ
                   ∙ ap (λ z. z || is_printed t) (h.printed ∙ ap (λ p. h.result.printed || p.printed) none
                   ∙ sym (or_false h.result.printed));
               nones = nones ∙ h.nones;
-              least_count = omega (arith, h.least_count, undecided.count);
+              since = (
+                h.since.0 ++ report_of number (cur ++ piece) t,
+                ap (λ z. z ++ report_of number (cur ++ piece) t) (sym only ∙ h.since.1)
+                    ∙ append_assoc known h.since.0 (report_of number (cur ++ piece) t),
+              );
               undecided = subst (λ us. AreRefused new.undecided us)
-                  (ap (λ z. z ++ report_of number (cur ++ piece) t)
-                  (ap (λ p. h.result.undecided ++ p.undecided) none ∙ append-nil h.result.undecided))
+                  (ap (λ z. z ++ report_of number (cur ++ piece) t) only)
                   (more_refused old.undecided new.undecided (h.result.undecided ++ h.partial.undecided)
                   (report_of number (cur ++ piece) t) h.undecided
                   (subst (HasMore old.undecided new.undecided)
@@ -288,38 +293,38 @@ module _ (how : LinesRequest) (chosen : IpSet) (written : List ℕ) (least : ℕ
   line_added : (line : List ℕ) (r : LogResult) → new.request ≡ old.request → new.set ≡ old.set
       → new.line ≡ old.line + 1 → h.partial ≡ no_result → IsLogLine how (IsMember chosen) (length lines + 1) line r
       → r.undecided ≡ [] → AddsResult old.answers new.answers r → new.undecided ≡ old.undecided
-      → new.rest ≡ Rests.Kept → new.front.items ≡ [] → IsFilterUpTo how chosen written least (lines ++ line ∷ []) [] new
-  line_added line r request set next none is decided adds undecided rest front = record {
-    same_request = request ∙ h.same_request;
-    same_set = set ∙ h.same_set;
-    line = next ∙ ap (λ n. n + 1) h.line ∙ sym (length-append lines (line ∷ []));
-    result = joined h.result r;
-    are = lines_and how (IsMember chosen) 1 lines line h.result r h.are
-        (subst (λ n. IsLogLine how (IsMember chosen) n line r) (omega arith) is);
-    partial = no_result;
-    current = inl (record { rest_is = rest; kept = front; short = omega arith; nothing = refl });
-    text = ap (λ z. written ++ z) adds.text ∙ sym (append_assoc written old.answers.text.items r.text)
-        ∙ ap (λ z. z ++ r.text) (h.text ∙ ap (λ p. h.result.text ++ p.text) none ∙ append-nil h.result.text)
-        ∙ sym (append-nil (h.result.text ++ r.text));
-    printed = adds.printed
-        ∙ ap (λ z. z || r.printed) (h.printed ∙ ap (λ p. h.result.printed || p.printed) none
-        ∙ sym (or_false h.result.printed))
-        ∙ or_false (h.result.printed || r.printed);
-    nones = adds.nones ∙ ap (λ n. n + r.nones) h.nones;
-    least_count = rw undecided h.least_count;
-    undecided = subst (λ us. AreRefused new.undecided us)
-        (ap (λ p. h.result.undecided ++ p.undecided) none
-        ∙ sym (ap (λ us. (h.result.undecided ++ us) ++ []) decided
-        ∙ append-nil (h.result.undecided ++ [])))
-        (rw undecided h.undecided);
-  }
+      → new.rest ≡ Rests.Kept → new.front.items ≡ [] → IsFilterUpTo how chosen written known (lines ++ line ∷ []) [] new
+  line_added line r request set next none is decided adds undecided rest front =
+      let same_ones : h.result.undecided ++ h.partial.undecided ≡ (h.result.undecided ++ r.undecided) ++ [] =
+      ap (λ p. h.result.undecided ++ p.undecided) none
+      ∙ sym (ap (λ us. (h.result.undecided ++ us) ++ []) decided ∙ append-nil (h.result.undecided ++ [])) in
+      record {
+        same_request = request ∙ h.same_request;
+        same_set = set ∙ h.same_set;
+        line = next ∙ ap (λ n. n + 1) h.line ∙ sym (length-append lines (line ∷ []));
+        result = joined h.result r;
+        are = lines_and how (IsMember chosen) 1 lines line h.result r h.are
+            (subst (λ n. IsLogLine how (IsMember chosen) n line r) (omega arith) is);
+        partial = no_result;
+        current = inl (record { rest_is = rest; kept = front; short = omega arith; nothing = refl });
+        text = ap (λ z. written ++ z) adds.text ∙ sym (append_assoc written old.answers.text.items r.text)
+            ∙ ap (λ z. z ++ r.text) (h.text ∙ ap (λ p. h.result.text ++ p.text) none ∙ append-nil h.result.text)
+            ∙ sym (append-nil (h.result.text ++ r.text));
+        printed = adds.printed
+            ∙ ap (λ z. z || r.printed) (h.printed ∙ ap (λ p. h.result.printed || p.printed) none
+            ∙ sym (or_false h.result.printed))
+            ∙ or_false (h.result.printed || r.printed);
+        nones = adds.nones ∙ ap (λ n. n + r.nones) h.nones;
+        undecided = subst (λ us. AreRefused new.undecided us) same_ones (rw undecided h.undecided);
+        since = (h.since.0, sym same_ones ∙ h.since.1);
+      }
 
   -- a kept line ends; `piece` is its rest
   pub kept_ends : (r : LogResult) → new.request ≡ old.request → new.set ≡ old.set → new.line ≡ old.line + 1
       → old.rest ≡ Rests.Kept → IsShortLine how (IsMember chosen) (length lines + 1) (old.front.items ++ piece) r
       → r.undecided ≡ [] → AddsResult old.answers new.answers r → new.undecided ≡ old.undecided
       → new.rest ≡ Rests.Kept → new.front.items ≡ []
-      → IsFilterUpTo how chosen written least (lines ++ (cur ++ piece) ∷ []) [] new
+      → IsFilterUpTo how chosen written known (lines ++ (cur ++ piece) ∷ []) [] new
   kept_ends r request set next kept is decided adds undecided rest front =
       elim h.current [
         | inr d ↦ absurd (not_kept (treated_front how.any how.others d.verdict) (sym d.rest_is ∙ kept))
@@ -334,7 +339,7 @@ module _ (how : LinesRequest) (chosen : IpSet) (written : List ℕ) (least : ℕ
       → ((number : ℕ) → ((r : LogResult) × IsShortLine old.request (IsMember old.set) number piece r
       × (r.undecided ≡ []) × AddsResult old.answers new.answers r))
       → new.undecided ≡ old.undecided → new.rest ≡ old.rest → new.front ≡ old.front
-      → IsFilterUpTo how chosen written least (lines ++ (cur ++ piece) ∷ []) [] new
+      → IsFilterUpTo how chosen written known (lines ++ (cur ++ piece) ∷ []) [] new
   whole_ends request set next kept none reads undecided rest front =
       let (r, is, decided, adds) = reads (length lines + 1) in
       kept_ends r request set next kept
@@ -349,7 +354,7 @@ module _ (how : LinesRequest) (chosen : IpSet) (written : List ℕ) (least : ℕ
       → new.answers.text.items ≡ old.answers.text.items ++ after_front old.rest (10 ∷ [])
       → new.answers.printed ≡ old.answers.printed → new.answers.nones ≡ old.answers.nones
       → new.undecided ≡ old.undecided → new.rest ≡ Rests.Kept → new.front.items ≡ old.front.items
-      → IsFilterUpTo how chosen written least (lines ++ cur ∷ []) [] new
+      → IsFilterUpTo how chosen written known (lines ++ cur ∷ []) [] new
   long_ends request set next other text printed nones undecided rest front =
       elim h.current [
         | inl k ↦ absurd (other k.rest_is)
@@ -357,6 +362,9 @@ module _ (how : LinesRequest) (chosen : IpSet) (written : List ℕ) (least : ℕ
             let number = length lines + 1 in
             let t = treated_front how.any how.others d.verdict in
             let r = result_of number 0 cur (cur ++ 10 ∷ []) t in
+            let same_ones : h.result.undecided ++ h.partial.undecided ≡ (h.result.undecided ++ r.undecided) ++ [] =
+            ap (λ p. h.result.undecided ++ p.undecided) d.is
+            ∙ sym (append-nil (h.result.undecided ++ report_of number cur t)) in
             record {
               same_request = request ∙ h.same_request;
               same_set = set ∙ h.same_set;
@@ -376,28 +384,26 @@ module _ (how : LinesRequest) (chosen : IpSet) (written : List ℕ) (least : ℕ
               printed = printed ∙ h.printed ∙ ap (λ p. h.result.printed || p.printed) d.is
                   ∙ or_false (h.result.printed || is_printed t);
               nones = nones ∙ h.nones ∙ sym (add-zero h.result.nones);
-              least_count = rw undecided h.least_count;
-              undecided = subst (λ us. AreRefused new.undecided us)
-                  (ap (λ p. h.result.undecided ++ p.undecided) d.is
-                  ∙ sym (append-nil (h.result.undecided ++ report_of number cur t)))
-                  (rw undecided h.undecided);
+              undecided = subst (λ us. AreRefused new.undecided us) same_ones (rw undecided h.undecided);
+              since = (h.since.0, sym same_ones ∙ h.since.1);
             }
       ]
 
 -- a line that is kept ends
-pub kept_line_ends : (how : LinesRequest) (chosen : IpSet) (written : List ℕ) (least : ℕ) (lines : List (List ℕ))
-    (cur : List ℕ) (old new : LineFilter) → IsFilterUpTo how chosen written least lines cur old → (line : List ℕ)
+pub kept_line_ends : (how : LinesRequest) (chosen : IpSet) (written : List ℕ) (known : List WordRefusal)
+    (lines : List (List ℕ)) (cur : List ℕ) (old new : LineFilter)
+    → IsFilterUpTo how chosen written known lines cur old → (line : List ℕ)
     → line ≡ old.front.items → new.request ≡ old.request → new.set ≡ old.set → new.line ≡ old.line + 1
     → old.rest ≡ Rests.Kept
     → ((number : ℕ) → ((r : LogResult) × IsShortLine old.request (IsMember old.set) number line r
     × (r.undecided ≡ []) × AddsResult old.answers new.answers r))
     → new.undecided ≡ old.undecided → new.rest ≡ old.rest → new.front.items ≡ []
-    → IsFilterUpTo how chosen written least (lines ++ cur ∷ []) [] new
-kept_line_ends how chosen written least lines cur old new h line front request set next kept reads undecided rest
+    → IsFilterUpTo how chosen written known (lines ++ cur ∷ []) [] new
+kept_line_ends how chosen written known lines cur old new h line front request set next kept reads undecided rest
     empty =
     let (r, is, decided, adds) = reads (length lines + 1) in
-    subst (λ z. IsFilterUpTo how chosen written least (lines ++ z ∷ []) [] new) (append-nil cur)
-    (kept_ends how chosen written least lines cur [] old new h r request set next kept
+    subst (λ z. IsFilterUpTo how chosen written known (lines ++ z ∷ []) [] new) (append-nil cur)
+    (kept_ends how chosen written known lines cur [] old new h r request set next kept
     (subst (λ z. IsShortLine how (IsMember chosen) (length lines + 1) z r)
     (front ∙ sym (append-nil old.front.items))
     (subst (λ q. IsShortLine q (IsMember chosen) (length lines + 1) line r) h.same_request
@@ -405,9 +411,10 @@ kept_line_ends how chosen written least lines cur old new h line front request s
     decided adds undecided (rest ∙ kept) empty)
 
 -- a line gets longer than 1 MiB, as the code decides on it
-pub front_read : (how : LinesRequest) (chosen : IpSet) (written : List ℕ) (least : ℕ) (lines : List (List ℕ))
-    (cur piece : List ℕ) (old new : LineFilter) → IsFilterUpTo how chosen written least lines cur old
-    → (last more front : List ℕ) (k n number : ℕ) (verdict : Verdict) (t : Treatment) (printed : Bool)
+pub front_read : (how : LinesRequest) (chosen : IpSet) (written : List ℕ) (known : List WordRefusal)
+    (lines : List (List ℕ)) (cur piece : List ℕ) (old new : LineFilter)
+    → IsFilterUpTo how chosen written known lines cur old → (last more front : List ℕ) (k n number : ℕ)
+    (verdict : Verdict) (t : Treatment) (printed : Bool)
     → IsSameFilter old new → last ≡ take k piece → more ≡ drop k piece → k + length old.front.items ≡ 1048576
     → 1048576 < length old.front.items + length piece → front ≡ old.front.items ++ last
     → n ≡ length front - suffix_len (λ b. not (cuts b)) front
@@ -417,8 +424,8 @@ pub front_read : (how : LinesRequest) (chosen : IpSet) (written : List ℕ) (lea
     → printed ≡ is_printed t → new.answers.printed ≡ (old.answers.printed || printed)
     → new.answers.nones ≡ old.answers.nones → number ≡ old.line + 1
     → HasMore old.undecided new.undecided (report_of number front t) → old.rest ≡ Rests.Kept
-    → new.rest ≡ rest_of t → new.front.items ≡ [] → IsFilterUpTo how chosen written least lines (cur ++ piece) new
-front_read how chosen written least lines cur piece old new h last more front k n number verdict t printed same last_is
+    → new.rest ≡ rest_of t → new.front.items ≡ [] → IsFilterUpTo how chosen written known lines (cur ++ piece) new
+front_read how chosen written known lines cur piece old new h last more front k n number verdict t printed same last_is
     more_is room long front_is n_is right is text shown any nones number_is reports kept rest empty =
     let whole = old.front.items ++ last in
     let treatment = treated_front how.any how.others verdict in
@@ -426,7 +433,7 @@ front_read how chosen written least lines cur piece old new h last more front k 
     let within : k ≤ length piece = omega (arith, room, long) in
     let last_len : length last ≡ k = ap length last_is ∙ length-take-le k piece within in
     let more_len : length more ≡ length piece - k = ap length more_is ∙ length-drop k piece in
-    front_passed how chosen written least lines cur piece old new h last more verdict same
+    front_passed how chosen written known lines cur piece old new h last more verdict same
     (sym (take-append-drop k piece) ∙ ap (λ z. z ++ drop k piece) (sym last_is) ∙ ap (λ z. last ++ z) (sym more_is))
     (length-append old.front.items last ∙ omega (arith, room, last_len)) (omega (arith, room, long, more_len))
     (subst (λ z. IsLineVerdict how (IsMember chosen)

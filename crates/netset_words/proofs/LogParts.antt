@@ -17,6 +17,7 @@ use Rattle.ipnet_text.specs.Window.{held}
 use Rattle.ipnet_lists.specs.Lists.{after_mark}
 use Rattle.netset_words.specs.declared.line_filter.LineFilter.{LineFilter}
 use Rattle.netset_words.specs.declared.lines_request.LinesRequest.{LinesRequest}
+use Rattle.netset_words.specs.Extracts.{WordRefusal}
 use Rattle.netset_words.specs.FilterSteps.{IsFilterUpTo, IsLogUpTo, IsTaken}
 use Rattle.netset_words.specs.LogLines.{IsLogLine, joined, no_result, result_of, treated_front}
 use Rattle.netset_words.specs.Logs.{IsFrontPrinted}
@@ -95,7 +96,7 @@ starts_within written text front more begins =
     ∙ ap (λ z. z ++ more) (sym (append_assoc written front rest)) ∙ append_assoc (written ++ front) rest more)
 
 module _ (how : LinesRequest) (set : IpSet) (written front : List ℕ) (lines : List (List ℕ)) (cur : List ℕ)
-    (f : LineFilter) (left to to_now : Option (List ℕ)) (h : IsFilterUpTo how set written 0 lines cur f)
+    (f : LineFilter) (left to to_now : Option (List ℕ)) (h : IsFilterUpTo how set written [] lines cur f)
     (read : IsReadTo left lines cur) (begins : StartsWith f.answers.text.items front)
     (out : Appends to to_now (written ++ front)) where
   -- of lines that ended
@@ -190,7 +191,7 @@ input_is more all rest front pending h =
 -- bytes were read
 log_read : (more : Bool) (how : LinesRequest) (set : IpSet) (written bytes pending : List ℕ) (f : LineFilter)
     (left left_now : Option (List ℕ)) → IsInputUpTo more left left_now bytes pending
-    → (h : IsLogUpTo how set written 0 bytes f) → IsReadTo left (lines_of h.closed) h.cur
+    → (h : IsLogUpTo how set written [] bytes f) → IsReadTo left (lines_of h.closed) h.cur
 log_read more how set written bytes pending f None left_now input h = record { no_end = h.no_end; front = tt }
 log_read more how set written bytes pending f (Some all) None input h = absurd input.read
 log_read more how set written bytes pending f (Some all) (Some rest) input h = record {
@@ -219,7 +220,7 @@ all_read bytes (Some all) (Some rest) input = record {
 -- before bytes in the window are taken
 pub reading_part : (more : Bool) (left left_now to to_now : Option (List ℕ)) (start now : LineFilter) (window : Window)
     → IsLogReading more left left_now to to_now start now window → (how : LinesRequest) → (set : IpSet)
-    → IsLogUpTo how set [] 0 [] start → IsFrontPrinted how (IsMember set) left to to_now
+    → IsLogUpTo how set [] [] [] start → IsFrontPrinted how (IsMember set) left to to_now
 reading_part more left left_now to to_now start now window h how set begun =
     let log = h.log how set begun in
     part_of how set h.written [] (lines_of log.closed) log.cur now left to to_now log.up_to
@@ -230,12 +231,12 @@ reading_part more left left_now to to_now start now window h how set begun =
 pub taken_part : (more : Bool) (left left_now to to_now to_next : Option (List ℕ)) (start now taken : LineFilter)
     (window : Window) (shown front : List ℕ) → shown ≡ held window
     → IsLogReading more left left_now to to_now start now window
-    → ((how : LinesRequest) → (set : IpSet) → (written : List ℕ) → (least : ℕ) → (before : List ℕ)
-    → IsLogUpTo how set written least before now → IsTaken more how set written least (before ++ shown) taken)
+    → ((how : LinesRequest) → (set : IpSet) → (written : List ℕ) → (known : List WordRefusal) → (before : List ℕ)
+    → IsLogUpTo how set written known before now → IsTaken more how set written known (before ++ shown) taken)
     → StartsWith taken.answers.text.items front → Appends to_now to_next front → (how : LinesRequest)
-    → (set : IpSet) → IsLogUpTo how set [] 0 [] start → IsFrontPrinted how (IsMember set) left to to_next
+    → (set : IpSet) → IsLogUpTo how set [] [] [] start → IsFrontPrinted how (IsMember set) left to to_next
 taken_part true left left_now to to_now to_next start now taken window shown front is h takes begins put how set begun =
-    let log = takes how set h.written 0 h.bytes (h.log how set begun) in
+    let log = takes how set h.written [] h.bytes (h.log how set begun) in
     part_of how set h.written front (lines_of log.closed) log.cur taken left to to_next log.up_to
     (log_read true how set h.written (h.bytes ++ shown) [] taken left left_now
     (input_moves true left left_now h.bytes (held window) shown [] (sym is ∙ sym (append-nil shown)) h.input) log)
@@ -243,7 +244,7 @@ taken_part true left left_now to to_now to_next start now taken window shown fro
 taken_part false left left_now to to_now to_next start now taken window shown front is h takes begins put how set
     begun =
     part_of how set h.written front (lines_of (h.bytes ++ shown)) [] taken left to to_next
-    (takes how set h.written 0 h.bytes (h.log how set begun))
+    (takes how set h.written [] h.bytes (h.log how set begun))
     (all_read (h.bytes ++ shown) left left_now
     (input_moves false left left_now h.bytes (held window) shown [] (sym is ∙ sym (append-nil shown)) h.input)) begins
     (Appends-trans to to_now to_next h.written front h.out put)

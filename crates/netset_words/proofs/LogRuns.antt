@@ -9,15 +9,20 @@ use Rattle.ipnet_sets.specs.declared.set.IpSet.{IpSet}
 use Rattle.netset_lib.specs.Filters.{IsOnSide}
 use Rattle.netset_lib.specs.Reports.{IsReportedAs}
 use Rattle.netset_lib.proofs.RunLaws.{kept_report}
+use Rattle.netset_lib.specs.StepReports.{AreTold}
 use Rattle.ipnet_lists.specs.Lists.{after_mark}
+use Rattle.ipnet_lists.specs.Names.{Names}
+use Rattle.ipnet_lists.specs.RefusedLines.{AreRefused}
 use Rattle.netset_words.specs.declared.line_filter.LineFilter.{LineFilter}
 use Rattle.netset_words.specs.declared.lines_program.FilteredLog.{FilteredLog}
 use Rattle.netset_words.specs.declared.lines_request.LinesRequest.{LinesRequest}
 use Rattle.netset_words.specs.Extracts.{WordRefusal}
 use Rattle.netset_words.specs.FilterSteps.{IsStreamed}
 use Rattle.netset_words.specs.LogLines.{LogResult}
+use Rattle.netset_words.specs.LogReports.{AreLinesReported, log_name, nones_line}
 use Rattle.netset_words.specs.Logs.{IsLogFiltered, IsLogFilteredButSome, IsLogFilteredInPart, IsFrontPrinted}
 use Rattle.netset_words.specs.Logs.{IsFilterFor, HasCounts}
+use Rattle.netset_words.specs.WordReports.{ExplainsWord}
 use Rattle.netset_words.proofs.LogBytes.{whole_result}
 use Rattle.netset_words.proofs.LogSets.{same_lines}
 
@@ -35,7 +40,7 @@ module _ (how : LinesRequest) (set : IpSet) (left left_after held held_after : O
       → IsResultFor how set left left_after held held_after log
   log_filtered filter f log h s printed nones undecided =
       let lines = lines_of (after_mark s.bytes) in
-      let w = whole_result how filter.set s.written 0 lines f s.all in (
+      let w = whole_result how filter.set s.written [] lines f s.all in (
         w.result,
         record {
           printed = printed ∙ w.printed;
@@ -99,3 +104,28 @@ module _ (how : LinesRequest) (set : IpSet) (left left_after held held_after : O
     some = λ none. let few = decided.1 (counts.undecided.count ∙ ap length none) in absurd (omega (arith, few, two));
     filtered = is;
   }
+
+  -- what was reported then
+  pub some_reported : (log : FilteredLog) (status : ℕ) → status ≡ 2 → (status ≤ 1) ↔ (log.undecided.count ≡ 0)
+      → (names : Names) (faults then after : Option (List ℕ)) (IsSure : Type 0)
+      → ((lines : List WordRefusal) → AreRefused log.undecided lines → IsSure
+      → AreTold ExplainsWord names lines faults then)
+      → (log.nones ≡ 0 → Keeps then after)
+      → (log.nones ≢ 0 → IsReportedAs (nones_line (log_name names) log.nones) then after IsSure)
+      → IsResultFor how set left left_after held held_after log
+      → (some : IsLogFilteredButSome how set left left_after held held_after)
+      × AreLinesReported names some.result faults after IsSure
+  some_reported log status two decided names faults then after IsSure told quiet reported (r, counts, is) = (
+    record {
+      result = r;
+      some = λ none. let few = decided.1 (counts.undecided.count ∙ ap length none) in absurd (omega (arith, few, two));
+      filtered = is;
+    },
+    record {
+      between = then;
+      undecided = λ sure. told r.undecided counts.undecided sure;
+      no_nones = λ none. quiet (counts.nones ∙ none);
+      nones = λ some. subst (λ n. IsReportedAs (nones_line (log_name names) n) then after IsSure) counts.nones
+          (reported (λ none. some (sym counts.nones ∙ none)));
+    },
+  )

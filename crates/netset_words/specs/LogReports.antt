@@ -1,12 +1,16 @@
 -- What `filter --lines` reports of a log.
-use Rattle.std.specs.Prelude.{◌==◌, ℕ, if◌then◌else◌, List, [], ◌∷◌, ◌++◌, codes, decimal}
+use Rattle.std.specs.Prelude.{◌≡◌, ◌≢◌, ◌==◌, ℕ, if◌then◌else◌, List, [], ◌∷◌, ◌++◌, codes, decimal, Option}
 use Rattle.std.specs.Prelude.{option_map, unwrap_or, slice_get}
+use Rattle.std.specs.Io.KnownBytes.{Keeps}
 use Rattle.std.specs.List.{concat}
 use Rattle.ipnet_lists.specs.Names.{Names}
 use Rattle.ipnet_lists.specs.Reports.{escaped, read_words}
-use Rattle.netset_lib.specs.Reports.{named_line, unwritable, words_line}
+use Rattle.netset_lib.specs.Reports.{IsReportedAs, named_line, unwritable, words_line}
+use Rattle.netset_lib.specs.StepReports.{AreTold}
 use Rattle.netset_words.specs.declared.lines_program.LogFailure.{LogFailure}
 use Rattle.netset_words.specs.declared.lines_program.LogFailure.TheVariants.{Read, Unwritable}
+use Rattle.netset_words.specs.LogLines.{LogResult}
+use Rattle.netset_words.specs.WordReports.{ExplainsWord}
 
 -- The name of the log: the second of the names. Example: `b` of the names `a` and `b`.
 abbrev pub log_name : Names → List ℕ
@@ -27,3 +31,13 @@ nones_line name n = concat (codes "netset: " ∷ escaped name ∷ codes ": " ∷
 abbrev pub log_line : LogFailure → Names → List ℕ
 log_line (Read failure) names = named_line (log_name names) (read_words failure)
 log_line Unwritable names = words_line unwritable
+
+-- The lines of a log that are not decided were reported, in steps, and then the number of lines without an entry, if
+-- there are some. All of it was written, if `IsSure`.
+-- Example: `log:3: undecided after 1 MiB: GET /`, and `netset: log: 2 lines without an entry`.
+pub record AreLinesReported (names : Names) (result : LogResult) (held held_after : Option (List ℕ)) (IsSure : Type 0)
+    : Type 0 where
+  pub between : Option (List ℕ)
+  pub undecided : IsSure → AreTold ExplainsWord names result.undecided held between
+  pub no_nones : result.nones ≡ 0 → Keeps between held_after
+  pub nones : result.nones ≢ 0 → IsReportedAs (nones_line (log_name names) result.nones) between held_after IsSure

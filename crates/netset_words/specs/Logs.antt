@@ -52,7 +52,7 @@ pub record IsFrontPrinted (how : LinesRequest) (InSet : Address → Type 0) (lef
 -- The filter has read no line of a log. Its set is this one, on the side that is asked for.
 pub record IsFilterFor (how : LinesRequest) (set : IpSet) (f : LineFilter) : Type 0 where
   pub same : (x : Address) → IsAddress x → IsMember f.set x ↔ IsOnSide how.side (IsMember set) x
-  pub begun : IsLogUpTo how f.set [] 0 [] f
+  pub begun : IsLogUpTo how f.set [] [] [] f
   pub none : AreRefused f.undecided []
 
 -- A first part of what is printed of a log by this set was written.

@@ -9,6 +9,7 @@ ghost use Rattle.ipnet.specs.Lines.{lines_of};
 ghost use Rattle.netset_words.specs.declared.lines_request.LinesRequest.{LinesRequest};
 ghost use Rattle.netset_words.specs.declared.line_filter.Rest.TheVariants.{Kept};
 ghost use Rattle.ipnet_lists.specs.RefusedLines.{HasMore};
+ghost use Rattle.netset_words.specs.Extracts.{WordRefusal};
 ghost use Rattle.netset_words.specs.LogLines.{LogResult, IsShortLine, has_none, is_printed, report_of};
 ghost use Rattle.netset_words.specs.LogSteps.{AddsResult, rest_of, after_front};
 ghost use Rattle.netset_words.specs.Words.{cuts};
@@ -238,7 +239,7 @@ impl<'a> LineFilter<'a> {
 
     /// A filter by this set that has read no line.
     fn new(alloc: Global, request: LinesRequest<'a>, set: IpSet) -> LineFilter<'a>
-        ensures begun { IsLogUpTo request.entry set [] 0 [] result }
+        ensures begun { IsLogUpTo request.entry set [] [] [] result }
         ensures set { result.set ≡ set }
         ensures undecided { AreRefused result.undecided [] }
     {
@@ -401,9 +402,9 @@ impl<'a> LineFilter<'a> {
 
     /// Reads more bytes of the log. Fails if memory runs out, or if there are more lines than a `usize` counts.
     pub(crate) fn read(&mut self, bytes: &[u8]) -> Result<(), AllocError>
-        ensures { OnOk result ((how : LinesRequest) → (set : IpSet) → (written : List ℕ) → (least : ℕ)
-            → (before : List ℕ) → IsLogUpTo how set written least before self.old
-            → IsLogUpTo how set written least (before ++ bytes.now) self.new) }
+        ensures { OnOk result ((how : LinesRequest) → (set : IpSet) → (written : List ℕ) → (known : List WordRefusal)
+            → (before : List ℕ) → IsLogUpTo how set written known before self.old
+            → IsLogUpTo how set written known (before ++ bytes.now) self.new) }
     {
         let mut rest = bytes;
         'pieces: while !rest.is_empty() {

@@ -9,12 +9,16 @@ ghost use Rattle.ipnet_text.specs.Inputs.{GaveWhole};
 ghost use Rattle.ipnet_text.specs.Outputs.{IsWritten, IsFrontWritten};
 ghost use Rattle.ipnet_text.specs.Watched.{writer_of, HasFailed};
 ghost use Rattle.ipnet_lists.specs.Lists.{after_mark};
+ghost use Rattle.ipnet_lists.specs.RefusedLines.{AreRefused};
+ghost use Rattle.ipnet_lists.specs.declared.reading.ReadFailure.TheVariants.{Unreadable, Memory};
 ghost use Rattle.netset_lib.specs.Reports.{IsReportedAs};
 ghost use Rattle.netset_lib.specs.Runs.{IsReportedLast};
 ghost use Rattle.netset_lib.specs.StepReports.{AreTold, AreToldSince};
+ghost use Rattle.netset_words.specs.declared.lines_program.LogFailure.TheVariants as LogFailures;
 ghost use Rattle.netset_words.specs.declared.lines_request.LinesRequest.{LinesRequest};
+ghost use Rattle.netset_words.specs.Extracts.{WordRefusal};
 ghost use Rattle.netset_words.specs.LogLines.{LogResult};
-ghost use Rattle.netset_words.specs.LogReports.{lines_word, log_line, log_name, nones_line};
+ghost use Rattle.netset_words.specs.LogReports.{AreLinesReported, lines_word, log_line, log_name, nones_line};
 ghost use Rattle.netset_words.specs.Logs.{IsLogFiltered, IsLogFilteredButSome, IsLogFilteredInPart, IsFrontPrinted};
 ghost use Rattle.netset_words.specs.Logs.{IsFilterFor, HasCounts};
 ghost use Rattle.netset_words.specs.FilterSteps.{IsLogUpTo, IsTaken, IsStreamed};
@@ -52,12 +56,16 @@ pub enum LogFailure {
 }
 
 impl From<ReadError> for LogFailure {
+    ghost from_gives = { λ _ result. result ≡ LogFailures.Read Unreadable };
+
     fn from(_: ReadError) -> LogFailure {
         LogFailure::Read(ReadFailure::Unreadable)
     }
 }
 
 impl From<AllocError> for LogFailure {
+    ghost from_gives = { λ _ result. result ≡ LogFailures.Read Memory };
+
     fn from(_: AllocError) -> LogFailure {
         LogFailure::Read(ReadFailure::Memory)
     }
@@ -79,9 +87,9 @@ fn put<W: Write>(text: &mut Vec<u8>, out: &mut W) -> Result<(), LogFailure>
 
 /// Reads bytes of a log, and its end if no more may come.
 fn take_bytes(filter: &mut LineFilter<'_>, bytes: &[u8], more: bool) -> Result<(), AllocError>
-    ensures { OnOk result ((how : LinesRequest) → (set : IpSet) → (written : List ℕ) → (least : ℕ)
-        → (before : List ℕ) → IsLogUpTo how set written least before filter.old
-        → IsTaken more how set written least (before ++ bytes.now) filter.new) }
+    ensures { OnOk result ((how : LinesRequest) → (set : IpSet) → (written : List ℕ) → (known : List WordRefusal)
+        → (before : List ℕ) → IsLogUpTo how set written known before filter.old
+        → IsTaken more how set written known (before ++ bytes.now) filter.new) }
 {
     filter.read(bytes)?;
     if more {
@@ -99,16 +107,17 @@ fn read_log<'a, R: Read, W: Write, X: Write>(
     faults: &mut Watched<'_, X>,
 ) -> Result<LineFilter<'a>, LogFailure>
     ensures whole { IfOk result (λ f. (how : LinesRequest) → (set : IpSet)
-        → IsLogUpTo how set [] 0 [] filter.entry → IsStreamed how set (R.remaining input.old) (R.remaining input.new)
+        → IsLogUpTo how set [] [] [] filter.entry → IsStreamed how set (R.remaining input.old) (R.remaining input.new)
         (W.contents out.old) (W.contents out.new) f) }
     ensures part { IfErr result (λ _. (how : LinesRequest) → (set : IpSet)
-        → IsLogUpTo how set [] 0 [] filter.entry → IsFrontPrinted how (IsMember set) (R.remaining input.old)
+        → IsLogUpTo how set [] [] [] filter.entry → IsFrontPrinted how (IsMember set) (R.remaining input.old)
         (W.contents out.old) (W.contents out.new)) }
     ensures appended { (text : List ℕ)
         × Appends (X.contents (writer_of faults.old)) (X.contents (writer_of faults.new)) text }
-    ensures told { IfOk result (λ f. ¬ (HasFailed faults.new) → AreToldSince ExplainsWord names.now
-        filter.entry.undecided f.undecided (X.contents (writer_of faults.old)) (X.contents (writer_of faults.new))) }
-    ensures quiet { IfOk result (λ f. (how : LinesRequest) → (set : IpSet) → IsLogUpTo how set [] 0 [] filter.entry
+    ensures told { IfOk result (λ f. (how : LinesRequest) → (set : IpSet) → IsLogUpTo how set [] [] [] filter.entry
+        → ¬ (HasFailed faults.new) → AreToldSince ExplainsWord names.now filter.entry.undecided f.undecided
+        (X.contents (writer_of faults.old)) (X.contents (writer_of faults.new))) }
+    ensures quiet { IfOk result (λ f. (how : LinesRequest) → (set : IpSet) → IsLogUpTo how set [] [] [] filter.entry
         → f.undecided.count ≡ 0 → Keeps (X.contents (writer_of faults.old)) (X.contents (writer_of faults.new))) }
 {
     let mut filter = filter;
@@ -154,9 +163,9 @@ pub fn filter_log<R: Read, W: Write, X: Write>(
         (W.contents out.old) (W.contents out.new)) }
     ensures appended { (text : List ℕ)
         × Appends (X.contents (writer_of faults.old)) (X.contents (writer_of faults.new)) text }
-    ensures told { IfOk result (λ log. (how : LinesRequest) → (set : IpSet)
-        → IsFilterFor how set filter.entry → ¬ (HasFailed faults.new)
-        → AreTold ExplainsWord names.now log.undecided.count
+    ensures told { IfOk result (λ log. (how : LinesRequest) → (set : IpSet) → IsFilterFor how set filter.entry
+        → (lines : List WordRefusal) → AreRefused log.undecided lines → ¬ (HasFailed faults.new)
+        → AreTold ExplainsWord names.now lines
         (X.contents (writer_of faults.old)) (X.contents (writer_of faults.new))) }
     ensures quiet { IfOk result (λ log. (how : LinesRequest) → (set : IpSet)
         → IsFilterFor how set filter.entry → log.undecided.count ≡ 0
@@ -221,8 +230,8 @@ fn report_nones<X: Write>(faults: &mut Watched<'_, X>, name: &str, nones: usize)
     )
 }
 
-/// Reports the number of lines of the log of this name that have no entry. Nothing is written if there is none. The
-/// report is whole, unless a write to `faults` has failed.
+/// Reports the number of lines of the log of this name that have no entry. Nothing is written if there is none, or if a
+/// write to `faults` has failed before. The report is whole, unless a write has failed.
 ///
 /// ```text
 /// of log, with 2: "netset: log: 2 lines without an entry\n"
@@ -231,8 +240,12 @@ pub fn end_nones<X: Write>(faults: &mut Watched<'_, X>, name: &str, nones: usize
     ensures none { nones ≡ 0 → Keeps (X.contents (writer_of faults.old)) (X.contents (writer_of faults.new)) }
     ensures reported { nones ≢ 0 → IsReportedAs (nones_line name.now nones)
         (X.contents (writer_of faults.old)) (X.contents (writer_of faults.new)) (¬ (HasFailed faults.new)) }
+    ensures kept { HasFailed faults.old → HasFailed faults.new }
 {
     if nones == 0 {
+        return;
+    }
+    if faults.has_failed() {
         return;
     }
     let _ = report_nones(faults, name, nones);
@@ -300,8 +313,10 @@ pub fn run_lines<R: Read, W: Write, X: Write>(
         ⊎ IsLogFilteredInPart how set (R.remaining input.old) (W.contents out.old) (W.contents out.new) }
     ensures reported { result ≡ 2 → (how : LinesRequest) → (set : IpSet)
         → IsFilterFor how set filter.entry
-        → IsLogFilteredButSome how set (R.remaining input.old) (R.remaining input.new)
-        (W.contents out.old) (W.contents out.new)
+        → ((log : IsLogFilteredButSome how set (R.remaining input.old) (R.remaining input.new)
+        (W.contents out.old) (W.contents out.new))
+        × AreLinesReported names.now log.result
+        (X.contents (writer_of faults.old)) (X.contents (writer_of faults.new)) (¬ (HasFailed faults.new)))
         ⊎ IsReportedLast (λ failure. IsWritten (λ t. t ≡ log_line failure names.now))
         (λ failure. IsFrontWritten (λ t. t ≡ log_line failure names.now))
         (X.contents (writer_of faults.old)) (X.contents (writer_of faults.new)) (¬ (HasFailed faults.new)) }

@@ -51,14 +51,15 @@ loop-preserved g c =
           let first = c.args.stream.lists.reading.lines.refused in
           let shown = c.loop.reading.lines.refused.shown in
           let size : vec_len shown ≡ length shown.items = search rules in
+          let taken = c.in_ok-take_lines.ensures.lines.2 in
           subst (λ r. AreToldSince ExplainsEntry c.args.names.now first r
           (g.X.Write.contents (writer_of c.args.faults.now)) (g.X.Write.contents (writer_of c.report_new.new.faults)))
           (ap (λ l. l.refused) (sym on.same_lines))
           (told_more ExplainsEntry c.args.names.now first c.loop.reading.lines.refused
-          c.take_lines.new.self.lines.refused c.len.result (g.X.Write.contents (writer_of c.args.faults.now))
-          (g.X.Write.contents (writer_of c.loop.faults)) (g.X.Write.contents (writer_of c.report_new.new.faults))
-          (c.len.ensures ∙ size) (inv.told (λ failed. sound (c.report_new.ensures.kept failed)))
-          (c.report_new.ensures.whole sound));
+          c.take_lines.new.self.lines.refused c.len.result taken.refusals
+          (g.X.Write.contents (writer_of c.args.faults.now)) (g.X.Write.contents (writer_of c.loop.faults))
+          (g.X.Write.contents (writer_of c.report_new.new.faults)) (c.len.ensures ∙ size) taken.added
+          (inv.told (λ failed. sound (c.report_new.ensures.kept failed))) (c.report_new.ensures.whole sound));
       quiet = λ same. still_quiet c.loop.more c.loop.more (left c.args.input.now) (left c.loop.input) start
           c.loop.reading c.take_lines.new.self before then (AreAnswersBy a c.loop.answers) (AreAnswersBy a answers)
           (g.X.Write.contents (writer_of c.args.faults.now)) (g.X.Write.contents (writer_of c.loop.faults))
@@ -219,11 +220,12 @@ returns-then-not-more-clause-told g c = λ sound.
     let first = c.args.stream.lists.reading.lines.refused in
     let shown = c.loop.reading.lines.refused.shown in
     let size : vec_len shown ≡ length shown.items = search rules in
+    let taken = c.in_ok-take_lines.ensures.lines.2 in
     subst (λ r. AreToldSince ExplainsEntry c.args.names.now first r
     (g.X.Write.contents (writer_of c.args.faults.now)) (g.X.Write.contents (writer_of c.report_new.new.faults)))
     (sym c.end_list.ensures.same_refused)
     (told_more ExplainsEntry c.args.names.now first c.loop.reading.lines.refused
-    c.take_lines.new.self.lines.refused c.len.result (g.X.Write.contents (writer_of c.args.faults.now))
+    c.take_lines.new.self.lines.refused c.len.result taken.refusals (g.X.Write.contents (writer_of c.args.faults.now))
     (g.X.Write.contents (writer_of c.loop.faults)) (g.X.Write.contents (writer_of c.report_new.new.faults))
-    (c.len.ensures ∙ size) (c.loop.invariant.told (λ failed. sound (c.report_new.ensures.kept failed)))
+    (c.len.ensures ∙ size) taken.added (c.loop.invariant.told (λ failed. sound (c.report_new.ensures.kept failed)))
     (c.report_new.ensures.whole sound))

@@ -1,3 +1,4 @@
+use Rattle.ipnet_lists.proofs.RefusalLaws.{some_refused}
 use Rattle.netset_lib.proofs.TextAnswerLaws.{text_answer}
 use Rattle.netset_lib.proofs.text_route.text_route_answers.Goals as goal
 
@@ -10,3 +11,17 @@ returns-clause-answers c =
 
 pub returns-in-Err-clause-failure : goal.returns-in-Err-clause-failure
 returns-in-Err-clause-failure c = c.in-Err.ensures.failure c.args.list.now
+
+pub returns-then-refused-ne0-clause-failure : goal.returns-then-refused-ne0-clause-failure
+returns-then-refused-ne0-clause-failure c =
+    let table = c.in-Ok.ensures.table in
+    let list = c.in_ok-answers.ensures in (
+      (table.lines, table.read),
+      list.refusals,
+      record {
+        entries = list.entries;
+        read = list.read;
+        some = some_refused c.in_ok-answers.field-0.refused list.refusals list.kept c.if-refused-ne0.true;
+      },
+      list.kept,
+    )

@@ -1,6 +1,6 @@
-use Rattle.std.proofs.Common.{[], refl}
+use Rattle.std.proofs.Common.{refl}
 use Rattle.ipnet_text.specs.Watched.{writer_of}
-use Rattle.netset_lib.proofs.StepLaws.{none_kept, told_all}
+use Rattle.netset_lib.proofs.StepLaws.{told_all}
 use Rattle.netset_lib.proofs.StreamParts.{on_err}
 use Rattle.netset_words.specs.WordReports.{ExplainsWord}
 use Rattle.netset_words.proofs.LogRuns.{log_filtered, log_in_part}
@@ -31,7 +31,7 @@ pub returns-in_err-answers-clause-appended : goal.returns-in_err-answers-clause-
 returns-in_err-answers-clause-appended g c = c.read_log.ensures.appended
 
 pub returns-clause-told : goal.returns-clause-told
-returns-clause-told g c = λ how set h sound.
-    told_all ExplainsWord c.args.names.now c.args.filter.undecided _
-    (g.X.Write.contents (writer_of c.args.faults.now)) (g.X.Write.contents (writer_of c.read_log.new.faults))
-    (none_kept c.args.filter.undecided [] h.none refl) h.none.count (c.in_ok-answers.ensures.told sound)
+returns-clause-told g c = λ how set h lines kept sound.
+    told_all ExplainsWord c.args.names.now c.args.filter.undecided _ lines
+    (g.X.Write.contents (writer_of c.args.faults.now)) (g.X.Write.contents (writer_of c.read_log.new.faults)) h.none
+    kept (c.in_ok-answers.ensures.told how c.args.filter.set h.begun sound)

@@ -11,6 +11,7 @@ use Rattle.netset_words.specs.FilterSteps.{IsTaken}
 use Rattle.netset_words.specs.WordReports.{ExplainsWord}
 use Rattle.netset_words.proofs.LogParts.{nothing_part, reading_part, taken_part, starts_with_all}
 use Rattle.netset_words.proofs.LogReading.{IsLogReading, reading_begins, reading_goes, reading_ends, still_quiet}
+use Rattle.netset_words.proofs.LogReading.{undecided_more}
 use Rattle.netset_words.proofs.lines_program.read_log.Goals as goal
 
 pub loop-init : goal.loop-init
@@ -19,7 +20,7 @@ loop-init g c = record {
       (g.R.Read.remaining c.begin_input.new.input) (g.W.Write.contents c.args.out.now) c.args.filter
       c.begin_input.new.window c.in_ok-more.ensures;
   appended = ([], Appends-nil (g.X.Write.contents (writer_of c.args.faults.now)));
-  told = λ sound. told_none ExplainsWord c.args.names.now c.args.filter.undecided
+  told = λ how set begun sound. told_none ExplainsWord c.args.names.now c.args.filter.undecided
       (g.X.Write.contents (writer_of c.args.faults.now));
   quiet = λ how set begun none. Keeps-refl (g.X.Write.contents (writer_of c.args.faults.now));
 }
@@ -49,22 +50,26 @@ loop-preserved g c =
           c.in_ok-put.ensures.written c.in_ok-more-2.more (left c.fill.new.input) c.take.new.self c.fill.new.self given
           (subst (λ m. IsLogReading m (left c.args.input.now) (left c.loop.input) (to c.args.out.now) (to c.loop.out)
           c.args.filter c.loop.filter c.loop.window) c.if-not-more.false c.loop.invariant.reading)
-          (λ how set written least before h.
-          subst (λ m. IsTaken m how set written least (before ++ c.held-held.result.now) c.take_bytes.new.filter)
+          (λ how set written known before h.
+          subst (λ m. IsTaken m how set written known (before ++ c.held-held.result.now) c.take_bytes.new.filter)
           c.if-not-more.false
-          (c.in_ok-take_bytes.ensures how set written least before h))
+          (c.in_ok-take_bytes.ensures how set written known before h))
           (c.take.ensures ∙ drop_of_length-le (held c.loop.window) (omega (arith, ap length c.held-held.ensures.value)))
           window read c.in_ok-more-2.ensures.end;
       appended = appended_more (g.X.Write.contents (writer_of c.args.faults.now))
           (g.X.Write.contents (writer_of c.loop.faults)) (g.X.Write.contents (writer_of c.report_new.new.faults))
           c.loop.invariant.appended c.report_new.ensures.appended;
-      told = λ sound.
+      told = λ how set begun sound.
           let kept = c.loop.filter.undecided.shown in
           let size : vec_len kept ≡ length kept.items = search rules in
+          let (later, adds) = undecided_more c.loop.more (left c.args.input.now) (left c.loop.input)
+          (to c.args.out.now) (to c.loop.out) c.args.filter c.loop.filter c.take_bytes.new.filter c.loop.window shown
+          c.loop.invariant.reading c.in_ok-take_bytes.ensures how set begun in
           told_more ExplainsWord c.args.names.now c.args.filter.undecided c.loop.filter.undecided
-          c.take_bytes.new.filter.undecided c.len.result (g.X.Write.contents (writer_of c.args.faults.now))
+          c.take_bytes.new.filter.undecided c.len.result later (g.X.Write.contents (writer_of c.args.faults.now))
           (g.X.Write.contents (writer_of c.loop.faults)) (g.X.Write.contents (writer_of c.report_new.new.faults))
-          (c.len.ensures ∙ size) (c.loop.invariant.told (λ failed. sound (c.report_new.ensures.kept failed)))
+          (c.len.ensures ∙ size) adds
+          (c.loop.invariant.told how set begun (λ failed. sound (c.report_new.ensures.kept failed)))
           (c.report_new.ensures.whole sound);
       quiet = still_quiet c.loop.more (left c.args.input.now) (left c.loop.input) (to c.args.out.now) (to c.loop.out)
           (g.X.Write.contents (writer_of c.args.faults.now)) (g.X.Write.contents (writer_of c.loop.faults))
@@ -94,10 +99,10 @@ returns-then-not-more-clause-whole g c =
     c.in_ok-put.ensures.written
     (subst (λ m. IsLogReading m (left c.args.input.now) (left c.loop.input) (to c.args.out.now) (to c.loop.out)
     c.args.filter c.loop.filter c.loop.window) c.if-not-more.true c.loop.invariant.reading)
-    (λ how set written least before h.
-    subst (λ m. IsTaken m how set written least (before ++ c.held-held.result.now) c.take_bytes.new.filter)
+    (λ how set written known before h.
+    subst (λ m. IsTaken m how set written known (before ++ c.held-held.result.now) c.take_bytes.new.filter)
     c.if-not-more.true
-    (c.in_ok-take_bytes.ensures how set written least before h))
+    (c.in_ok-take_bytes.ensures how set written known before h))
 
 pub returns-then-not-more-clause-quiet : goal.returns-then-not-more-clause-quiet
 returns-then-not-more-clause-quiet g c =
@@ -186,11 +191,17 @@ pub returns-clause-appended : goal.returns-clause-appended
 returns-clause-appended g c = c.loop.invariant.appended
 
 pub returns-then-not-more-clause-told : goal.returns-then-not-more-clause-told
-returns-then-not-more-clause-told g c = λ sound.
+returns-then-not-more-clause-told g c = λ how set begun sound.
+    let left = g.R.Read.remaining in
+    let to = g.W.Write.contents in
     let kept = c.loop.filter.undecided.shown in
     let size : vec_len kept ≡ length kept.items = search rules in
+    let (later, adds) = undecided_more c.loop.more (left c.args.input.now) (left c.loop.input) (to c.args.out.now)
+    (to c.loop.out) c.args.filter c.loop.filter c.take_bytes.new.filter c.loop.window c.held-held.result.now
+    c.loop.invariant.reading c.in_ok-take_bytes.ensures how set begun in
     told_more ExplainsWord c.args.names.now c.args.filter.undecided c.loop.filter.undecided
-    c.take_bytes.new.filter.undecided c.len.result (g.X.Write.contents (writer_of c.args.faults.now))
+    c.take_bytes.new.filter.undecided c.len.result later (g.X.Write.contents (writer_of c.args.faults.now))
     (g.X.Write.contents (writer_of c.loop.faults)) (g.X.Write.contents (writer_of c.report_new.new.faults))
-    (c.len.ensures ∙ size) (c.loop.invariant.told (λ failed. sound (c.report_new.ensures.kept failed)))
+    (c.len.ensures ∙ size) adds
+    (c.loop.invariant.told how set begun (λ failed. sound (c.report_new.ensures.kept failed)))
     (c.report_new.ensures.whole sound)

@@ -17,9 +17,10 @@ invariant-loop g l = record {
       (g.W.Write.contents l.fn.out) (g.W.Write.contents l.out) l.fn.filter l.filter l.window;
   appended : (text : List ℕ) × Appends (g.X.Write.contents (writer_of l.fn.faults))
       (g.X.Write.contents (writer_of l.faults)) text;
-  told : ¬ (HasFailed l.faults) → AreToldSince ExplainsWord l.names l.fn.filter.undecided l.filter.undecided
+  told : (how : LinesRequest) → (set : IpSet) → IsLogUpTo how set [] [] [] l.fn.filter → ¬ (HasFailed l.faults)
+      → AreToldSince ExplainsWord l.names l.fn.filter.undecided l.filter.undecided
       (g.X.Write.contents (writer_of l.fn.faults)) (g.X.Write.contents (writer_of l.faults));
-  quiet : (how : LinesRequest) → (set : IpSet) → IsLogUpTo how set [] 0 [] l.fn.filter
+  quiet : (how : LinesRequest) → (set : IpSet) → IsLogUpTo how set [] [] [] l.fn.filter
       → l.filter.undecided.count ≡ 0 → Keeps (g.X.Write.contents (writer_of l.fn.faults))
       (g.X.Write.contents (writer_of l.faults));
 }

@@ -1,17 +1,14 @@
-use Rattle.std.proofs.Common.{◌≡◌, [], refl, sym, ◌∙◌}
+use Rattle.std.proofs.Common.{[], refl, sym, ◌∙◌}
 use Rattle.std.proofs.KnownBytes.{Appends-nil}
 use Rattle.std.proofs.lemmas.Result.{err_from_is_err_and}
-use Rattle.ipnet_lists.specs.Reports.{ExplainsEntry}
 use Rattle.ipnet_text.specs.Watched.{writer_of}
-use Rattle.netset_lib.proofs.ListsReading.{none_of_length}
-use Rattle.netset_lib.proofs.StepLaws.{none_kept, told_all}
-use Rattle.netset_lib.proofs.StreamLaws.{stream_right}
+use Rattle.netset_lib.proofs.StreamLaws.{stream_right, stream_told}
 use Rattle.netset_lib.proofs.StreamParts.{part_right}
 use Rattle.netset_lib.proofs.stream.Stream.answer.Goals as goal
 
 pub returns-clause-streamed : goal.returns-clause-streamed
-returns-clause-streamed g c = λ query grammar lists h.
-    stream_right query grammar lists c.args.self c.in_ok-reading.reading
+returns-clause-streamed g c = λ asked h.
+    stream_right asked c.args.self c.in_ok-reading.reading
     (g.R.Read.remaining c.args.input.now) (g.R.Read.remaining c.stream_entries.new.input)
     (g.W.Write.contents c.args.out.now) (g.W.Write.contents c.stream_entries.new.out) _ h
     (sym c.refused_count.ensures ∙ c.if-refused_count-ne0.false) c.in_ok-reading.ensures.whole refl
@@ -19,8 +16,8 @@ returns-clause-streamed g c = λ query grammar lists h.
 pub returns-in_err-reading-clause-failure : goal.returns-in_err-reading-clause-failure
 returns-in_err-reading-clause-failure g c =
     let p = err_from_is_err_and c.from_residual.result c.from_residual.ensures.1 in
-    rw (p.1, p.2) (λ query grammar lists h.
-    part_right query grammar lists c.args.self (g.R.Read.remaining c.args.input.now)
+    rw (p.1, p.2) (λ asked h.
+    part_right asked c.args.self (g.R.Read.remaining c.args.input.now)
     (g.W.Write.contents c.args.out.now) (g.W.Write.contents c.stream_entries.new.out) _ h
     (sym c.refused_count.ensures ∙ c.if-refused_count-ne0.false) c.in_err-reading.ensures.part
     c.in_err-reading.ensures.cause)
@@ -36,10 +33,10 @@ pub returns-clause-appended : goal.returns-clause-appended
 returns-clause-appended g c = c.stream_entries.ensures.appended
 
 pub returns-clause-told : goal.returns-clause-told
-returns-clause-told g c = λ query grammar lists h sound.
-    let start = c.args.self.lists.reading.lines.refused in
-    let none : start.count ≡ 0 = sym c.refused_count.ensures ∙ c.if-refused_count-ne0.false in
-    told_all ExplainsEntry c.args.names.now start c.in_ok-reading.reading.lines.refused
-    (g.X.Write.contents (writer_of c.args.faults.now)) (g.X.Write.contents (writer_of c.stream_entries.new.faults))
-    (none_kept start h.read.refusals h.read.kept (none_of_length h.read.refusals (sym h.read.kept.count ∙ none))) none
-    (c.in_ok-reading.ensures.told sound)
+returns-clause-told g c = λ asked h.
+    stream_told asked c.args.self c.in_ok-reading.reading (g.R.Read.remaining c.args.input.now)
+    (g.R.Read.remaining c.stream_entries.new.input) (g.W.Write.contents c.args.out.now)
+    (g.W.Write.contents c.stream_entries.new.out) _ h
+    (sym c.refused_count.ensures ∙ c.if-refused_count-ne0.false) c.in_ok-reading.ensures.whole refl c.args.names.now
+    (g.X.Write.contents (writer_of c.args.faults.now)) (g.X.Write.contents (writer_of c.stream_entries.new.faults)) _
+    c.in_ok-reading.ensures.told

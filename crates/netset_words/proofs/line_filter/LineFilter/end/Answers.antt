@@ -9,10 +9,10 @@ use Rattle.netset_words.proofs.LogBytes.{one_line_left, is_something}
 use Rattle.netset_words.proofs.line_filter.LineFilter.end.Goals as goal
 
 passed : (old new : LineFilter) → (old.rest ≡ Rests.Kept → ⊥) → EndsLine old new → EndsLog old new
-passed old new other ends how set written least bytes h =
-    one_line_left how set written least bytes old h new
-    (is_something how set written least (lines_of h.closed) h.cur old h.up_to (λ kept none. other kept))
-    (ends how set written least (lines_of h.closed) h.cur h.up_to)
+passed old new other ends how set written known bytes h =
+    one_line_left how set written known bytes old h new
+    (is_something how set written known (lines_of h.closed) h.cur old h.up_to (λ kept none. other kept))
+    (ends how set written known (lines_of h.closed) h.cur h.up_to)
 
 pub returns-in-Kept : goal.returns-in-Kept
 returns-in-Kept c = c.end_kept_log.ensures

@@ -9,6 +9,6 @@ returns c = record {
   same = λ x fits.
       subst (λ z. IsMember z x ↔ IsOnSide c.args.how.side (IsMember c.args.set) x) (sym c.new.ensures.set)
       (c.in_ok-side.ensures x fits);
-  begun = subst (λ z. IsLogUpTo c.args.how z [] 0 [] c.new.result) (sym c.new.ensures.set) c.new.ensures.begun;
+  begun = subst (λ z. IsLogUpTo c.args.how z [] [] [] c.new.result) (sym c.new.ensures.set) c.new.ensures.begun;
   none = c.new.ensures.undecided;
 }

@@ -10,15 +10,15 @@ returns-in-Kept c = c.keep.ensures
 pub returns-in-Printed : goal.returns-in-Printed
 returns-in-Printed c =
     OnOk_then c.print_more.result c.print_more.ensures
-    (λ text how set written least lines cur h.
-    long_grows how set written least lines cur c.args.piece.now c.args.self.now _ h
+    (λ text how set written known lines cur h.
+    long_grows how set written known lines cur c.args.piece.now c.args.self.now _ h
     (record { request = refl; set = refl; line = refl }) text refl refl refl
     (λ kept. let clash = sym kept ∙ c.in-Printed.is in absurd cc) refl refl)
 
 pub returns-in-LeftOut : goal.returns-in-LeftOut
 returns-in-LeftOut c =
     OnOk_then c.print_more-in-LeftOut.result c.print_more-in-LeftOut.ensures
-    (λ text how set written least lines cur h.
-    long_grows how set written least lines cur c.args.piece.now c.args.self.now _ h
+    (λ text how set written known lines cur h.
+    long_grows how set written known lines cur c.args.piece.now c.args.self.now _ h
     (record { request = refl; set = refl; line = refl }) text refl refl refl
     (λ kept. let clash = sym kept ∙ c.in-LeftOut.is in absurd cc) refl refl)

@@ -22,8 +22,8 @@ pass_front-requires-clause-kept c = c.requires
 pub returns-then-piece-room_after : goal.returns-then-piece-room_after
 returns-then-piece-room_after c =
     ok_extends c.extend_from_slice.result _ _ _ _ c.extend_from_slice.ensures.items
-    (λ items how set written least lines cur h.
-    kept_grows how set written least lines cur c.args.piece.now c.args.self.now _ h
+    (λ items how set written known lines cur h.
+    kept_grows how set written known lines cur c.args.piece.now c.args.self.now _ h
     (record { request = refl; set = refl; line = refl }) refl refl c.requires refl items
     (omega (arith, c.if-piece-room_after.true, c.room_after.ensures, c.as_slice.ensures.len)))
 

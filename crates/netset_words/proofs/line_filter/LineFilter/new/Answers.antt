@@ -22,7 +22,7 @@ returns-clause-begun c = record {
     printed = refl;
     nones = refl;
     undecided = c.new-3.ensures;
-    least_count = omega arith;
+    since = ([], refl);
   };
 }
 

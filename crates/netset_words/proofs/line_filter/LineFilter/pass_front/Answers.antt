@@ -71,10 +71,10 @@ pub invariant_of-self-2 : goal.invariant_of-self-2
 invariant_of-self-2 c = record { short = omega (arith, c.clear.ensures.len) }
 
 pub returns : goal.returns
-returns c = λ how set written least lines cur h.
+returns c = λ how set written known lines cur h.
     let old = c.args.self.now in
     let size : length c.as_slice.result.now ≡ length old.front.items = ap length c.as_slice.ensures.value in
-    front_read how set written least lines cur c.args.piece.now old _ h c.split_at.result.0.now c.split_at.result.1.now
+    front_read how set written known lines cur c.args.piece.now old _ h c.split_at.result.0.now c.split_at.result.1.now
     c.as_slice-front.result.now c.room_after.result c.whole_len.result c.in_ok-number.number
     c.line_verdict-verdict.result c.front_treatment-treatment.result c.in_ok-printed.printed
     (record { request = refl; set = refl; line = refl })
