@@ -15,6 +15,7 @@ pub mod OverlapTexts
 pub mod WrittenParts
 pub mod ManyListLaws
 pub mod FiledLaws
+pub mod NoteOrder
 pub mod NoteLaws
 pub mod NotedBlockLaws
 pub mod PlainTexts

@@ -18,13 +18,16 @@ use Rattle.netset_entries.specs.declared.entry_list.EntryList.{EntryList}
 use Rattle.netset_entries.specs.declared.overlaps.Asked.{Asked}
 use Rattle.netset_entries.specs.EntryLineOf.{IsReadOf, labels_of, numbered}
 use Rattle.netset_entries.specs.ListPairs.{IsListAt}
-use Rattle.netset_entries.specs.ManyLists.{AreEntryLists, AreListsBegun, AreOverlapsFrom, AreReadLists, HasManyOverlap}
-use Rattle.netset_entries.specs.ManyLists.{HasOverlapAt, HasRefusedList, HoldsOfMany, IsManyOutcome, IsOverlapAt}
+use Rattle.netset_entries.specs.ManyLists.{AreEntryLists, AreListsBegun, AreOverlapsFrom, AreReadLists, AreWholeLists}
+use Rattle.netset_entries.specs.ManyLists.{HasManyOverlap, HasOverlapAt, HasRefusedList, HoldsOfMany, IsManyOutcome, IsOverlapAt}
 use Rattle.netset_entries.specs.ManyLists.{IsReportAt}
 use Rattle.netset_entries.specs.ManySteps.{are_refused, entries_in, is_refused, IsAskedOf}
 use Rattle.netset_entries.specs.NumberedEntries.{NumberedEntry}
 use Rattle.netset_entries.specs.Overlaps.{HasOverlap, IsOverlapText, name_labels}
 use Rattle.netset_entries.specs.TextParts.{AreTextParts}
+use Rattle.netset_entries.specs.WriteFailures.{IsPieceFailure}
+use Rattle.netset_lib.specs.declared.piece_failure.PieceFailure.{PieceFailure}
+use Rattle.netset_lib.specs.declared.piece_failure.PieceFailure.TheVariants as Pieces
 use Rattle.netset_entries.proofs.BothLaws.{all_begun, nothing_begun}
 use Rattle.netset_entries.proofs.OverlapTexts.{overlap_text_exists}
 use Rattle.netset_entries.proofs.PartLaws.{parts_weaker}
@@ -227,6 +230,16 @@ nothing_at names read d i less =
     ([], (list, (less, at_place read i list d less), nothing_begun _ list.refused list.refused.count refl))
 
 -- ---- the command
+
+-- the lists that were read have no refused line
+pub whole_lists : (grammar : Grammar) (lists : List (Bor (List ℕ))) (read : List EntryList)
+    → AreReadLists grammar lists read → are_refused read ≡ false → AreWholeLists grammar lists
+whole_lists grammar lists read h none = (entries_in read, all_entries grammar lists read h none)
+
+-- why only a front was written, after the lists were read
+pub after_reading : (IsRead : Type 0) → IsRead → (failure : PieceFailure) → IsPieceFailure IsRead failure
+after_reading IsRead h Pieces.Memory = tt
+after_reading IsRead h Pieces.Unwritable = h
 
 pub many_outcome : (grammar : Grammar) (lists : List (Bor (List ℕ))) (entries : List (List NumberedEntry))
     → AreEntryLists grammar lists entries → (some : Bool) → (IsTrue some ↔ HasManyOverlap entries)

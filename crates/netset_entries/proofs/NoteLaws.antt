@@ -1,7 +1,8 @@
 -- The largest blocks of one family: none, one more, one less.
 use Rattle.std.proofs.Common.{Bool, true, false}
 use Rattle.std.proofs.Common.{◌≡◌, ◌⊎◌, ℕ, zero, suc, ◌+◌, ◌-◌, ◌<◌, ◌≤◌, List, [], ◌∷◌, ◌++◌, length, get_or, set}
-use Rattle.std.proofs.Common.{take, drop, All, Any, Option, None, Some, refl, sym, ap, ◌∙◌, subst, arith, inl, inr}
+use Rattle.std.proofs.Common.{take, drop, All, AllPairs, Any, Option, None, Some, refl, sym, ap, ◌∙◌, subst, arith}
+use Rattle.std.proofs.Common.{Contains, inl, inr}
 use Rattle.std.specs.Global.{Vec}
 use Rattle.std.specs.Option.{option_to_list, is_some}
 use Rattle.std.proofs.lemmas.Bool.{cases_lt}
@@ -12,14 +13,15 @@ use Rattle.ipnet_base.specs.Network.{Network}
 use Rattle.ipnet.specs.NetworkOf.{ip_network}
 use Rattle.ipnet.specs.declared.net.IpNet.{IpNet}
 use Rattle.ipnet.specs.declared.parser.Grammar.{Grammar}
-use Rattle.netset_entries.specs.NotedEntries.{IsNotedAs, AreLargerFirst, Title, title_of}
-use Rattle.netset_entries.specs.NoteSteps.{blocks_in, AreFiled, AreLargest, AreNone, IsOfFamily, IsHeld}
-use Rattle.netset_entries.specs.NoteSteps.{TakesBlock, DropsOne, DropsSmallest}
+use Rattle.netset_entries.specs.NotedEntries.{AreInOrder, IsNotedAs, AreLargerFirst, Title, title_of}
+use Rattle.netset_entries.specs.NoteSteps.{blocks_in, AreFiled, AreLargest, AreNone, AreOrdered, IsOfFamily, IsHeld}
+use Rattle.netset_entries.specs.NoteSteps.{OrdersBlock, TakesBlock, DropsOne, DropsSmallest}
 use Rattle.netset_entries.specs.declared.largest.Largest.{Largest}
 use Rattle.netset_entries.specs.declared.largest.NotedEntry.{NotedEntry}
 use Rattle.netset_entries.proofs.FiledLaws.{len_of, blocks_cons, filed_none, filed_more, filed_less, members_filed}
 use Rattle.netset_entries.proofs.FiledLaws.{order_filed, filed_weaker, none_in, count_more, count_less, still_none}
 use Rattle.netset_entries.proofs.FiledLaws.{fewer_after, drops_set, any_more, any_front, all_short}
+use Rattle.netset_entries.proofs.NoteOrder.{none_more, one_more, pairs_less, pairs_more}
 
 -- ---- the blocks of one family
 
@@ -122,7 +124,14 @@ more_lengths : (old new : Largest) (block : NotedEntry) → HasMore old new bloc
     → length new.by_len.items ≡ length old.by_len.items
 more_lengths old new block m = ap length m.lists ∙ length-set old.by_len.items m.index m.longer
 
-pub push_kept : (old new : Largest) (block : NotedEntry) → HasMore old new block → new.kept ≤ 1500
+-- no other block is there
+more_only : (old new : Largest) (block : NotedEntry) → HasMore old new block → (e : NotedEntry)
+    → Contains (blocks_in new.by_len.items) e → Contains (blocks_in old.by_len.items) e ⊎ (e ≡ block)
+more_only old new block m e is_in =
+    one_more old.by_len.items m.index m.list m.longer block m.within m.read m.items e
+    (subst (λ z. Contains (blocks_in z) e) m.lists is_in)
+
+push_kept : (old new : Largest) (block : NotedEntry) → HasMore old new block → new.kept ≤ 1500
     → TakesBlock old new block
 push_kept old new block m few = λ grammar frame lines family is h.
     let kept = m.kept h.few in
@@ -137,6 +146,8 @@ push_kept old new block m few = λ grammar frame lines family is h.
           | inr (most, none) ↦ absurd (omega (arith, most, kept, few))
         ];
       };
+      once = omega (arith, kept);
+      only = more_only old new block m;
       held = λ n title held less.
           more_any (IsNotedAs n title) old new block m (inl (held (omega (arith, less, m.same_end))));
       has = λ less.
@@ -165,7 +176,7 @@ drop_below old now new block family Is m h drops = elim h.full [
   ]
 ]
 
-pub push_dropped : (old now new : Largest) (block : NotedEntry) → DropsOne now new → HasMore old now block
+push_dropped : (old now new : Largest) (block : NotedEntry) → DropsOne now new → HasMore old now block
     → 1500 < now.kept → TakesBlock old new block
 push_dropped old now new block drop_one m many = λ grammar frame lines family is h.
     let Is = IsOfFamily grammar frame lines family in
@@ -182,6 +193,8 @@ push_dropped old now new block drop_one m many = λ grammar frame lines family i
         few = omega (arith, kept, drops.kept, h.few);
         full = inr (omega (arith, kept, drops.kept, h.few, many), drops.past);
       };
+      once = omega (arith, kept, drops.kept);
+      only = λ e is_in. more_only old now block m e (drop_one.fewer e is_in);
       held = λ n title held less.
           any_front Is now.by_len.items new.by_len.items new.end n title filed drops.larger less
           (more_any (IsNotedAs n title) old now block m
@@ -193,14 +206,37 @@ push_dropped old now new block drop_one m many = λ grammar frame lines family i
           (inr (refl, refl)));
     }
 
+more_ordered : (old new : Largest) (block : NotedEntry) → HasMore old new block → OrdersBlock old new block
+more_ordered old new block m = λ grammar lines first h.
+    let R = AreInOrder grammar lines in
+    subst (All (λ v. AllPairs R v.items)) (sym m.lists)
+    (pairs_more R old.by_len.items m.index m.list m.longer block m.within m.read m.items first h)
+
+pub kept_in_order : (old new : Largest) (block : NotedEntry) → HasMore old new block → new.kept ≤ 1500
+    → TakesBlock old new block × OrdersBlock old new block
+kept_in_order old new block m few = (push_kept old new block m few, more_ordered old new block m)
+
+pub dropped_in_order : (old now new : Largest) (block : NotedEntry) → DropsOne now new → HasMore old now block
+    → 1500 < now.kept → TakesBlock old new block × OrdersBlock old new block
+dropped_in_order old now new block drop_one m many = (
+  push_dropped old now new block drop_one m many,
+  λ grammar lines first h. drop_one.ordered grammar lines (more_ordered old now block m grammar lines first h),
+)
+
 -- a block that is too small
-pub push_none : (old : Largest) (block : NotedEntry) → old.end ≤ (ip_network block.network).prefix_len
+push_none : (old : Largest) (block : NotedEntry) → old.end ≤ (ip_network block.network).prefix_len
     → TakesBlock old old block
 push_none old block small = λ grammar frame lines family is h. record {
   largest = h;
+  once = omega arith;
+  only = λ e is_in. inl is_in;
   held = λ n title held. held;
   has = λ less. absurd (omega (arith, small, less));
 }
+
+pub none_in_order : (old : Largest) (block : NotedEntry) → old.end ≤ (ip_network block.network).prefix_len
+    → TakesBlock old old block × OrdersBlock old old block
+none_in_order old block small = (push_none old block small, λ grammar lines first h. h)
 
 -- ---- one block is dropped
 
@@ -210,6 +246,9 @@ pub record IsUpTo (index : ℕ) (start now : Largest) : Type 0 where
   pub filed : (grammar : Grammar) → (frame : Option IpNet) → (lines : List (List ℕ)) → (family : Family)
       → AreFiled (IsOfFamily grammar frame lines family) 0 start.by_len.items
       → AreFiled (IsOfFamily grammar frame lines family) 0 now.by_len.items
+  pub ordered : (grammar : Grammar) → (lines : List (List ℕ)) → AreOrdered grammar lines start
+      → AreOrdered grammar lines now
+  pub fewer : (e : NotedEntry) → Contains (blocks_in now.by_len.items) e → Contains (blocks_in start.by_len.items) e
   pub blocks : (j : ℕ) → length (blocks_in (drop j now.by_len.items)) ≡ length (blocks_in (drop j start.by_len.items))
   pub larger : (j : ℕ) → j ≤ index → take j now.by_len.items ≡ take j start.by_len.items
   pub kept : now.kept ≡ start.kept
@@ -219,6 +258,8 @@ pub up_to_start : (index : ℕ) (start : Largest) → length start.by_len.items 
 up_to_start index start past = record {
   lengths = refl;
   filed = λ grammar frame lines family h. h;
+  ordered = λ grammar lines h. h;
+  fewer = λ e is_in. is_in;
   blocks = λ j. refl;
   larger = λ j le. refl;
   kept = refl;
@@ -252,6 +293,18 @@ module _ (start now new : Largest) (index before : ℕ) (list shorter : Vec Note
         (filed_less Is now.by_len.items index list shorter popped within read items
         (h.filed grammar frame lines family k))
 
+    ordered_now : (grammar : Grammar) → (lines : List (List ℕ)) → AreOrdered grammar lines start
+        → AreOrdered grammar lines new
+    ordered_now grammar lines k =
+        let R = AreInOrder grammar lines in
+        subst (All (λ v. AllPairs R v.items)) (sym lists)
+        (pairs_less R now.by_len.items index list shorter popped within read items (h.ordered grammar lines k))
+
+    fewer_now : (e : NotedEntry) → Contains (blocks_in new.by_len.items) e → Contains (blocks_in start.by_len.items) e
+    fewer_now e is_in =
+        h.fewer e (none_more now.by_len.items index list shorter popped within read items e
+        (subst (λ z. Contains (blocks_in z) e) lists is_in))
+
     larger_now : (j : ℕ) → j ≤ index → take j new.by_len.items ≡ take j start.by_len.items
     larger_now j le =
         ap (take j) lists ∙ take-set-le j now.by_len.items index shorter le ∙ h.larger j (omega (arith, le, next))
@@ -272,6 +325,8 @@ module _ (start now new : Largest) (index before : ℕ) (list shorter : Vec Note
         record {
           lengths = lengths_now;
           filed = filed_now;
+          ordered = ordered_now;
+          fewer = fewer_now;
           blocks = λ j.
               ap (λ z. length (blocks_in (drop j z))) lists
               ∙ drops_set now.by_len.items index shorter list j within as_many ∙ h.blocks j;
@@ -310,6 +365,8 @@ module _ (start now new : Largest) (index before : ℕ) (list shorter : Vec Note
         let all : length (blocks_in now.by_len.items) ≡ length (blocks_in start.by_len.items) = h.blocks 0 in
         record {
           filed = filed_now;
+          ordered = ordered_now;
+          fewer = fewer_now;
           lengths = lengths_now;
           smallest = λ any. record {
             count = omega (arith, count_now, size, all);
@@ -334,6 +391,8 @@ up_to_none index start now h zero_index =
     let all : length (blocks_in now.by_len.items) ≡ length (blocks_in start.by_len.items) = h.blocks 0 in
     record {
       filed = h.filed;
+      ordered = h.ordered;
+      fewer = h.fewer;
       lengths = h.lengths;
       smallest = λ any. absurd (omega (arith, any, none, all));
     }

@@ -32,6 +32,20 @@ module _ (grammar : Grammar) (line text : List ℕ) (contents : IsContents line 
       → ¬ (IsTitledBlock grammar n title line)
   none_titled none n title h = none h.range (same_writes n title h)
 
+  -- a block of the entry
+  pub titled_by : (range : AddressRange) → IsEntryText grammar text range → (comment shown : List ℕ)
+      → IsCommentOf line comment → IsShownComment comment shown → (n : Network) → IsMaximal (IsInRange range) 0 n
+      → IsTitledBlock grammar n (title_from text shown) line
+  titled_by range writes comment shown has is n block = record {
+    contents = contents;
+    range = range;
+    writes = writes;
+    block = block;
+    comment = comment;
+    has_comment = has;
+    shown = is;
+  }
+
   pub titled_in : (range : AddressRange) (blocks : List Network) → IsEntryText grammar text range
       → AreMaximalBlocks (IsInRange range) 0 blocks → (n : Network) (title : Title)
       → IsTitledBlock grammar n title line → Contains blocks n

@@ -9,10 +9,12 @@ use Rattle.netset_entries.specs.declared.entry_list.EntryLine.{EntryLine}
 use Rattle.netset_entries.specs.declared.entry_list.EntryList.{EntryList}
 use Rattle.netset_entries.specs.declared.overlaps.Asked.{Asked}
 use Rattle.netset_entries.specs.EntryLineOf.{numbered, IsReadOf, AreAsked, labels_of}
-use Rattle.netset_entries.specs.NumberedEntries.{NumberedEntry, IsEntryList}
-use Rattle.netset_entries.specs.WriteFailures.{AreRefusedOf}
+use Rattle.netset_entries.specs.NumberedEntries.{NumberedEntry, IsEntryList, IsWholeList}
+use Rattle.netset_entries.specs.WriteFailures.{AreRefusedOf, IsListFailure, IsListsFailure, of_piece}
 use Rattle.netset_entries.specs.Overlaps.{HoldsOfTwo, HoldsOfLists, HasOverlap, HasNoOverlap, IsOverlapOutcome}
 use Rattle.netset_entries.specs.Overlaps.{IsOverlapText, line_labels}
+use Rattle.netset_lib.specs.declared.piece_failure.PieceFailure.{PieceFailure}
+use Rattle.netset_lib.specs.declared.piece_failure.PieceFailure.TheVariants as Pieces
 
 -- no line is refused
 pub all_read : (grammar : Grammar) (bytes : List ℕ) (list : EntryList) → IsReadOf grammar bytes list
@@ -20,6 +22,16 @@ pub all_read : (grammar : Grammar) (bytes : List ℕ) (list : EntryList) → IsR
 all_read grammar bytes list (refusals, read, kept) none =
     subst (IsEntryList grammar bytes (map numbered list.entries.items)) (none_refused list.refused refusals kept none)
     read
+
+pub whole_list : (grammar : Grammar) (bytes : List ℕ) (list : EntryList) → IsReadOf grammar bytes list
+    → list.refused.count ≡ 0 → IsWholeList grammar bytes
+whole_list grammar bytes list h none = (map numbered list.entries.items, all_read grammar bytes list h none)
+
+-- why an answer about such a list was cut
+pub cut_of_list : (grammar : Grammar) (bytes : List ℕ) → IsWholeList grammar bytes → (failure : PieceFailure)
+    → IsListFailure grammar bytes (of_piece failure)
+cut_of_list grammar bytes whole Pieces.Memory = tt
+cut_of_list grammar bytes whole Pieces.Unwritable = whole
 
 -- the refused lines of a list that was read
 pub refused_of : (grammar : Grammar) (bytes : List ℕ) (list : EntryList) → IsReadOf grammar bytes list
@@ -62,6 +74,17 @@ asked_labels : (grammar : Grammar) (bytes : List ℕ) (other : Option (Bor (List
 asked_labels grammar bytes None asked are = are.2
 asked_labels grammar bytes (Some other) asked are =
     let (first, second, read, other_read, is, counted, labelled) = are in labelled
+
+-- why an answer about what is asked was cut
+pub cut_of_asked : (grammar : Grammar) (bytes : List ℕ) (other : Option (Bor (List ℕ))) (asked : Asked)
+    → AreAsked grammar bytes other asked → (failure : PieceFailure)
+    → IsListsFailure grammar bytes other (of_piece failure)
+cut_of_asked grammar bytes None asked are failure =
+    cut_of_list grammar bytes (map numbered asked.entries.items, are.0) failure
+cut_of_asked grammar bytes (Some other) asked are Pieces.Memory = tt
+cut_of_asked grammar bytes (Some other) asked are Pieces.Unwritable =
+    let (first, second, read, other_read, is, counted, labelled) = are in
+    ((map numbered first, read), (map numbered second, other_read))
 
 pub text_of_asked : (grammar : Grammar) (bytes : List ℕ) (other : Option (Bor (List ℕ))) (asked : Asked)
     → AreAsked grammar bytes other asked → (text : List ℕ)

@@ -1,5 +1,7 @@
 -- The lines of a list whose entries overlap an entry that is looked for, contain it, lie inside it or are the same.
 use Rattle.std.specs.Prelude.{◌≡◌, ◌≢◌, ◌⊎◌, ◌↔◌, ℕ, ◌+◌, List, [], ◌∷◌, ◌++◌, Bool, true, false, codes, decimal}
+use Rattle.std.specs.Prelude.{Option}
+use Rattle.std.specs.Io.KnownBytes.{Keeps}
 use Rattle.ipnet_base.specs.Address.{Address}
 use Rattle.ipnet_base.specs.Ranges.{AddressRange}
 use Rattle.ipnet.specs.Lines.{lines_of}
@@ -8,6 +10,7 @@ use Rattle.ipnet_sets.specs.SetRanges.{IsInRange}
 use Rattle.ipnet_lists.specs.Entries.{IsEntryText, IsNoEntry}
 use Rattle.ipnet_lists.specs.Lists.{IsContents, Refusal, after_mark, refusal_at}
 use Rattle.ipnet_lists.specs.RefusedLines.{AreRefused}
+use Rattle.ipnet_text.specs.Outputs.{IsWritten, IsFrontWritten}
 use Rattle.netset_entries.specs.declared.find.EntryRelation.{EntryRelation}
 use Rattle.netset_entries.specs.declared.find.EntryRelation.TheVariants.{Overlaps, Contains, Inside, Exact}
 use Rattle.netset_entries.specs.declared.lines.WriteFailure.{WriteFailure}
@@ -84,9 +87,21 @@ abbrev pub IsSearchOutcome : Search → (name bytes : List ℕ) → Bool → Typ
 IsSearchOutcome search name bytes true = (text : List ℕ) × IsSearched search name bytes text [] × (text ≢ [])
 IsSearchOutcome search name bytes false = IsSearched search name bytes [] []
 
--- Why a search has no answer, or only a part of it: these lines are refused, memory ran out, or a write failed.
+-- Why a search has no answer, or only a part of it: these lines are refused, memory ran out, or a write failed. The
+-- last two can be so whether or not lines are refused.
 abbrev pub IsSearchFailure : Search → (name bytes : List ℕ) → WriteFailure → Type 0
 IsSearchFailure search name bytes (Refused lines others) = (text : List ℕ) × (refusals : List Refusal)
     × IsSearched search name bytes text refusals × AreRefused lines refusals × (refusals ≢ []) × AreRefused others []
 IsSearchFailure search name bytes Memory = Unit {0}
 IsSearchFailure search name bytes Unwritable = Unit {0}
+
+-- Before the failure this was written: all lines that are found, if other lines are refused; nothing, if memory ran
+-- out; and a front of the lines, if a write failed.
+-- Example: if 10.0.0.0/8 is looked for in `10.1.2.3\nx\n`, the line of 10.1.2.3 is out, though line 2 is refused.
+abbrev pub IsWrittenBefore : Search → (name bytes : List ℕ) → (held held_after : Option (List ℕ)) → WriteFailure
+    → Type 0
+IsWrittenBefore search name bytes held held_after (Refused lines others) =
+    IsWritten (IsSearchAnswer search name bytes) held held_after
+IsWrittenBefore search name bytes held held_after Memory = Keeps held held_after
+IsWrittenBefore search name bytes held held_after Unwritable =
+    IsFrontWritten (IsSearchAnswer search name bytes) held held_after

@@ -20,6 +20,11 @@ AreEntryLists grammar (bytes ∷ lists) [] = ⊥
 AreEntryLists grammar (bytes ∷ lists) (entries ∷ others) =
     IsEntryList grammar bytes.now entries [] × AreEntryLists grammar lists others
 
+-- No line of the lists is refused.
+-- Example: the lists `::1\n` and `# none\n`, and not `::1\n` and `x\n`.
+abbrev pub AreWholeLists : Grammar → List (Bor (List ℕ)) → Type 0
+AreWholeLists grammar lists = (entries : List (List NumberedEntry)) × AreEntryLists grammar lists entries
+
 -- No line of the lists is refused, and `Holds` is true of their entries.
 pub record HoldsOfMany (grammar : Grammar) (lists : List (Bor (List ℕ))) (Holds : List (List NumberedEntry) → Type 0)
     : Type 0 where

@@ -1,7 +1,7 @@
 -- Notes of lists that are read in pieces, and the private steps of noting their entries.
 -- Public contracts use only HaveNoted and IsBroken.
 use Rattle.std.specs.Prelude.{◌≡◌, ◌≢◌, ◌⊎◌, ◌<◌, ◌≤◌, ℕ, ◌+◌, ◌-◌, Bool, true, false, List, [], ◌∷◌, ◌++◌, length}
-use Rattle.std.specs.Prelude.{All, Any, Option, ⊤, take, drop, ◌==◌, ◌||◌, cond, nat_lt}
+use Rattle.std.specs.Prelude.{All, AllPairs, Any, Contains, Option, ⊤, take, drop, ◌==◌, ◌||◌, cond, nat_lt}
 use Rattle.std.specs.Char.{digit_value}
 use Rattle.std.specs.Global.{Vec}
 use Rattle.std.specs.List.{flat_map}
@@ -16,7 +16,7 @@ use Rattle.ipnet.specs.Numerals.{IsDecimal}
 use Rattle.ipnet.specs.declared.parser.Grammar.{Grammar}
 use Rattle.ipnet.specs.declared.parser.Grammar.TheVariants.{Strict}
 use Rattle.ipnet_sets.specs.SetRanges.{IsInRange}
-use Rattle.netset_entries.specs.NotedEntries.{IsTitledBlock, IsTitledIn, IsNotedAs, IsNotedOf, MeetsFrame}
+use Rattle.netset_entries.specs.NotedEntries.{AreInOrder, IsTitledBlock, IsTitledIn, IsNotedAs, IsNotedOf, MeetsFrame}
 use Rattle.netset_entries.specs.NotedEntries.{Title, list_lines, lines_of_all, title_of}
 use Rattle.netset_entries.specs.declared.largest.Largest.{Largest}
 use Rattle.netset_entries.specs.declared.largest.NotedEntry.{NotedEntry}
@@ -73,6 +73,9 @@ KeepsHeld old new = (n : Network) → (title : Title) → IsHeld n title old →
 pub record HasTaken (family : Family) (Is : NotedEntry → Type 0) (old new : Largest) (block : NotedEntry) : Type
     0 where
   pub largest : AreLargest family Is new
+  pub once : new.kept ≤ old.kept + 1
+  pub only : (e : NotedEntry) → Contains (blocks_in new.by_len.items) e
+      → Contains (blocks_in old.by_len.items) e ⊎ (e ≡ block)
   pub held : KeepsHeld old new
   pub has : IsHeld (ip_network block.network) (title_of block) new
 
@@ -81,6 +84,16 @@ abbrev pub TakesBlock : Largest → Largest → NotedEntry → Type 0
 TakesBlock old new block = (grammar : Grammar) → (frame : Option IpNet) → (lines : List (List ℕ)) → (family : Family)
     → IsOfFamily grammar frame lines family block → AreLargest family (IsOfFamily grammar frame lines family) old
     → HasTaken family (IsOfFamily grammar frame lines family) old new block
+
+-- The blocks of each prefix length are in the order of the lines.
+abbrev pub AreOrdered : Grammar → List (List ℕ) → Largest → Type 0
+AreOrdered grammar lines l = All (λ v. AllPairs (AreInOrder grammar lines) v.items) l.by_len.items
+
+-- The blocks are in order as before, if the others come before the block that was taken.
+abbrev pub OrdersBlock : Largest → Largest → NotedEntry → Type 0
+OrdersBlock old new block = (grammar : Grammar) → (lines : List (List ℕ))
+    → All (λ e. AreInOrder grammar lines e block) (blocks_in old.by_len.items)
+    → AreOrdered grammar lines old → AreOrdered grammar lines new
 
 -- One of the smallest blocks was dropped. The prefix length of these is `end`.
 pub record DropsSmallest (old new : Largest) : Type 0 where
@@ -96,6 +109,9 @@ pub record DropsOne (old new : Largest) : Type 0 where
   pub filed : (grammar : Grammar) → (frame : Option IpNet) → (lines : List (List ℕ)) → (family : Family)
       → AreFiled (IsOfFamily grammar frame lines family) 0 old.by_len.items
       → AreFiled (IsOfFamily grammar frame lines family) 0 new.by_len.items
+  pub ordered : (grammar : Grammar) → (lines : List (List ℕ)) → AreOrdered grammar lines old
+      → AreOrdered grammar lines new
+  pub fewer : (e : NotedEntry) → Contains (blocks_in new.by_len.items) e → Contains (blocks_in old.by_len.items) e
   pub lengths : length new.by_len.items ≡ length old.by_len.items
   pub smallest : 0 < length (blocks_in old.by_len.items) → DropsSmallest old new
 
@@ -106,12 +122,15 @@ abbrev pub largest_of : Family → NotedBlocks → Largest
 largest_of IPv4 b = b.ipv4
 largest_of IPv6 b = b.ipv6
 
--- The blocks are noted of these lines.
+-- The blocks are noted of these lines, and blocks of one prefix length are in the order of the lines. At least as many
+-- were counted.
 pub record AreBlocksOf (grammar : Grammar) (frame : Option IpNet) (lines : List (List ℕ)) (b : NotedBlocks) : Type
     0 where
   pub same_grammar : b.grammar ≡ grammar
   pub same_frame : b.frame ≡ frame
   pub largest : (family : Family) → AreLargest family (IsOfFamily grammar frame lines family) (largest_of family b)
+  pub ordered : (family : Family) → AreOrdered grammar lines (largest_of family b)
+  pub counted : b.ipv4.kept + b.ipv6.kept ≤ b.count
 
 -- The blocks are noted of these lines, and none is missing, unless it is too small.
 pub record AreKept (grammar : Grammar) (frame : Option IpNet) (lines : List (List ℕ)) (b : NotedBlocks) : Type 0 where
@@ -124,13 +143,29 @@ pub record HasKept (grammar : Grammar) (frame : Option IpNet) (lines : List (Lis
     (n : Network) (title : Title) : Type 0 where
   pub blocks : AreBlocksOf grammar frame lines new
   pub held : (family : Family) → KeepsHeld (largest_of family old) (largest_of family new)
+  pub only : (family : Family) → (e : NotedEntry) → Contains (blocks_in (largest_of family new).by_len.items) e
+      → Contains (blocks_in (largest_of family old).by_len.items) e ⊎ (ip_network e.network ≡ n)
   pub has : MeetsFrame frame n → IsHeld n title (largest_of n.family new)
 
--- A block of an entry of the lines was noted, unless it is too small or outside the frame.
+-- The network is a block of the entry of the last line, with this title.
+pub record IsOfLast (grammar : Grammar) (n : Network) (title : Title) (lines : List (List ℕ)) : Type 0 where
+  pub before : List (List ℕ)
+  pub line : List ℕ
+  pub cut : lines ≡ before ++ line ∷ []
+  pub block : IsTitledBlock grammar n title line
+
+-- The notes of this network are of these lines.
+abbrev pub AreEarlier : Grammar → Network → List (List ℕ) → List NotedEntry → Type 0
+AreEarlier grammar n lines = All (λ e. ip_network e.network ≡ n
+    → Any (IsTitledBlock grammar (ip_network e.network) (title_of e)) lines)
+
+-- A block of the entry of the last line was noted, unless it is too small or outside the frame. The same network was
+-- noted of earlier lines only.
 abbrev pub KeepsBlock : NotedBlocks → NotedBlocks → Network → Title → Type 0
 KeepsBlock old new n title = (grammar : Grammar) → (frame : Option IpNet) → (lines : List (List ℕ))
-    → Any (IsTitledBlock grammar n title) lines → AreBlocksOf grammar frame lines old
-    → HasKept grammar frame lines old new n title
+    → (last : IsOfLast grammar n title lines)
+    → AreEarlier grammar n last.before (blocks_in (largest_of n.family old).by_len.items)
+    → AreBlocksOf grammar frame lines old → HasKept grammar frame lines old new n title
 
 -- One line more was read.
 abbrev pub ReadsLine : NotedBlocks → NotedBlocks → List ℕ → Type 0

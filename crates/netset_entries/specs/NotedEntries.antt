@@ -87,6 +87,24 @@ list_lines bytes = without_mark (lines_of bytes)
 abbrev pub lines_of_all : List (List ℕ) → List (List ℕ)
 lines_of_all lists = flat_map list_lines lists
 
+-- The lines of the two notes come in this order: the line of the first is the line of the other, or an earlier one. If
+-- both are of one network, it is an earlier one, so no block of a line is noted twice.
+-- Example: of the lines `10.1.0.0/16` and `10.0.0.0/16`, the notes of 10.1.0.0/16 and 10.0.0.0/16.
+pub record AreInOrder (grammar : Grammar) (lines : List (List ℕ)) (e later : NotedEntry) : Type 0 where
+  pub before : List (List ℕ)
+  pub line : List ℕ
+  pub after : List (List ℕ)
+  pub cut : lines ≡ before ++ line ∷ after
+  pub first : Any (IsTitledBlock grammar (ip_network e.network) (title_of e)) (before ++ line ∷ [])
+  pub second : IsTitledBlock grammar (ip_network later.network) (title_of later) line
+  pub once : ip_network e.network ≡ ip_network later.network
+      → Any (IsTitledBlock grammar (ip_network e.network) (title_of e)) before
+
+-- Notes of one prefix length are in the order of the lines.
+abbrev pub AreInLineOrder : Grammar → List (List ℕ) → List NotedEntry → Type 0
+AreInLineOrder grammar lines = AllPairs (λ e later.
+    (ip_network e.network).prefix_len ≡ (ip_network later.network).prefix_len → AreInOrder grammar lines e later)
+
 -- At most 1,500 blocks of this family, the larger first.
 pub record AreLargerFirst (family : Family) (entries : List NotedEntry) : Type 0 where
   pub same_family : All (λ e. (ip_network e.network).family ≡ family) entries
@@ -100,7 +118,7 @@ HaveLargest grammar frame lines family entries = (n : Network) → (title : Titl
     ⊎ ((length entries ≡ 1500) × All (λ e. (ip_network e.network).prefix_len ≤ n.prefix_len) entries)
 
 -- These are the notes of these lists: of each family the blocks of all entries, or the largest 1,500. IPv4 comes
--- first.
+-- first, and blocks of one size are in the order of the lists, each block of a line once.
 -- Example: 10.0.0.0/8 with `10.0.0.0/8` and `a`, and 10.1.0.0/16 with `10.1.0.0/16` and nothing, of the one list
 -- `"10.1.0.0/16\n10.0.0.0/8 # a\n"`.
 pub record AreNoted (grammar : Grammar) (frame : Option IpNet) (lists : List (List ℕ)) (entries : List NotedEntry) :
@@ -113,3 +131,5 @@ pub record AreNoted (grammar : Grammar) (frame : Option IpNet) (lists : List (Li
   pub each : All (IsNotedOf grammar frame (lines_of_all lists)) entries
   pub ipv4_largest : HaveLargest grammar frame (lines_of_all lists) IPv4 ipv4
   pub ipv6_largest : HaveLargest grammar frame (lines_of_all lists) IPv6 ipv6
+  pub ipv4_order : AreInLineOrder grammar (lines_of_all lists) ipv4
+  pub ipv6_order : AreInLineOrder grammar (lines_of_all lists) ipv6

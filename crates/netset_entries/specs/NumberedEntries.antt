@@ -37,6 +37,10 @@ IsEntryLineCause grammar = OrBroken (not_entry grammar) (IsRefusedFor grammar)
 abbrev pub IsEntryList : Grammar → List ℕ → List NumberedEntry → List Refusal → Type 0
 IsEntryList grammar = IsItemList (IsEntryOfLine grammar) (IsEntryLineCause grammar)
 
+-- No line of the list is refused.
+abbrev pub IsWholeList : Grammar → List ℕ → Type 0
+IsWholeList grammar bytes = (entries : List NumberedEntry) × IsEntryList grammar bytes entries []
+
 -- No line of the list is refused, and `Holds` is true of its entries.
 pub record HoldsOfEntries (grammar : Grammar) (bytes : List ℕ) (Holds : List NumberedEntry → Type 0) : Type 0 where
   pub entries : List NumberedEntry

@@ -1,10 +1,12 @@
 //! The command `find` of the program, over one list.
-ghost use Rattle.std.specs.Prelude.{◌≡◌, List, ℕ, OnOk, IfErr};
+ghost use Rattle.std.specs.Prelude.{◌≡◌, ◌⊎◌, List, ℕ, OnOk, IfOk, IfErr};
 ghost use Rattle.std.specs.Io.{StartsWith};
-ghost use Rattle.std.specs.Io.KnownBytes.{Appends};
+ghost use Rattle.std.specs.Io.KnownBytes.{Appends, Keeps};
+ghost use Rattle.ipnet_text.specs.Outputs.{IsWritten, IsFrontWritten};
 ghost use Rattle.netset_entries.specs.declared.lines.WriteFailure.TheVariants.{Unwritable};
-ghost use Rattle.netset_entries.specs.Finds.{IsSearchAnswer, IsSearchOutcome, IsSearchFailure};
+ghost use Rattle.netset_entries.specs.Finds.{IsSearchAnswer, IsSearchOutcome, IsSearchFailure, IsWrittenBefore};
 ghost use Rattle.netset_entries.specs.FindSteps.{search_of};
+ghost use Rattle.netset_entries.specs.WriteFailures.{exit_of_write};
 
 use crate::find::{EntrySearch, search_list};
 use crate::lines::WriteFailure;
@@ -62,7 +64,22 @@ impl<'a> Command for FindCommand<'a> {
 
     ghost is_failure = { λ c. IsSearchFailure (search_of c.search) c.name.now c.list.now };
 
-    fn write<W: Write>(self, out: &mut W) -> Result<bool, WriteFailure> {
+    /// Writes the lines that are found, flushes the writer, and returns whether there are some. If other lines are
+    /// refused, all these lines are out; if memory runs out, nothing is.
+    fn write<W: Write>(self, out: &mut W) -> Result<bool, WriteFailure>
+        ensures whole { let c = self.entry in IfOk result (λ _. IsWritten
+            (IsSearchAnswer (search_of c.search) c.name.now c.list.now) (W.contents out.old) (W.contents out.new)) }
+        ensures outcome { let c = self.entry in
+            IfOk result (IsSearchOutcome (search_of c.search) c.name.now c.list.now) }
+        ensures front { let c = self.entry in
+            IfErr result (λ failure. Keeps (W.contents out.old) (W.contents out.new)
+            ⊎ ((exit_of_write failure ≡ 2) × IsFrontWritten
+            (IsSearchAnswer (search_of c.search) c.name.now c.list.now) (W.contents out.old) (W.contents out.new))) }
+        ensures failure { let c = self.entry in
+            IfErr result (IsSearchFailure (search_of c.search) c.name.now c.list.now) }
+        ensures before { let c = self.entry in IfErr result (IsWrittenBefore (search_of c.search) c.name.now
+            c.list.now (W.contents out.old) (W.contents out.new)) }
+    {
         let found = search_list(self.alloc, &self.search, self.name, self.list)?;
         write_found(out, found.text.as_slice())?;
         if found.refused.count != 0 {

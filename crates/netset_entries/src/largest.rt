@@ -1,6 +1,6 @@
 //! The largest blocks of one family.
 ghost use Rattle.std.specs.Prelude.{◌≡◌, IfOk, OnOk};
-ghost use Rattle.netset_entries.specs.NoteSteps.{AreNone, TakesBlock, DropsOne, blocks_in};
+ghost use Rattle.netset_entries.specs.NoteSteps.{AreNone, OrdersBlock, TakesBlock, DropsOne, blocks_in};
 
 use ipnet::IpNet;
 use ipnet_bars::MOST_ENTRIES;
@@ -63,7 +63,7 @@ impl Largest {
 
     /// Notes the block. If there are too many, the last of the smallest is dropped.
     pub(crate) fn push(&mut self, block: NotedEntry) -> Result<(), AllocError>
-        ensures { OnOk result (TakesBlock self.old self.new block) }
+        ensures { OnOk result (TakesBlock self.old self.new block × OrdersBlock self.old self.new block) }
     {
         let len = usize::from(block.network.prefix_len());
         if len >= self.end {

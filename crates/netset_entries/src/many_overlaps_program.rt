@@ -1,6 +1,7 @@
 //! The command `overlaps` of the program with more than two lists.
-ghost use Rattle.netset_entries.specs.ManyLists.{AreManyOverlaps, AreReadLists, HasRefusedList, HoldsOfMany};
-ghost use Rattle.netset_entries.specs.ManyLists.{IsManyOutcome};
+ghost use Rattle.netset_entries.specs.ManyLists.{AreManyOverlaps, AreReadLists, AreWholeLists, HasRefusedList};
+ghost use Rattle.netset_entries.specs.ManyLists.{HoldsOfMany, IsManyOutcome};
+ghost use Rattle.netset_entries.specs.WriteFailures.{IsPieceFailure};
 ghost use Rattle.netset_lib.specs.Runs.{IsFault};
 
 use crate::many_lists::{RefusedLists, are_refused, entry_lists};
@@ -52,7 +53,7 @@ impl<'a> Command for ManyOverlapsCommand<'a> {
     ghost is_outcome = { λ c none. HoldsOfMany c.grammar c.lists.now (IsManyOutcome none) };
 
     ghost is_failure = { λ c. IsFault (λ refused. AreReadLists c.grammar c.lists.now refused.lists.items
-        × HasRefusedList refused.lists.items) (λ _. Unit {0}) };
+        × HasRefusedList refused.lists.items) (IsPieceFailure (AreWholeLists c.grammar c.lists.now)) };
 
     fn write<W: Write>(self, out: &mut W) -> Result<bool, Fault<RefusedLists<'a>, PieceFailure>> {
         let ManyOverlapsCommand {

@@ -1,6 +1,6 @@
 //! The largest entries of lists with their comments, noted while the lists are read.
 ghost use Rattle.std.specs.Prelude.{◌≡◌, ◌≤◌, ◌↔◌, ◌∷◌, ◌++◌, [], List, ℕ, Option, IsTrue, IfOk, IfSome, OnOk};
-ghost use Rattle.std.specs.Prelude.{string_bytes, OnErr, IsErr};
+ghost use Rattle.std.specs.Prelude.{string_bytes, length, OnErr, IsErr};
 ghost use Rattle.ipnet_base.specs.Blocks.{IsMaximal};
 ghost use Rattle.ipnet_base.specs.Network.{Network};
 ghost use Rattle.ipnet_sets.specs.SetRanges.{IsInRange};
@@ -341,7 +341,8 @@ impl EntryNotes {
         }
     }
 
-    /// Returns how many blocks the entries of the lists have, noted or not. A refused line may count as one.
+    /// Returns how many blocks the entries of the lists have, noted or not. A refused line may count as one. This is at
+    /// least the number of blocks that `into_entries` returns.
     pub fn count(&self) -> usize
         ensures { result ≡ counted_blocks self.now }
     {
@@ -355,6 +356,9 @@ impl EntryNotes {
         ensures noted { IfOk result (λ entries. (grammar : Grammar) → (frame : Option IpNet)
             → (lists : List (List ℕ)) → HaveNoted grammar frame lists [] self
             → AreNoted grammar frame lists entries.items) }
+        ensures counted { IfOk result (λ entries. (grammar : Grammar) → (frame : Option IpNet)
+            → (lists : List (List ℕ)) → HaveNoted grammar frame lists [] self
+            → length entries.items ≤ counted_blocks self) }
         ensures fails { IsBroken self → IsErr result }
     {
         if self.is_broken {

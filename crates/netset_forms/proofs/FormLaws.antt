@@ -132,7 +132,7 @@ module _ (r : FormRequest) (InSet Sub : Address → Type 0)
   failure_of_chosen Failures.NoIpv4Set (names, of_form, none, one) = (names, of_form, none, one_of_chosen IPv4 one)
   failure_of_chosen Failures.NoIpv6Set (names, of_form, none, one) = (names, of_form, none, one_of_chosen IPv6 one)
   failure_of_chosen Failures.Memory h = tt
-  failure_of_chosen Failures.Unwritable h = tt
+  failure_of_chosen Failures.Unwritable (text, right) = (text, text_of_chosen text right)
 
 -- ---- the result of an operation
 

@@ -184,18 +184,20 @@ pub record IsRequestOf (options : FormOptions) (request : FormRequest) : Type 0 
   pub ipv6_length : IsForList 128 name options.lengths.ipv6 options.sets.ipv6
   pub declared : options.declares ≡ true → name ≡ Nft
 
--- This is a reason why the options of this form do not go together.
+-- This is a reason why the options of this form do not go together. A fault about an option that is only for some forms
+-- is one of such a form.
+-- Example: the names `a` and `a` are a fault for nft, and none for FRR, whose lists of the two families are apart.
 abbrev pub IsFormFault : FormName → FormOptions → FormFault → Type 0
 IsFormFault form options (Faults.Format word) = ⊥
 IsFormFault form options Faults.Prefix = IsSome options.prefix × ¬ (HasLines form)
-IsFormFault form options Faults.LineBreak =
-    IsSomeAnd options.prefix (λ text. list_any is_line_break text.now ≡ true)
+IsFormFault form options Faults.LineBreak = HasLines form
+    × IsSomeAnd options.prefix (λ text. list_any is_line_break text.now ≡ true)
 IsFormFault form options Faults.Suffix = IsSome options.suffix × ¬ (HasLines form)
-IsFormFault form options Faults.SuffixBreak =
-    IsSomeAnd options.suffix (λ text. list_any is_line_break text.now ≡ true)
+IsFormFault form options Faults.SuffixBreak = HasLines form
+    × IsSomeAnd options.suffix (λ text. list_any is_line_break text.now ≡ true)
 IsFormFault form options Faults.Ranges = IsSome options.min_length × (form ≡ Ranges)
-IsFormFault form options (Faults.Length word) =
-    (options.min_length ≡ Some word) × ((n : ℕ) → ¬ (IsLengthText word.now n))
+IsFormFault form options (Faults.Length word) = (form ≢ Ranges)
+    × (options.min_length ≡ Some word) × ((n : ℕ) → ¬ (IsLengthText word.now n))
 IsFormFault form options Faults.Sets = HasNames options × ¬ (HasSets form)
 IsFormFault form options Faults.NoSet = HasSets form × ¬ (HasNames options)
 IsFormFault form options (Faults.NftName name) = (form ≡ Nft) × ¬ (IsNftName name.now)
@@ -206,28 +208,32 @@ IsFormFault form options (Faults.FrrName name) = (form ≡ Frr) × ¬ (IsFrrName
     × ((options.sets.ipv4 ≡ Some name) ⊎ (options.sets.ipv6 ≡ Some name))
 IsFormFault form options (Faults.BirdName name) = (form ≡ Bird) × ¬ (IsBirdName name.now)
     × ((options.sets.ipv4 ≡ Some name) ⊎ (options.sets.ipv6 ≡ Some name))
-IsFormFault form options Faults.OneSet =
-    IsSomeAnd options.sets.ipv4 (λ ipv4. IsSomeAnd options.sets.ipv6 (λ ipv6. ¬ (ipv4.now ≢ ipv6.now)))
+IsFormFault form options Faults.OneSet = ((form ≡ Nft) ⊎ (form ≡ Ipset) ⊎ (form ≡ Bird))
+    × IsSomeAnd options.sets.ipv4 (λ ipv4. IsSomeAnd options.sets.ipv6 (λ ipv6. ¬ (ipv4.now ≢ ipv6.now)))
 IsFormFault form options Faults.NewSet = (form ≡ Ipset)
     × IsSomeAnd options.sets.ipv4 (λ ipv4. IsSomeAnd options.sets.ipv6 (λ ipv6. ¬ (AreApart ipv4.now ipv6.now)))
 IsFormFault form options Faults.OtherFamily = HasOtherFamily options
 IsFormFault form options Faults.OtherChain =
     (form ≢ Iptables) × (IsSome options.chain ⊎ IsSome options.target)
 IsFormFault form options Faults.NoChain = (form ≡ Iptables) × ((options.chain ≡ None) ⊎ (options.target ≡ None))
-IsFormFault form options (Faults.ChainName word) = (options.chain ≡ Some word) × ¬ (IsChainName word.now)
-IsFormFault form options (Faults.TargetName word) = (options.target ≡ Some word) × ¬ (IsTargetName word.now)
-IsFormFault form options Faults.OwnTarget =
-    IsSomeAnd options.chain (λ chain. IsSomeAnd options.target (λ target. ¬ (chain.now ≢ target.now)))
+IsFormFault form options (Faults.ChainName word) =
+    (form ≡ Iptables) × (options.chain ≡ Some word) × ¬ (IsChainName word.now)
+IsFormFault form options (Faults.TargetName word) =
+    (form ≡ Iptables) × (options.target ≡ Some word) × ¬ (IsTargetName word.now)
+IsFormFault form options Faults.OwnTarget = (form ≡ Iptables)
+    × IsSomeAnd options.chain (λ chain. IsSomeAnd options.target (λ target. ¬ (chain.now ≢ target.now)))
 IsFormFault form options Faults.OneFamily = (form ≡ Iptables) × ¬ (options.ipv4_only ≢ options.ipv6_only)
 IsFormFault form options Faults.OtherMaxelem = IsSome options.maxelem × (form ≢ Ipset)
 IsFormFault form options (Faults.Maxelem word) =
-    (options.maxelem ≡ Some word) × ((n : ℕ) → ¬ (IsMaxelem word.now n))
+    (form ≡ Ipset) × (options.maxelem ≡ Some word) × ((n : ℕ) → ¬ (IsMaxelem word.now n))
 IsFormFault form options Faults.OtherLengths =
     (form ≢ Frr) × (IsSome options.lengths.ipv4 ⊎ IsSome options.lengths.ipv6)
-IsFormFault form options Faults.NoIpv4List = IsSome options.lengths.ipv4 × (options.sets.ipv4 ≡ None)
-IsFormFault form options Faults.NoIpv6List = IsSome options.lengths.ipv6 × (options.sets.ipv6 ≡ None)
-IsFormFault form options Faults.LongIpv4 = IsSomeAnd options.lengths.ipv4 (λ n. 32 < n)
-IsFormFault form options Faults.LongIpv6 = IsSomeAnd options.lengths.ipv6 (λ n. 128 < n)
+IsFormFault form options Faults.NoIpv4List =
+    (form ≡ Frr) × IsSome options.lengths.ipv4 × (options.sets.ipv4 ≡ None)
+IsFormFault form options Faults.NoIpv6List =
+    (form ≡ Frr) × IsSome options.lengths.ipv6 × (options.sets.ipv6 ≡ None)
+IsFormFault form options Faults.LongIpv4 = (form ≡ Frr) × IsSomeAnd options.lengths.ipv4 (λ n. 32 < n)
+IsFormFault form options Faults.LongIpv6 = (form ≡ Frr) × IsSomeAnd options.lengths.ipv6 (λ n. 128 < n)
 IsFormFault form options Faults.OtherDeclaration = (options.declares ≡ true) × (form ≢ Nft)
 
 -- The fault is that `--format` names no form.

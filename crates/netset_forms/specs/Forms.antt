@@ -187,14 +187,15 @@ abbrev pub HasUnnamed : AnswerForm → (SetNames → Option (Bor (List ℕ))) �
 HasUnnamed form name_of InSet family =
     (names : SetNames) × (names_in form ≡ Some names) × (name_of names ≡ None) × HasOne InSet family
 
--- Why the set was not written in the form. When memory runs out and when a write fails is not specified.
+-- Why the set was not written in the form. When memory runs out is not specified. A write fails only if the set has a
+-- text in the form.
 abbrev pub IsFormFailure : AnswerForm → ℕ → (Address → Type 0) → FormFailure → Type 0
 IsFormFailure form min_length InSet (Failures.MinLength least greatest) =
     (least ≡ min_length) × IsTooLong InSet min_length greatest
 IsFormFailure form min_length InSet Failures.NoIpv4Set = HasUnnamed form (λ names. names.ipv4) InSet IPv4
 IsFormFailure form min_length InSet Failures.NoIpv6Set = HasUnnamed form (λ names. names.ipv6) InSet IPv6
 IsFormFailure form min_length InSet Failures.Memory = Unit {0}
-IsFormFailure form min_length InSet Failures.Unwritable = Unit {0}
+IsFormFailure form min_length InSet Failures.Unwritable = (text : List ℕ) × IsFormText form min_length InSet text
 
 -- Why the set's addresses of the families were not written, as it is asked for.
 abbrev pub IsAskedFailure : FormRequest → (Address → Type 0) → FormFailure → Type 0

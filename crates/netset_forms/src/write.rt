@@ -54,8 +54,8 @@ fn write_parts<W: Write>(out: &mut W, parts: &Parts) -> io::Result<()>
 ///
 /// The error is `MinLength` if one of these addresses has a family whose prefix lengths are all below the least one
 /// that is asked for. It is `NoIpv4Set` or `NoIpv6Set` if no set is named for one of them. Then nothing is written.
-/// `Memory` says that memory ran out before anything was written. `Unwritable` says that a write failed, or the flush;
-/// then a front of the text has been written.
+/// `Memory` says that memory ran out before anything was written. `Unwritable` says that there is such a text, and a
+/// write failed, or the flush; then a front of the text has been written.
 ///
 /// ```text
 /// of 10.0.0.0 to 10.0.0.2 and ::1, for Ipv4

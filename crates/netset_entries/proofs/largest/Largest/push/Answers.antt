@@ -1,10 +1,10 @@
 use Rattle.std.proofs.Common.{refl, arith}
-use Rattle.netset_entries.proofs.NoteLaws.{push_kept, push_dropped, push_none}
+use Rattle.netset_entries.proofs.NoteLaws.{dropped_in_order, kept_in_order, none_in_order}
 use Rattle.netset_entries.proofs.largest.Largest.push.Goals as goal
 
 pub returns-then-self-gt-MOST_ENTRIES : goal.returns-then-self-gt-MOST_ENTRIES
 returns-then-self-gt-MOST_ENTRIES c =
-    push_dropped c.args.self.now _ c.drop_smallest.new.self c.args.block c.drop_smallest.ensures record {
+    dropped_in_order c.args.self.now _ c.drop_smallest.new.self c.args.block c.drop_smallest.ensures record {
       index = c.from-len.result;
       list = c.index_mut.result.now;
       longer = c.push.new.self;
@@ -19,7 +19,7 @@ returns-then-self-gt-MOST_ENTRIES c =
     } (omega arith)
 
 pub returns-else-self-gt-MOST_ENTRIES : goal.returns-else-self-gt-MOST_ENTRIES
-returns-else-self-gt-MOST_ENTRIES c = push_kept c.args.self.now _ c.args.block record {
+returns-else-self-gt-MOST_ENTRIES c = kept_in_order c.args.self.now _ c.args.block record {
   index = c.from-len.result;
   list = c.index_mut.result.now;
   longer = c.push.new.self;
@@ -35,4 +35,4 @@ returns-else-self-gt-MOST_ENTRIES c = push_kept c.args.self.now _ c.args.block r
 
 pub returns-then-len-self : goal.returns-then-len-self
 returns-then-len-self c =
-    push_none c.args.self.now c.args.block (omega (arith, c.from-len.ensures, c.prefix_len.ensures))
+    none_in_order c.args.self.now c.args.block (omega (arith, c.from-len.ensures, c.prefix_len.ensures))

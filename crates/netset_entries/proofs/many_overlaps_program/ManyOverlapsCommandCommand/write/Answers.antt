@@ -1,7 +1,7 @@
 use Rattle.std.proofs.Common.{◌≡◌, ◌∙◌, false, subst, sym, refl, inr, ap}
-use Rattle.netset_entries.specs.ManyLists.{AreReadLists}
+use Rattle.netset_entries.specs.ManyLists.{AreReadLists, AreWholeLists}
 use Rattle.netset_entries.specs.ManySteps.{are_refused, entries_in}
-use Rattle.netset_entries.proofs.ManyListLaws.{all_entries, many_outcome, some_refused}
+use Rattle.netset_entries.proofs.ManyListLaws.{after_reading, all_entries, many_outcome, some_refused, whole_lists}
 use Rattle.netset_lib.proofs.RunLaws.{whole_weaker, front_weaker}
 use Rattle.netset_entries.proofs.many_overlaps_program.ManyOverlapsCommandCommand.write.Goals as goal
 
@@ -51,3 +51,15 @@ returns-clause-front g c =
           (g.W.Write.contents c.args.out.now) (g.W.Write.contents c.write_many_overlaps.new.out)
           (c.in-Err-write_many_overlaps.ensures.front refl),
     )
+
+pub returns-in-Err-write_many_overlaps-clause-failure : goal.returns-in-Err-write_many_overlaps-clause-failure
+returns-in-Err-write_many_overlaps-clause-failure g c =
+    let of = c.args.self in
+    let read = c.as_slice-2.result.now in
+    let none : are_refused read ≡ false
+    = ap are_refused (c.as_slice-2.ensures.value ∙ sym c.as_slice.ensures.value) ∙ sym c.are_refused.ensures
+    ∙ c.if-are_refused.false in
+    after_reading (AreWholeLists of.grammar of.lists.now)
+    (whole_lists of.grammar of.lists.now read
+    (subst (AreReadLists of.grammar of.lists.now) (sym c.as_slice-2.ensures.value) c.in-Ok.ensures) none)
+    c.in-Err-write_many_overlaps.failure

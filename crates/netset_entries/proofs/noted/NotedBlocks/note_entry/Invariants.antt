@@ -1,5 +1,6 @@
--- The networks that are left are blocks of the entry, and the others were noted, unless they are too small.
+-- The networks that are left are blocks of the entry, in order, and the others were noted, unless they are too small.
 use Rattle.std.proofs.Common.{◌≡◌, Contains, string_bytes}
+use Rattle.ipnet_base.specs.Blocks.{IsAscending}
 use Rattle.ipnet_base.specs.Network.{Network}
 use Rattle.ipnet.specs.SubnetsLeft.{ip_subnets_left}
 use Rattle.netset_entries.specs.NotedEntries.{IsTitledBlock, Title, title_from}
@@ -12,5 +13,6 @@ invariant-loop-network l = record {
       → IsTitledBlock l.fn.self.grammar n (title_from l.found.text.now (string_bytes l.comment)) l.line;
   one : (n : Network) → (other : Title) → IsTitledBlock l.fn.self.grammar n other l.line
       → other ≡ title_from l.found.text.now (string_bytes l.comment);
+  ascending : IsAscending (ip_subnets_left l.network-iterator);
   reads : ReadsPart l.fn.self l.self l.line (ip_subnets_left l.network-iterator);
 }

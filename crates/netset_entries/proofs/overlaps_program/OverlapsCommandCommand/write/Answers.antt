@@ -1,6 +1,7 @@
-use Rattle.std.proofs.Common.{◌≡◌, ◌⊎◌, refl, ap, Ok, inl, inr}
+use Rattle.std.proofs.Common.{◌≡◌, ◌⊎◌, refl, sym, ap, subst, Ok, inl, inr}
 use Rattle.netset_lib.proofs.RunLaws.{whole_weaker, front_weaker}
-use Rattle.netset_entries.proofs.TwoListLaws.{text_of_asked, overlap_outcome}
+use Rattle.netset_entries.specs.WriteFailures.{IsListsFailure}
+use Rattle.netset_entries.proofs.TwoListLaws.{cut_of_asked, text_of_asked, overlap_outcome}
 use Rattle.netset_entries.proofs.overlaps_program.OverlapsCommandCommand.write.Goals as goal
 
 pub returns-in-Ok-clause-whole : goal.returns-in-Ok-clause-whole
@@ -26,3 +27,9 @@ returns-clause-front g c =
             (g.W.Write.contents c.args.out.now) (g.W.Write.contents c.write_overlaps.new.out) cut,
       )
     ]
+
+pub returns-clause-failure : goal.returns-clause-failure
+returns-clause-failure g c =
+    let of = c.args.self in
+    subst (IsListsFailure of.grammar of.list.now of.other) (sym c.from.ensures)
+    (cut_of_asked of.grammar of.list.now of.other c.in_ok-asked.asked c.in_ok-asked.ensures.asked c.in-Err.failure)

@@ -18,6 +18,7 @@ pub returns-in-None : goal.returns-in-None
 returns-in-None c = record {
   good = tt;
   fault = (
+    c.in_default-form.not-Ranges,
     c.in-Some.is,
     none_read (IsLengthText c.in-Some.word.now) c.read_length.result c.read_length.ensures c.in-None.is,
   );

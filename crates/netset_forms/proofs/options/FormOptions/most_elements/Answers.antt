@@ -12,5 +12,8 @@ returns-in-Some-read_maxelem-clause-good c =
     )
 
 pub returns-in-None-clause-fault : goal.returns-in-None-clause-fault
-returns-in-None-clause-fault c =
-    (c.in-Some.is, none_read (IsMaxelem c.in-Some.word.now) c.read_maxelem.result c.read_maxelem.ensures c.in-None.is)
+returns-in-None-clause-fault c = (
+  c.in-Ipset.is,
+  c.in-Some.is,
+  none_read (IsMaxelem c.in-Some.word.now) c.read_maxelem.result c.read_maxelem.ensures c.in-None.is,
+)
