@@ -1,7 +1,8 @@
 -- The network that a picture shows, the numbers of the options, and the pictures.
 use Rattle.std.specs.Prelude.{◌≡◌, ◌↔◌, ℕ, ◌+◌, List, [], ◌∷◌, Bool, false, true, All, IsPermutation, map, take}
 use Rattle.std.specs.Prelude.{string_bytes}
-use Rattle.std.specs.List.Sorted.{IsNonDecreasingBy}
+use Rattle.std.specs.List.Sorted.{IsNonDecreasingBy, IsStableByKey}
+use Rattle.std.specs.Ordering.{nat_cmp}
 use Rattle.ipnet_base.specs.Address.{Address}
 use Rattle.ipnet_base.specs.Blocks.{AreMaximalBlocks}
 use Rattle.ipnet_base.specs.Network.{Network}
@@ -92,7 +93,8 @@ pub record IsPlainEntry (e : MapEntry) : Type 0 where
   pub title : string_bytes e.title ≡ canonical_text (ip_network e.network)
   pub comment : string_bytes e.comment ≡ []
 
--- The entries are the networks of the set in the frame, the largest first; or the first 1,500, if there are more.
+-- The entries are the networks of the set in the frame, the largest first, and networks of one size in their order; or
+-- the first 1,500, if there are more.
 -- Example: in 10.0.0.0/28, 10.0.0.0/29 and then 10.0.0.8/31 of 10.0.0.0 to 10.0.0.9 and 10.1.0.0.
 pub record AreEntriesIn (InSet : Address → Type 0) (frame : Network) (entries : List MapEntry) : Type 0 where
   pub part : IpSet
@@ -102,6 +104,7 @@ pub record AreEntriesIn (InSet : Address → Type 0) (frame : Network) (entries 
   pub sorted : List IpNet
   pub are_same : IsPermutation networks sorted
   pub is_sorted : IsNonDecreasingBy (λ n. (ip_network n).prefix_len) sorted
+  pub is_stable : IsStableByKey (λ n. (ip_network n).prefix_len) nat_cmp networks sorted
   pub are : map (λ e. e.network) entries ≡ take 1500 sorted
   pub are_plain : All IsPlainEntry entries
 

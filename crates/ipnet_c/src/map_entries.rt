@@ -36,8 +36,8 @@ fn entries_of(alloc: Global, networks: Vec<IpNet>) -> Result<Vec<MapEntry>, Allo
     Ok(entries)
 }
 
-/// Returns the networks of the set in the frame as entries: the largest first, and at most 1,500. Fails only if memory
-/// runs out.
+/// Returns the networks of the set in the frame as entries: the largest first, networks of one size in their order, and
+/// at most 1,500. Fails only if memory runs out.
 pub(crate) fn entries_in(
     alloc: Global,
     set: &IpSet,

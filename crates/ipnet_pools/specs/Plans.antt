@@ -1,16 +1,23 @@
 -- Plans: networks of given prefix lengths in a set of addresses, all at once.
-use Rattle.std.specs.Prelude.{◌≡◌, ℕ, List, map, All, ◌++◌}
+use Rattle.std.specs.Prelude.{◌≡◌, ℕ, List, [], ◌∷◌, map, All, ◌++◌, ⊤}
 use Rattle.ipnet_base.specs.Address.{Family, Address}
 use Rattle.ipnet_base.specs.Network.{Network}
 use Rattle.ipnet_base.specs.Blocks.{IsInside, ArePairwiseDisjoint}
-use Rattle.ipnet_pools.specs.Fits.{WithoutAll}
+use Rattle.ipnet_pools.specs.Fits.{Without, WithoutAll, IsBestFit}
 use Rattle.ipnet_pools.specs.Placements.{Request, request_of, CanPlace}
 
 -- A request of the family for each of the prefix lengths. Example: a /26 and a /25 of IPv4 for the lengths 26 and 25.
 abbrev pub requests_of : Family → List ℕ → List Request
 requests_of family lengths = map (λ p. (family, p)) lengths
 
--- Networks of the family in the set, one for each prefix length and in the order of the lengths.
+-- Each network is the best fit for its length in the addresses that the networks before it leave.
+-- Example: 10.0.0.0/26, 10.0.0.128/25, 10.0.0.64/27 in 10.0.0.0/24: the /26 leaves 10.0.0.64/26 and 10.0.0.128/25.
+abbrev pub AreBestFits : (Address → Type 0) → List Network → Type 0
+AreBestFits InSet [] = ⊤
+AreBestFits InSet (n ∷ networks) = IsBestFit InSet n.family n.prefix_len n × AreBestFits (Without InSet n) networks
+
+-- Networks of the family in the set, one for each prefix length and in the order of the lengths. A set has at most one
+-- plan for a list of lengths.
 -- Example: 10.0.0.0/26, 10.0.0.128/25, 10.0.0.64/27 for the lengths 26, 25 and 27 in 10.0.0.0/24.
 pub record IsPlan (InSet : Address → Type 0) (family : Family) (lengths : List ℕ) (networks : List Network)
     : Type 0 where
@@ -20,6 +27,8 @@ pub record IsPlan (InSet : Address → Type 0) (family : Family) (lengths : List
   pub inside : All (IsInside InSet 0) networks
   -- No two of the networks share an address.
   pub disjoint : ArePairwiseDisjoint networks
+  -- Each network is the best fit in what the networks before it leave.
+  pub fits : AreBestFits InSet networks
 
 -- The networks keep room: whatever further requests can be placed in the set together with the lengths can still be
 -- placed in the addresses that the networks leave.

@@ -93,8 +93,9 @@ fn plan(alloc: Global, set: &IpSet, family: IpNet, lengths: &[u8]) -> Result<Vec
 ///
 /// It succeeds exactly if such networks exist, unless memory runs out: the error is `PrefixLen` if a length is above
 /// 32, and otherwise `Exhausted` if there is no room for all the networks. If the set has no room even for one of the
-/// lengths by itself, the error is never `Memory`. The plan keeps room: whatever further networks could be placed
-/// beside networks of these lengths can still be placed.
+/// lengths by itself, the error is never `Memory`. Each network is the best fit for its length in the addresses that
+/// the networks before it leave, so there is one plan. It keeps room: whatever further networks could be placed beside
+/// networks of these lengths can still be placed.
 ///
 /// ```text
 /// lengths 26, 25, 27 in 10.0.0.0/24: 10.0.0.0/26, 10.0.0.128/25, 10.0.0.64/27

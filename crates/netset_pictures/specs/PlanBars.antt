@@ -30,9 +30,8 @@ pub record IsBarOfPlan (InSet : Address → Type 0) (family : Family) (networks 
   pub are_taken : (x : Address) → IsMember taken x ↔ IsTaken InSet networks frame x
   pub bar : IsBar (IsMember taken) frame form.row_width form.marks text
 
--- The text is the bar of networks in the set: one for each prefix length, no two of which share an address. Whatever
--- further networks could be placed beside these lengths can still be placed. The text is empty if the set has no
--- address of the family.
+-- The text is the bar of the plan of the prefix lengths in the set, of which there is one. Whatever further networks
+-- could be placed beside these lengths can still be placed. The text is empty if the set has no address of the family.
 pub record IsPlanBarText (InSet : Address → Type 0) (families : Families) (lengths : List ℕ) (form : BarForm)
     (text : List ℕ) : Type 0 where
   pub family : Family

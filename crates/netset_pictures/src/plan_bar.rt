@@ -71,7 +71,7 @@ pub struct PlanBarRequest<'a> {
     pub form: BarForm,
 }
 
-/// Returns the bar of the addresses that are not free after a plan of `plan_networks`, in the smallest network around
+/// Returns the bar of the addresses that are not free after the plan of `plan_networks`, in the smallest network around
 /// the addresses of the set. It is empty if the set has no address of the plan's family. It fails as `plan_networks`
 /// does, and if memory runs out.
 ///

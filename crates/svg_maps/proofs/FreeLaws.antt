@@ -11,8 +11,8 @@ use Rattle.ipnet_base.specs.Network.{Network, IsSubnetOf}
 use Rattle.ipnet_base.proofs.ListLaws.{contains_nil, contains_here, contains_there, contains_cases, all_from_members}
 use Rattle.ipnet_base.proofs.UniqueLaws.{AreMaximalBlocks-same_set}
 use Rattle.ipnet_bars.specs.Summaries.{IsFree}
-use Rattle.svg_maps.specs.declared.outline.Outline.{Outline}
-use Rattle.svg_maps.specs.FreeOutlines.{with_len, largest_first, AreOutlinesOf}
+use Rattle.svg_maps.specs.declared.overlay.Overlay.{Overlay}
+use Rattle.svg_maps.specs.FreeOutlines.{with_len, largest_first, IsShownFree}
 
 -- one network more
 one_with_len : (n : Network) (len : ℕ) (b : Bool) → nat_eq n.prefix_len len ≡ b
@@ -119,23 +119,35 @@ all_large frame depth blocks =
     (largest_first blocks frame.prefix_len (depth + 1))
     (λ n m. let found = (largest_first_has blocks frame.prefix_len (depth + 1) n m).1 in omega (arith, found))
 
--- sets with the same addresses have the same outlines
-pub outlines_same : (shows_free : Bool) (First Second : Address → Type 0) (frame : Network) (depth : ℕ)
-    (outlines : List Outline) → ((x : Address) → First x ↔ Second x)
-    → AreOutlinesOf shows_free First frame depth outlines → AreOutlinesOf shows_free Second frame depth outlines
-outlines_same false First Second frame depth outlines same h = h
-outlines_same true First Second frame depth outlines same h = record {
+-- sets with the same addresses have the same free blocks, and overlays of them
+blocks_same : (First Second : Address → Type 0) (frame : Network) (blocks : List Network)
+    → ((x : Address) → First x ↔ Second x) → AreMaximalBlocks (IsFree First frame) 0 blocks
+    → AreMaximalBlocks (IsFree Second frame) 0 blocks
+blocks_same First Second frame blocks same are =
+    AreMaximalBlocks-same_set (IsFree First frame) (IsFree Second frame) 0 blocks
+    (λ x. (
+      λ f. record { in_block = f.in_block; out = λ s. f.out ((same x).1 s) },
+      λ f. record { in_block = f.in_block; out = λ s. f.out ((same x).0 s) },
+    )) are
+
+pub shown_same : (shows_free : Bool) (First Second : Address → Type 0) (frame : Network) (depth : ℕ) (o : Overlay)
+    → ((x : Address) → First x ↔ Second x) → IsShownFree shows_free First frame depth o
+    → IsShownFree shows_free Second frame depth o
+shown_same false First Second frame depth o same h = h
+shown_same true First Second frame depth o same h = record {
+  outlines = record {
+    blocks = h.outlines.blocks;
+    are_blocks = blocks_same First Second frame h.outlines.blocks same h.outlines.are_blocks;
+    each_outline = h.outlines.each_outline;
+    each = h.outlines.each;
+    largest_outline = h.outlines.largest_outline;
+    largest = h.outlines.largest;
+    all = h.outlines.all;
+  };
   blocks = h.blocks;
-  are_blocks = AreMaximalBlocks-same_set (IsFree First frame) (IsFree Second frame) 0 h.blocks
-      (λ x. (
-        λ f. record { in_block = f.in_block; out = λ s. f.out ((same x).1 s) },
-        λ f. record { in_block = f.in_block; out = λ s. f.out ((same x).0 s) },
-      )) h.are_blocks;
-  each_outline = h.each_outline;
-  each = h.each;
-  largest_outline = h.largest_outline;
-  largest = h.largest;
-  all = h.all;
+  are_blocks = blocks_same First Second frame h.blocks same h.are_blocks;
+  lines = h.lines;
+  note = h.note;
 }
 
 -- the first of a list of chosen networks

@@ -10,12 +10,12 @@ use Rattle.ipnet_routes.specs.declared.routes.RouteTable.{RouteTable}
 use Rattle.ipnet_routes.specs.Routes.{Route, networks_of, ip_networks, AreWithin}
 use Rattle.ipnet_routes.specs.RoutesOf.{routes_of}
 use Rattle.ipnet_routes.proofs.RouteLaws.{network_of_route, same_networks}
-use Rattle.svg_maps.specs.declared.outline.Outline.{Outline}
 use Rattle.svg_maps.specs.declared.overlay.Look.{Look}
+use Rattle.svg_maps.specs.declared.overlay.Overlay.{Overlay}
 use Rattle.svg_maps.specs.declared.square.Counted.{Counted}
 use Rattle.svg_maps.specs.NamedOutlines.{name_part}
-use Rattle.svg_maps.specs.Overlays.{AreOutlinesOver}
-use Rattle.svg_maps.proofs.FreeLaws.{outlines_same}
+use Rattle.svg_maps.specs.Overlays.{IsOverlayOver}
+use Rattle.svg_maps.proofs.FreeLaws.{shown_same}
 
 -- a title without a name
 pub without_name : (text name title : List ℕ) → true ≡ (length name == 0) → title ≡ text
@@ -60,16 +60,18 @@ within_named {V} table within frame are n m =
     all_at P (networks_of within) (All-map P (λ (r : Route V). r.0) within
     (all_from_members (λ (r : Route V). P r.0) within (λ r c. named_itself table r ((are.members r).0 c).0))) n m
 
--- sets with the same addresses have the same outlines over their maps
+-- sets with the same addresses have the same overlays
 pub over_same : (look : Look) (counted : List Counted) (First Second : Address → Type 0) (frame : Network) (depth : ℕ)
-    (outlines : List Outline) → ((x : Address) → First x ↔ Second x)
-    → AreOutlinesOver look counted First frame depth outlines → AreOutlinesOver look counted Second frame depth outlines
-over_same look counted First Second frame depth outlines same h = record {
+    (o : Overlay) → ((x : Address) → First x ↔ Second x)
+    → IsOverlayOver look counted First frame depth o → IsOverlayOver look counted Second frame depth o
+over_same look counted First Second frame depth o same h = record {
   entries = h.entries;
   are_entries = h.are_entries;
   named = h.named;
   are_named = h.are_named;
   free = h.free;
-  are_free = outlines_same look.shows_free First Second frame depth h.free same h.are_free;
-  all = h.all;
+  is_free = shown_same look.shows_free First Second frame depth h.free same h.is_free;
+  outlines = h.outlines;
+  lines = h.lines;
+  note = h.note;
 }

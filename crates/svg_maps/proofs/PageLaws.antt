@@ -118,9 +118,9 @@ five_joined old a b c d e t1 t2 t3 t4 t5 e1 e2 e3 e4 e5 =
     e5 ∙ ap (λ z. z ++ e) (e4 ∙ ap (λ z. z ++ d) (e3 ∙ ap (λ z. z ++ c) (e2 ∙ ap (λ z. z ++ b) e1)))
     ∙ five_parts old a b c d e
 
--- five texts in a row
-pub five_in_a_row : (a b c d e t1 t2 t3 t4 t5 : List ℕ) → t1 ≡ a → t2 ≡ t1 ++ b → t3 ≡ t2 ++ c → t4 ≡ t3 ++ d
-    → t5 ≡ t4 ++ e → t5 ≡ a ++ b ++ c ++ d ++ e
+-- five lists in a row
+pub five_in_a_row : {X : Type 0} (a b c d e t1 t2 t3 t4 t5 : List X) → t1 ≡ a → t2 ≡ t1 ++ b → t3 ≡ t2 ++ c
+    → t4 ≡ t3 ++ d → t5 ≡ t4 ++ e → t5 ≡ a ++ b ++ c ++ d ++ e
 five_in_a_row a b c d e t1 t2 t3 t4 t5 e1 e2 e3 e4 e5 =
     e5 ∙ ap (λ z. z ++ e) (e4 ∙ ap (λ z. z ++ d) (e3 ∙ ap (λ z. z ++ c) (e2 ∙ ap (λ z. z ++ b) e1)))
 

@@ -1,17 +1,22 @@
 -- Outlines of entries: areas with the titles of the entries of lists.
-use Rattle.std.specs.Prelude.{◌≡◌, ◌⊎◌, ◌≤◌, ℕ, ◌+◌, ◌^◌, List, [], ◌∷◌, ◌++◌, Option, Some, None, String}
-use Rattle.std.specs.Prelude.{codes, string_bytes}
+use Rattle.std.specs.Prelude.{◌≡◌, ◌⊎◌, ◌≤◌, ℕ, ◌+◌, ◌-◌, ◌^◌, List, [], ◌∷◌, ◌++◌, length, Option, Some, None}
+use Rattle.std.specs.Prelude.{String, codes, string_bytes}
 use Rattle.std.specs.Global.{Global}
 use Rattle.ipnet_base.specs.Network.{Network, IsSubnetOf}
+use Rattle.ipnet.specs.CanonicalTexts.{canonical_text}
 use Rattle.ipnet.specs.NetworkOf.{ip_network}
 use Rattle.ipnet_maps.specs.declared.layout.Rectangle.{Rectangle}
 use Rattle.ipnet_maps.specs.Cuts.{columns_in}
 use Rattle.ipnet_maps.specs.Places.{IsRectangleIn}
 use Rattle.ipnet_maps.specs.Squares.{square_cuts}
+use Rattle.svg_maps.specs.declared.entry.MapEntries.{MapEntries}
 use Rattle.svg_maps.specs.declared.entry.MapEntry.{MapEntry}
 use Rattle.svg_maps.specs.declared.outline.Outline.{Outline}
 use Rattle.svg_maps.specs.declared.outline.OutlineClass.TheVariants.{Entry}
+use Rattle.svg_maps.specs.declared.overlay.Overlay.{Overlay}
 use Rattle.svg_maps.specs.declared.square.Counted.{Counted}
+use Rattle.svg_maps.specs.Captions.{left_out_text}
+use Rattle.svg_maps.specs.Names.{IsEndOf}
 use Rattle.svg_maps.specs.Pages.{cell_pixels, pixel_rectangle}
 use Rattle.svg_maps.specs.Squares.{IsTitle}
 
@@ -50,7 +55,8 @@ abbrev pub IsTitledBy : Network → List Counted → List ℕ → Option (String
 IsTitledBy n counted text None = ⊥
 IsTitledBy n counted text (Some title) = IsEntryTitle n counted text (string_bytes title)
 
--- The outline is of the entry: its area, its title, and the comment of the entry, which is written in it.
+-- The outline is of the entry: its area, its title, the end of its network's text, and the comment of the entry, which
+-- are written in it.
 -- Example: the title `10.20.168.0/22: dhcp-246 (10.20.168.0/22, 1,024 addresses, 1,024 addresses used (100.0 %))` at
 -- the rectangle of 10.20.168.0/22.
 pub record IsEntryOutline (counted : List Counted) (frame : Network) (depth : ℕ) (e : MapEntry) (o : Outline) : Type 0
@@ -58,6 +64,7 @@ pub record IsEntryOutline (counted : List Counted) (frame : Network) (depth : �
     pub class : o.class ≡ Entry
     pub area : IsRectangleIn frame depth (ip_network e.network) o.rectangle
     pub title : IsTitledBy (ip_network e.network) counted (string_bytes e.title) o.title
+    pub label : IsEndOf (canonical_text (ip_network e.network)) (string_bytes o.label)
     pub comment : string_bytes o.comment ≡ string_bytes e.comment
 
 -- The outlines are of the entries that are shown, in order: each of these has one, and no other entry has.
@@ -73,3 +80,12 @@ AreEntryOutlines (e ∷ entries) counted frame depth outlines =
 abbrev pub IsFoundFor : List Counted → Network → ℕ → MapEntry → Option Outline → Type 0
 IsFoundFor counted frame depth e None = ¬ (IsShownEntry frame depth e)
 IsFoundFor counted frame depth e (Some o) = IsShownEntry frame depth e × IsEntryOutline counted frame depth e o
+
+-- The overlay has the areas of the entries that are shown, and its note says how many networks of entries have neither
+-- an area nor a line.
+pub record IsEntryOverlay (entries : MapEntries) (counted : List Counted) (frame : Network) (depth : ℕ) (o : Overlay)
+    : Type 0 where
+  pub outlines : AreEntryOutlines entries.titled.now counted frame depth o.outlines.items
+  pub note : string_bytes o.note ≡ left_out_text
+      (codes "Networks of entries without a text under the mouse (too small, too many or outside)")
+      (entries.count - (length o.outlines.items + length o.lines.items))

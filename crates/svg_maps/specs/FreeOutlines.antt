@@ -1,16 +1,18 @@
--- Outlines of free blocks: which networks are outlined, and what each outline has.
-use Rattle.std.specs.Prelude.{◌≡◌, ℕ, zero, suc, ◌+◌, List, [], ◌++◌, filter, nat_eq, take, codes, decimal, None}
-use Rattle.std.specs.Prelude.{Bool, true, false, string_bytes}
-use Rattle.std.specs.List.{AllZip}
+-- Outlines of free blocks: which networks are outlined, what each outline has, and what the page says of them.
+use Rattle.std.specs.Prelude.{◌≡◌, ℕ, zero, suc, ◌+◌, ◌-◌, ◌==◌, List, [], ◌++◌, length, map, filter, nat_eq, take}
+use Rattle.std.specs.Prelude.{Bool, true, false, Option, None, codes, decimal, string_bytes}
+use Rattle.std.specs.List.{AllZip, slice_split}
 use Rattle.ipnet_base.specs.Address.{Address}
 use Rattle.ipnet_base.specs.Blocks.{AreMaximalBlocks}
 use Rattle.ipnet_base.specs.Network.{Network}
 use Rattle.ipnet.specs.CanonicalTexts.{canonical_text}
-use Rattle.ipnet_bars.specs.Summaries.{IsFree}
+use Rattle.ipnet_bars.specs.Summaries.{IsFree, free_line, IsLargest, largest_line}
 use Rattle.ipnet_maps.specs.Places.{IsRectangleIn}
 use Rattle.svg_maps.specs.declared.outline.Outline.{Outline}
 use Rattle.svg_maps.specs.declared.outline.OutlineClass.{OutlineClass}
 use Rattle.svg_maps.specs.declared.outline.OutlineClass.TheVariants.{Free, LargestFree}
+use Rattle.svg_maps.specs.declared.overlay.Overlay.{Overlay}
+use Rattle.svg_maps.specs.Captions.{AreCutLines, left_out_text}
 
 -- The networks of this prefix length, in order. Example: 10.0.0.12/30 of 10.0.0.10/31 and 10.0.0.12/30, for 30.
 abbrev pub with_len : List Network → ℕ → List Network
@@ -64,7 +66,25 @@ pub record AreFreeOutlines (InSet : Address → Type 0) (frame : Network) (depth
         (take 1 (largest_first blocks frame.prefix_len (depth + 1))) largest_outline
     pub all : outlines ≡ each_outline ++ largest_outline
 
--- The outlines of a map that shows the free blocks, or of one that does not.
-abbrev pub AreOutlinesOf : Bool → (Address → Type 0) → Network → ℕ → List Outline → Type 0
-AreOutlinesOf false InSet frame depth outlines = outlines ≡ []
-AreOutlinesOf true InSet frame depth outlines = AreFreeOutlines InSet frame depth outlines
+-- The lines of a legend about the free blocks of a network: how many there are, and the largest, as below a bar.
+-- Example: `free blocks: 2, 1 of /30, 1 of /31` and `largest free: 10.0.0.12/30`, for 10.0.0.10/31 and 10.0.0.12/30.
+pub record AreFreeLines (n : Network) (blocks : List Network) (lines : List (List ℕ)) : Type 0 where
+  pub largest : Option Network
+  pub is_largest : IsLargest blocks largest
+  pub cut : AreCutLines (slice_split (λ b. b == 10) (free_line n blocks ++ largest_line largest)) lines
+
+-- The overlay shows the free blocks of the frame: it has their outlines and the lines about them, and its note says how
+-- many have no outline.
+pub record IsFreeOverlay (InSet : Address → Type 0) (frame : Network) (depth : ℕ) (o : Overlay) : Type 0 where
+  pub outlines : AreFreeOutlines InSet frame depth o.outlines.items
+  pub blocks : List Network
+  pub are_blocks : AreMaximalBlocks (IsFree InSet frame) 0 blocks
+  pub lines : AreFreeLines frame blocks (map string_bytes o.lines.items)
+  -- the largest block has two outlines
+  pub note : string_bytes o.note ≡ left_out_text (codes "Free blocks without an outline")
+      (length blocks - (length o.outlines.items - 1))
+
+-- The overlay of a map that shows the free blocks, or of one that does not.
+abbrev pub IsShownFree : Bool → (Address → Type 0) → Network → ℕ → Overlay → Type 0
+IsShownFree false InSet frame depth o = (o.outlines.items ≡ []) × (o.lines.items ≡ []) × (string_bytes o.note ≡ [])
+IsShownFree true InSet frame depth o = IsFreeOverlay InSet frame depth o

@@ -2,7 +2,10 @@
 pub mod ClassTexts
 pub mod Pages
 pub mod Counts
+pub mod Names
 pub mod Squares
+pub mod Labels
+pub mod Captions
 pub mod Maps
 pub mod Legends
 pub mod Styles

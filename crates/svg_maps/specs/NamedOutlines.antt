@@ -1,5 +1,5 @@
 -- Outlines of networks with names: which networks are outlined, and what each outline has.
-use Rattle.std.specs.Prelude.{◌≡◌, ℕ, ◌+◌, List, [], ◌∷◌, ◌++◌, take, flat_map, Contains}
+use Rattle.std.specs.Prelude.{◌≡◌, ℕ, ◌+◌, ◌-◌, List, [], ◌∷◌, ◌++◌, length, take, flat_map, Contains}
 use Rattle.std.specs.Prelude.{Option, Some, None, String, chars, codes, encode_utf8, nat_eq, string_bytes}
 use Rattle.std.specs.Prelude.{if◌then◌else◌}
 use Rattle.std.specs.Borrow.{Bor}
@@ -12,6 +12,8 @@ use Rattle.ipnet_maps.specs.Places.{IsRectangleIn}
 use Rattle.ipnet_bars.specs.ShortTexts.{IsShortened}
 use Rattle.svg_maps.specs.declared.outline.Outline.{Outline}
 use Rattle.svg_maps.specs.declared.outline.OutlineClass.TheVariants.{Named}
+use Rattle.svg_maps.specs.declared.overlay.Overlay.{Overlay}
+use Rattle.svg_maps.specs.Captions.{left_out_text}
 use Rattle.svg_maps.specs.FreeOutlines.{largest_first}
 
 -- The character, or a blank for a tab, which is 9.
@@ -66,3 +68,10 @@ pub record AreNamedOutlines (names : List (Route (Bor (List ℕ)))) (frame : Net
   pub are_within : AreWithin names frame within
   pub each : AllZip (IsNamedOutline names frame depth)
       (take 1500 (largest_first (networks_of within) frame.prefix_len (depth + 1))) outlines
+
+-- The overlay has these outlines, and its note says how many of the names have neither an outline nor a line.
+pub record IsNamedOverlay (names : List (Route (Bor (List ℕ)))) (frame : Network) (depth : ℕ) (o : Overlay) : Type 0
+  where
+    pub outlines : AreNamedOutlines names frame depth o.outlines.items
+    pub note : string_bytes o.note ≡ left_out_text (codes "Named networks without an outline")
+        (length names - (length o.outlines.items + length o.lines.items))

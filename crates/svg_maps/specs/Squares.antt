@@ -12,6 +12,7 @@ use Rattle.ipnet_bars.specs.Parts.{block_size}
 use Rattle.ipnet_bars.specs.Shares.{share_of}
 use Rattle.ipnet_maps.specs.Places.{IsRectangleIn}
 use Rattle.svg_maps.specs.Counts.{quantity_text}
+use Rattle.svg_maps.specs.Names.{IsNameOf}
 use Rattle.svg_maps.specs.declared.square.Counted.{Counted}
 use Rattle.svg_maps.specs.declared.chart.Square.{Square}
 
@@ -41,9 +42,10 @@ pub record IsTitle (n : Network) (counted : List Counted) (text : List ℕ) : Ty
   pub each : AreCountTexts n counted counts
   pub spelled : text ≡ title_start n ++ counts
 
--- The square shows the network: its area and its title are the network's.
+-- The square shows the network: its area, its name and its title are the network's.
 pub record IsSquareOf (frame : Network) (depth : ℕ) (counted : List Counted) (n : Network) (s : Square) : Type 0 where
   pub area : IsRectangleIn frame depth n s.rectangle
+  pub name : IsNameOf n frame.prefix_len (string_bytes s.name)
   pub title : IsTitle n counted (string_bytes s.title)
 
 -- The number of bits of an address that a map of this depth shows in the octet in which it begins.

@@ -1,9 +1,13 @@
 //! The texts beside a map: its title, its foot and its legend.
-ghost use Rattle.std.specs.Prelude.{◌≡◌, ◌+◌, ◌^◌, ◌≤◌, IfOk, OnOk, map};
+ghost use Rattle.std.specs.Prelude.{◌≡◌, ◌+◌, ◌∷◌, [], ◌++◌, ◌^◌, ◌≤◌, IfOk, OnOk, map, string_bytes};
 ghost use Rattle.ipnet_base.specs.Address.{width};
 ghost use Rattle.ipnet.specs.NetworkOf.{ip_network};
 ghost use Rattle.ipnet_maps.specs.Cuts.{columns_in, rows_in};
 ghost use Rattle.ipnet_maps.specs.Squares.{square_cuts};
+ghost use Rattle.svg_maps.specs.Captions.{map_title, joined_lines, ringless_text, foot_text, caption_of};
+ghost use Rattle.svg_maps.specs.Captions.{line_captions, note_captions, AreCaptions};
+ghost use Rattle.svg_maps.specs.declared.label.Ink.TheVariants.{Head};
+ghost use Rattle.svg_maps.specs.Labels.{has_heads};
 ghost use Rattle.svg_maps.specs.Legends.{HasLine, row_of, legend_rows};
 ghost use Rattle.svg_maps.specs.Pages.{cell_pixels, FitsPage};
 
@@ -43,50 +47,78 @@ pub(crate) struct PageTexts {
 }
 
 /// The title of the page.
-fn page_title(alloc: Global, frame: &IpNet, form: MapForm<'_>) -> Result<String, AllocError> {
+fn page_title(alloc: Global, frame: &IpNet, form: MapForm<'_>) -> Result<String, AllocError>
+    ensures { IfOk result (λ title.
+        string_bytes title ≡ map_title form.entry.heading.now (ip_network frame.now)) }
+{
     let heading = form.heading;
     let network = frame.to_text();
     let network = network.as_str();
     format!(in alloc; "{heading} {network}")
 }
 
-/// The foot of the page without its last line, in lines, each of which ends after a sentence.
+/// The captions of a page that has only its title.
+fn head_of(alloc: Global, title: &str) -> Result<Vec<Label>, AllocError>
+    ensures { IfOk result (λ captions. map caption_of captions.items ≡ (Head, title.now) ∷ []) }
+{
+    let mut captions = Vec::new(alloc);
+    let words = String::from_str(alloc, title)?;
+    captions.push(label_at(Ink::Head, EDGE, 26, words))?;
+    Ok(captions)
+}
+
+/// Appends what the foot says of small parts without a ring.
+fn push_ringless(text: &mut String, without_ring: usize) -> Result<(), AllocError>
+    ensures { OnOk result (string_bytes text.new ≡ string_bytes text.old ++ ringless_text without_ring) }
+{
+    if without_ring == 0 {
+        return Ok(());
+    }
+    write!(text, " Small parts without a ring: {without_ring}.")
+}
+
+/// The foot of the page without its last line.
 fn foot_of(
     alloc: Global,
     frame: &IpNet,
     depth: u8,
-    form: MapForm<'_>,
+    more: &str,
     without_ring: usize,
-) -> Result<Vec<String>, AllocError>
+) -> Result<String, AllocError>
     requires few { depth ≤ 20 }
     requires fits { (ip_network frame.now).prefix_len + depth ≤ width (ip_network frame.now).family }
+    ensures { IfOk result (λ text.
+        string_bytes text ≡ foot_text (ip_network frame.now) depth more.now without_ring) }
 {
     let square_len = frame.prefix_len() + first_bits_of(frame.prefix_len(), depth);
     let cell_len = frame.prefix_len() + depth;
-    let more = form.overlay.note.as_str();
     let mut text = String::from_str(alloc, "Reads like text: left to right, then down.")?;
     write!(
         text,
         " A square is a /{square_len}. The smallest dot is a /{cell_len}.{more}"
     )?;
-    if without_ring > 0 {
-        write!(text, " Small parts without a ring: {without_ring}.")?;
-    }
-    lines_of(alloc, text.as_str(), ". ")
+    push_ringless(&mut text, without_ring)?;
+    Ok(text)
 }
 
 /// Whether the map has heads of rows and columns: its squares are all values of an octet.
-fn has_heads(frame_len: u8, depth: u8) -> bool {
+fn has_heads(frame_len: u8, depth: u8) -> bool
+    ensures { result ≡ has_heads frame_len depth }
+{
     depth >= 6 && frame_len % 8 <= 2
 }
 
 /// Appends the lines, one below the other from this row.
+#[tactic(auto, using(crate::proofs::CaptionLaws::one_caption_more))]
 fn push_lines(
     captions: &mut Vec<Label>,
     ink: Ink,
     lines: &[String],
     first_row: u32,
-) -> Result<(), AllocError> {
+) -> Result<(), AllocError>
+    ensures { OnOk result (map caption_of captions.new.items
+        ≡ map caption_of captions.old.items ++ line_captions ink (map string_bytes lines.now)) }
+{
     let mut row = first_row;
     for line in lines {
         captions.push(label_at(ink, EDGE, row, line.clone()?))?;
@@ -103,7 +135,9 @@ fn push_note(
     note: &str,
     row: u32,
 ) -> Result<(), AllocError>
-    ensures { OnOk result (HasLine note.now captions.new.items) }
+    ensures line { OnOk result (HasLine note.now captions.new.items) }
+    ensures caption { OnOk result (map caption_of captions.new.items
+        ≡ map caption_of captions.old.items ++ note_captions note.now) }
 {
     if note.is_empty() {
         return Ok(());
@@ -130,12 +164,19 @@ pub(crate) fn captions_of(
     ensures legend { IfOk result (λ texts. map row_of texts.swatches.items
         ≡ legend_rows (map (λ n. n.now) form.entry.names.now) drawing.now.layers.items
         facts.entry.rings.now.list.items) }
+    ensures heads { IfOk result (λ texts.
+        texts.sheet.has_heads ≡ has_heads (ip_network frame.now).prefix_len drawing.now.depth) }
+    ensures title { IfOk result (λ texts.
+        string_bytes texts.title ≡ map_title form.entry.heading.now (ip_network frame.now)) }
+    ensures captions { let f = form.entry in let overlay = f.overlay.now in IfOk result (λ texts.
+        AreCaptions (string_bytes texts.title) facts.entry.summary.now (map string_bytes overlay.lines.items)
+        (foot_text (ip_network frame.now) drawing.now.depth (string_bytes overlay.note)
+        facts.entry.rings.now.left_out) f.note.now texts.captions.items) }
     ensures foot { IfOk result (λ texts. HasLine form.entry.note.now texts.captions.items) }
 {
     let depth = drawing.depth;
     let title = page_title(alloc, frame, form)?;
-    let mut captions = Vec::new(alloc);
-    captions.push(label_at(Ink::Head, EDGE, 26, title.clone()?))?;
+    let mut captions = head_of(alloc, title.as_str())?;
     let summary = lines_of(alloc, facts.summary, ", ")?;
     push_lines(&mut captions, Ink::Plain, summary.as_slice(), SUMMARY)?;
     let legend_row = row_after(LEGEND, summary.len());
@@ -148,7 +189,9 @@ pub(crate) fn captions_of(
     push_lines(&mut captions, Ink::Plain, lines, baseline)?;
     let top = row_after(row, lines.len()).saturating_add(8);
     let heads = has_heads(frame.prefix_len(), depth);
-    let foot = foot_of(alloc, frame, depth, form, facts.rings.left_out)?;
+    let more = form.overlay.note.as_str();
+    let words = foot_of(alloc, frame, depth, more, facts.rings.left_out)?;
+    let foot = lines_of(alloc, words.as_str(), ". ")?;
     let note_lines = usize::from(!form.note.is_empty());
     let count = foot.len().saturating_add(note_lines);
     let sheet = sheet_of(sides_of(frame, depth), heads, top, count);

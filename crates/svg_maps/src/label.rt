@@ -2,6 +2,7 @@
 ghost use Rattle.std.specs.Prelude.{◌≡◌, ◌++◌, OnOk, flat_map, string_bytes};
 ghost use Rattle.svg_text.specs.Documents.{nodes_text, mark_of, empty_text};
 ghost use Rattle.svg_text.specs.declared.name.ElementName.TheVariants as Elements;
+ghost use Rattle.svg_maps.specs.Labels.{place_at};
 ghost use Rattle.svg_maps.specs.Pages.{ink_text, anchor_text, label_nodes, swatch_nodes, text_mark, number_mark};
 ghost use Rattle.svg_maps.specs.Pages.{circle_marks, swatch_marks, sign_element, sign_marks};
 
@@ -82,7 +83,9 @@ pub struct Swatch {
 
 /// The label with this text, whose left side is at this place.
 pub(crate) fn label_at(ink: Ink, column: u32, row: u32, words: String) -> Label
-    ensures { result.words ≡ words }
+    ensures words { result.words ≡ words }
+    ensures ink { result.ink ≡ ink }
+    ensures place { result.place ≡ place_at column row }
 {
     Label {
         ink,

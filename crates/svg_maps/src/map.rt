@@ -1,8 +1,8 @@
 //! Maps of sets: a set, a change of a set, or several sets in a network, as a document of SVG.
-ghost use Rattle.std.specs.Prelude.{◌+◌, ◌≤◌, IfOk, map, string_bytes};
+ghost use Rattle.std.specs.Prelude.{◌+◌, ◌≤◌, IfOk, string_bytes};
 ghost use Rattle.ipnet_base.specs.Address.{width};
 ghost use Rattle.ipnet.specs.NetworkOf.{ip_network};
-ghost use Rattle.svg_maps.specs.Overlays.{IsOutlinedMap};
+ghost use Rattle.svg_maps.specs.Maps.{IsMapText};
 
 use crate::captions::{MapFacts, captions_of};
 use crate::chart::Chart;
@@ -18,9 +18,9 @@ use ipnet::IpNet;
 use ipnet_maps::Drawing;
 use std::alloc::{AllocError, Global};
 
-/// Returns the document that shows the drawing of the frame. The title of each square says how many addresses each of
-/// the counted sets has in it, and the overlay has the outlines. The legend has a row for each class of cells, and the
-/// foot has the note of the form. Fails only if memory runs out.
+/// Returns the document that shows the drawing of the frame. Its title is the heading of the form and the frame. The
+/// title of each square says how many addresses each of the counted sets has in it, and the overlay has the outlines.
+/// The legend has a row for each class of cells, and the foot has the note of the form. Fails only if memory runs out.
 ///
 /// ```text
 /// of the drawing of 10.20.0.0/20 in 10.20.0.0/16: <svg ..> .. <path class="s4" d="m0 0h256v16h-256z"/> .. </svg>
@@ -34,9 +34,8 @@ pub fn map_text(
 ) -> Result<String, AllocError>
     requires few { drawing.now.depth ≤ 20 }
     requires fits { (ip_network frame.now).prefix_len + drawing.now.depth ≤ width (ip_network frame.now).family }
-    ensures { IfOk result (λ text. IsOutlinedMap (ip_network frame.now) counted.now drawing.now
-        (map (λ n. n.now) form.entry.names.now) form.entry.note.now form.entry.style.now
-        form.entry.overlay.now.outlines.items (string_bytes text)) }
+    ensures { IfOk result (λ text.
+        IsMapText (ip_network frame.now) counted.now drawing.now form.entry (string_bytes text)) }
 {
     let depth = drawing.depth;
     let layers = drawing.layers.as_slice();

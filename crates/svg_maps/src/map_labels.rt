@@ -1,4 +1,6 @@
 //! The labels of a map: of its outlines, and of the squares that have room beside them.
+ghost use Rattle.std.specs.Prelude.{◌≡◌, [], IfOk, if◌then◌else◌, map};
+ghost use Rattle.svg_maps.specs.Labels.{seat_of, heads_of};
 
 use crate::chart::Square;
 use crate::label::{Ink, Label};
@@ -82,7 +84,10 @@ pub(crate) fn map_labels(
     alloc: Global,
     scene: Scene<'_>,
     sheet: Sheet,
-) -> Result<SquareLabels, AllocError> {
+) -> Result<SquareLabels, AllocError>
+    ensures heads { let s = sheet.entry in IfOk result (λ labels. map seat_of labels.heads.items
+        ≡ (if s.has_heads then heads_of s.scale s.chart_place scene.entry.squares.now else [])) }
+{
     let SquareLabels { inside, heads } = square_labels(alloc, scene.squares, sheet)?;
     let mut placed = Placed::new(alloc, ring_boxes(alloc, scene.rings)?);
     let classes = [

@@ -1,5 +1,5 @@
 //! Rings around the parts of a map that would be too small to be seen.
-ghost use Rattle.std.specs.Prelude.{◌≡◌, ◌++◌, ◌≤◌, IfOk, OnOk, flat_map, length, string_bytes};
+ghost use Rattle.std.specs.Prelude.{◌≡◌, ◌⊎◌, ◌*◌, ◌++◌, ◌<◌, ◌≤◌, [], IfOk, OnOk, flat_map, length, string_bytes};
 ghost use Rattle.svg_text.specs.Documents.{nodes_text};
 ghost use Rattle.svg_maps.specs.Pages.{ring_nodes};
 
@@ -200,7 +200,8 @@ pub(crate) struct Rings {
 }
 
 /// Returns the rings on a map of these layers: one for each tile of 16 x 16 pixels with at least one and at most 9
-/// painted pixels, around the middle of these. If there are more than 120 such tiles, the map has no ring.
+/// painted pixels, around the middle of these. If there are more than 120 such tiles, the map has no ring. It has none
+/// either if a cell has more than 9 pixels.
 pub(crate) fn rings_of(
     alloc: Global,
     layers: &[Layer],
@@ -208,6 +209,10 @@ pub(crate) fn rings_of(
     scale: u32,
 ) -> Result<Rings, AllocError>
     ensures few { IfOk result (λ rings. length rings.list.items ≤ 120) }
+    ensures left_out { IfOk result (λ rings.
+        (rings.left_out ≡ 0) ⊎ ((rings.list.items ≡ []) × (120 < rings.left_out))) }
+    ensures coarse { IfOk result (λ rings.
+        9 < scale * scale → (rings.list.items ≡ []) × (rings.left_out ≡ 0)) }
 {
     // a single painted cell has more pixels than a tile with a ring
     if scale.saturating_mul(scale) > FEW {

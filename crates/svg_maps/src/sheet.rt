@@ -96,6 +96,7 @@ pub(crate) fn row_after(row: u32, lines: usize) -> u32
 pub(crate) fn sheet_of(sides: Sides, has_heads: bool, row: u32, foot_lines: usize) -> Sheet
     ensures scale { result.scale ≡ cell_pixels sides.width }
     ensures fits { FitsPage result.chart_place result.scale sides.width sides.height result.area }
+    ensures heads { result.has_heads ≡ has_heads }
 {
     let scale = scale_of(sides);
     let wide = pixels_of(scale, sides.width);

@@ -1,11 +1,13 @@
 //! The squares of a map, with their titles.
-ghost use Rattle.std.specs.Prelude.{◌≡◌, ◌++◌, ◌+◌, ◌≤◌, List, ℕ, map, IfOk, OnOk, string_bytes};
+ghost use Rattle.std.specs.Prelude.{◌≡◌, ◌++◌, ◌+◌, ◌≤◌, List, ℕ, map, All, IfOk, OnOk, string_bytes};
 ghost use Rattle.ipnet_base.specs.Address.{width};
 ghost use Rattle.ipnet_base.specs.Network.{IsSubnetOf};
 ghost use Rattle.ipnet.specs.NetworkOf.{ip_network};
 ghost use Rattle.ipnet.specs.NetworkParts.{AreSubnetsOfLength};
 ghost use Rattle.ipnet.specs.SubnetsLeft.{ip_subnets_left};
 ghost use Rattle.ipnet_bars.specs.Parts.{counted, block_size};
+ghost use Rattle.svg_maps.specs.Labels.{HasOwnName};
+ghost use Rattle.svg_maps.specs.Names.{IsNameOf};
 ghost use Rattle.svg_maps.specs.Squares.{IsCountText, AreCountTexts, title_start, IsTitle, IsSquareOf};
 ghost use Rattle.svg_maps.specs.Squares.{AreSquaresOf, first_bits, square_bits};
 
@@ -15,7 +17,7 @@ use crate::extent::extent_of;
 use crate::name::short_name;
 use ipnet::IpNet;
 use ipnet_bars::{count_in, push_share_words, share_of, size_of, subnets_of};
-use ipnet_maps::rectangle_in;
+use ipnet_maps::{Rectangle, rectangle_in};
 use ipnet_sets::IpSet;
 use std::alloc::{AllocError, Global};
 
@@ -177,12 +179,33 @@ pub(crate) fn squares_of(
     Ok(squares)
 }
 
+/// The square of the network with this area, without a title.
+fn octet_square(
+    alloc: Global,
+    frame: &IpNet,
+    network: &IpNet,
+    rectangle: Rectangle,
+) -> Result<Square, AllocError>
+    ensures area { IfOk result (λ square. square.rectangle ≡ rectangle) }
+    ensures name { IfOk result (λ square.
+        IsNameOf (ip_network network.now) (ip_network frame.now).prefix_len (string_bytes square.name)) }
+{
+    let name = short_name(alloc, network, frame.prefix_len())?;
+    let title = String::new(alloc);
+    Ok(Square {
+        rectangle,
+        name,
+        title,
+    })
+}
+
 /// Returns the squares of all values of the octet in which the map begins, without titles: these have labels if the
 /// squares of the map are too low for theirs. Fails only if memory runs out.
 ///
 /// ```text
 /// of 172.0.0.0/11 with 19 bits: 32 squares, each of a /16, named .0 to .31
 /// ```
+#[tactic(auto, using(crate::proofs::LabelLaws::one_square_more))]
 pub(crate) fn octet_squares(
     alloc: Global,
     frame: &IpNet,
@@ -190,19 +213,14 @@ pub(crate) fn octet_squares(
 ) -> Result<Vec<Square>, AllocError>
     requires few { depth ≤ 20 }
     requires fits { (ip_network frame.now).prefix_len + depth ≤ width (ip_network frame.now).family }
+    ensures { IfOk result (λ squares. All (HasOwnName (ip_network frame.now) depth) squares.items) }
 {
     let len = frame.prefix_len() + first_bits_of(frame.prefix_len(), depth);
     let networks = subnets_of(alloc, frame, len)?;
     let mut squares = Vec::new(alloc);
     for network in networks.as_slice() {
         if let Some(rectangle) = extent_of(frame, depth, network) {
-            let name = short_name(alloc, network, frame.prefix_len())?;
-            let title = String::new(alloc);
-            squares.push(Square {
-                rectangle,
-                name,
-                title,
-            })?;
+            squares.push(octet_square(alloc, frame, network, rectangle)?)?;
         }
     }
     Ok(squares)

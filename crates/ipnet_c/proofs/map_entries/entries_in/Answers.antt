@@ -1,5 +1,6 @@
 -- The entries are of the networks after the sort and the cut.
-use Rattle.std.proofs.Common.{◌∙◌, rules}
+use Rattle.std.proofs.Common.{◌≡◌, ◌∙◌, rules}
+use Rattle.std.proofs.lemmas.Fn.{always_returns_same}
 use Rattle.std.proofs.lemmas.List.Sorted.{IsNonDecreasingBy-from_sort_by_key}
 use Rattle.ipnet.specs.NetworkOf.{ip_network}
 use Rattle.ipnet_c.proofs.map_entries.entries_in.Goals as goal
@@ -14,6 +15,8 @@ returns c = record {
   are_same = c.sort_by_key.ensures.permutation;
   is_sorted = IsNonDecreasingBy-from_sort_by_key (λ n. (ip_network n).prefix_len) _ c.in_ok-sort_by_key.ensures.sorted
       (λ a r q k. search rules);
+  is_stable = c.sort_by_key.ensures.stable (λ n. (ip_network n).prefix_len)
+      (always_returns_same _ (λ a r. r ≡ (ip_network a.0.now).prefix_len) _ (λ a r q k. search rules));
   are = c.in_ok-entries.ensures.networks ∙ c.truncate.ensures.items;
   are_plain = c.in_ok-entries.ensures.plain;
 }

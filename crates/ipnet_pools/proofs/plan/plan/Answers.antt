@@ -88,7 +88,7 @@ loop-index-preserved c =
     subst (IsPlannedSoFar S New f lengths (i + 1))
     (sym (ap (map ip_network) c.in_ok-push.ensures.items ∙ map-append ip_network xs (c.in_ok-network.network ∷ [])))
     (planned_more S Old New f lengths i request.prefix_len (map ip_network xs) here c.loop-index.invariant n best
-    (λ x h. (c.in_ok-network.ensures.cut.free x).0 h)
+    c.in_ok-network.ensures.cut.free
     (λ requests place. CanPlace-more requests (Without Old n) New (λ x h. (c.in_ok-network.ensures.cut.free x).1 h)
     (best_fit_keeps_placements Old (IsDecided-cover (blocks_of c.loop-index.free.blocks)) f request.prefix_len n best
     requests place)))

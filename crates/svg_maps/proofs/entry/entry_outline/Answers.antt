@@ -34,6 +34,7 @@ returns c =
         class = refl;
         area = c.in-Some.ensures.some;
         title = c.in_ok-title.ensures;
+        label = c.in_ok-label.ensures;
         comment = c.in_ok-comment.ensures.ok ∙ c.as_str.ensures.value;
       },
     )

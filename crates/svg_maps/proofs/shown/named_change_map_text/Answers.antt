@@ -4,7 +4,8 @@ use Rattle.ipnet.specs.NetworkOf.{ip_network}
 use Rattle.ipnet_base.specs.Blocks.{IsInEither}
 use Rattle.ipnet_sets.specs.Members.{IsMember}
 use Rattle.svg_maps.specs.Legends.{IsOutsideNote}
-use Rattle.svg_maps.specs.Overlays.{AreOutlinesOver, IsOutlinedMap, IsOutlinedNamedChangeMap}
+use Rattle.svg_maps.specs.Maps.{IsMapText}
+use Rattle.svg_maps.specs.Overlays.{IsOutlinedNamedChangeMap}
 use Rattle.svg_maps.proofs.NamedLaws.{over_same}
 use Rattle.svg_maps.proofs.shown.named_change_map_text.Goals as goal
 
@@ -16,10 +17,7 @@ returns c =
     let before = c.args.change.before.now in
     let after = c.args.change.after.now in
     let names = map (λ name. name.now) c.args.change.names.now in
-    let outlines = c.in_ok-overlay.overlay.outlines.items in
-    let note = c.as_str-2.result.now in
-    IfOk-weaker c.map_text.result
-    (λ text. IsOutlinedMap n _ d names note c.as_str.result.now outlines (string_bytes text))
+    IfOk-weaker c.map_text.result (λ text. IsMapText n _ d _ (string_bytes text))
     (λ text. IsOutlinedNamedChangeMap look before after names n (string_bytes text)) (λ text m. (
       record {
         drawing = d;
@@ -35,15 +33,16 @@ returns c =
         words = refl;
         changed = c.in_ok-changed.changed;
         is_changed = c.in_ok-changed.ensures.members;
-        note = note;
+        form = _;
+        heading = refl;
+        named = refl;
         outside = subst (IsOutsideNote (IsMember c.in_ok-changed.changed) n) (sym c.as_str-2.ensures.value)
             c.in_ok-note.ensures;
-        page = m.0;
+        page = m;
       },
       record {
-        style = m.1 ∙ c.as_str.ensures.value ∙ c.in_ok-style.ensures;
-        outlines = subst (AreOutlinesOver look _ (IsInEither (IsMember before) (IsMember after)) n d.depth) (sym m.2)
-            (over_same look _ (IsMember c.in_ok-all.all) (IsInEither (IsMember before) (IsMember after)) n d.depth
-            outlines c.in_ok-all.ensures.members c.in_ok-overlay.ensures);
+        style = c.as_str.ensures.value ∙ c.in_ok-style.ensures;
+        overlay = over_same look _ (IsMember c.in_ok-all.all) (IsInEither (IsMember before) (IsMember after)) n
+            d.depth c.in_ok-overlay.overlay c.in_ok-all.ensures.members c.in_ok-overlay.ensures;
       },
     )) c.map_text.ensures

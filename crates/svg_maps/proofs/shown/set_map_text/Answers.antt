@@ -1,9 +1,10 @@
-use Rattle.std.proofs.Common.{◌∙◌, [], refl, subst, sym, string_bytes}
+use Rattle.std.proofs.Common.{◌∙◌, refl, subst, sym, string_bytes}
 use Rattle.std.proofs.lemmas.Result.{IfOk-weaker}
 use Rattle.ipnet.specs.NetworkOf.{ip_network}
 use Rattle.ipnet_sets.specs.Members.{IsMember}
 use Rattle.svg_maps.specs.Legends.{IsOutsideNote}
-use Rattle.svg_maps.specs.Overlays.{AreOutlinesOver, IsOutlinedMap, IsOutlinedSetMap}
+use Rattle.svg_maps.specs.Maps.{IsMapText}
+use Rattle.svg_maps.specs.Overlays.{IsOutlinedSetMap}
 use Rattle.svg_maps.proofs.shown.set_map_text.Goals as goal
 
 pub returns : goal.returns
@@ -12,9 +13,7 @@ returns c =
     let d = c.in_ok-drawing.drawing in
     let look = c.args.look in
     let set = c.args.set.now in
-    let outlines = c.in_ok-overlay.overlay.outlines.items in
-    let note = c.as_str-2.result.now in
-    IfOk-weaker c.map_text.result (λ text. IsOutlinedMap n _ d [] note c.as_str.result.now outlines (string_bytes text))
+    IfOk-weaker c.map_text.result (λ text. IsMapText n _ d _ (string_bytes text))
     (λ text. IsOutlinedSetMap look set n (string_bytes text)) (λ text m. (
       record {
         drawing = d;
@@ -22,12 +21,14 @@ returns c =
         counted = _;
         sets = refl;
         words = refl;
-        note = note;
+        form = _;
+        heading = refl;
+        nameless = refl;
         outside = subst (IsOutsideNote (IsMember set) n) (sym c.as_str-2.ensures.value) c.in_ok-note.ensures;
-        page = m.0;
+        page = m;
       },
       record {
-        style = m.1 ∙ c.as_str.ensures.value ∙ c.in_ok-style.ensures;
-        outlines = subst (AreOutlinesOver look _ (IsMember set) n d.depth) (sym m.2) c.in_ok-overlay.ensures;
+        style = c.as_str.ensures.value ∙ c.in_ok-style.ensures;
+        overlay = c.in_ok-overlay.ensures;
       },
     )) c.map_text.ensures

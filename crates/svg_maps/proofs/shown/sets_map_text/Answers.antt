@@ -6,8 +6,8 @@ use Rattle.ipnet.specs.NetworkOf.{ip_network}
 use Rattle.ipnet_sets.specs.ManySets.{IsInSome}
 use Rattle.ipnet_sets.specs.Members.{IsMember}
 use Rattle.svg_maps.specs.Legends.{IsOutsideNote}
-use Rattle.svg_maps.specs.Maps.{list_words}
-use Rattle.svg_maps.specs.Overlays.{AreOutlinesOver, IsOutlinedMap, IsOutlinedSetsMap}
+use Rattle.svg_maps.specs.Maps.{IsMapText, list_words}
+use Rattle.svg_maps.specs.Overlays.{IsOutlinedSetsMap}
 use Rattle.svg_maps.proofs.NamedLaws.{over_same}
 use Rattle.svg_maps.proofs.shown.sets_map_text.Goals as goal
 
@@ -29,10 +29,7 @@ returns c =
     ap (λ z. length z) c.as_slice.ensures.value ∙ sym (length-map words string_bytes)
     ∙ ap (λ z. length z) c.in_ok-words.ensures ∙ length-map given (λ name. list_words name.now) in
     let look = c.args.look in
-    let outlines = c.in_ok-overlay.overlay.outlines.items in
-    let note = c.as_str-2.result.now in
-    IfOk-weaker c.map_text.result (λ text. IsOutlinedMap n counted d names note c.as_str.result.now outlines
-    (string_bytes text))
+    IfOk-weaker c.map_text.result (λ text. IsMapText n counted d _ (string_bytes text))
     (λ text. IsOutlinedSetsMap look sets names n (string_bytes text)) (λ text m. (
       record {
         drawing = d;
@@ -45,15 +42,16 @@ returns c =
             ∙ words_of_names given;
         all = c.in_ok-all.all;
         is_all = c.in_ok-all.ensures.members;
-        note = note;
+        form = _;
+        heading = refl;
+        named = refl;
         outside = subst (IsOutsideNote (IsMember c.in_ok-all.all) n) (sym c.as_str-2.ensures.value)
             c.in_ok-note.ensures;
-        page = m.0;
+        page = m;
       },
       record {
-        style = m.1 ∙ c.as_str.ensures.value ∙ c.in_ok-style.ensures;
-        outlines = subst (AreOutlinesOver look counted (IsInSome IsMember sets) n d.depth) (sym m.2)
-            (over_same look counted (IsMember c.in_ok-all.all) (IsInSome IsMember sets) n d.depth outlines
-            c.in_ok-all.ensures.members c.in_ok-overlay.ensures);
+        style = c.as_str.ensures.value ∙ c.in_ok-style.ensures;
+        overlay = over_same look counted (IsMember c.in_ok-all.all) (IsInSome IsMember sets) n d.depth
+            c.in_ok-overlay.overlay c.in_ok-all.ensures.members c.in_ok-overlay.ensures;
       },
     )) c.map_text.ensures
