@@ -18,9 +18,9 @@ use Rattle.netset_entries.specs.declared.entry_list.EntryList.{EntryList}
 use Rattle.netset_entries.specs.declared.overlaps.Asked.{Asked}
 use Rattle.netset_entries.specs.EntryLineOf.{IsReadOf, labels_of, numbered}
 use Rattle.netset_entries.specs.ListPairs.{IsListAt}
-use Rattle.netset_entries.specs.ManyLists.{AreEntryLists, AreListsBegun, AreOverlapsFrom, AreReadLists, AreWholeLists, HasManyOverlap}
+use Rattle.netset_entries.specs.ManyLists.{AreEntryLists, AreListsBegun, AreOverlapsFrom, AreReadLists, AreWholeLists}
 use Rattle.netset_entries.specs.ManyLists.{HasOverlapAt, HasRefusedList, HoldsOfMany, IsManyOutcome, IsOverlapAt}
-use Rattle.netset_entries.specs.ManyLists.{IsReportAt}
+use Rattle.netset_entries.specs.ManyLists.{HasManyOverlap, IsReportAt}
 use Rattle.netset_entries.specs.ManySteps.{are_refused, entries_in, is_refused, IsAskedOf}
 use Rattle.netset_entries.specs.NumberedEntries.{NumberedEntry}
 use Rattle.netset_entries.specs.Overlaps.{HasOverlap, IsOverlapText, name_labels}
