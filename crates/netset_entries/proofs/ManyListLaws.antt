@@ -1,6 +1,6 @@
 -- Many lists that were read, and the pairs of two of them.
 use Rattle.std.specs.Borrow.{Bor}
-use Rattle.std.proofs.Common.{◌≡◌, ◌↔◌, ℕ, zero, suc, ◌+◌, ◌-◌, ◌<◌, ◌||◌, Bool, true, false, not, IsTrue, List}
+use Rattle.std.proofs.Common.{◌≡◌, ◌↔◌, ℕ, suc, ◌+◌, ◌-◌, ◌<◌, ◌||◌, Bool, true, false, not, IsTrue, List}
 use Rattle.std.proofs.Common.{[], ◌∷◌, ◌++◌, length, map, take, get_or, refl, sym, ap, ◌∙◌, subst, subst₂, arith}
 use Rattle.std.proofs.Common.{Option, Some, Result, Ok, Err, IfOk, inl, inr}
 use Rattle.std.specs.Prelude.{nat_eq}

@@ -9,7 +9,7 @@ use Rattle.ipnet_base.proofs.ListLaws.{contains_nil, contains_here, contains_the
 use Rattle.ipnet_sets.specs.SetRanges.{range_of}
 use Rattle.netset_entries.specs.NumberedEntries.{NumberedEntry}
 use Rattle.netset_entries.specs.Overlaps.{Labels, IsOverlapText}
-use Rattle.netset_entries.specs.Spans.{IsSpanIn, IsFlagged, IsBeforeSpan, AreSpans}
+use Rattle.netset_entries.specs.Spans.{IsSpanIn, IsFlagged, IsBeforeSpan}
 use Rattle.netset_entries.specs.Sweeps.{no_entry, AreAllSpans}
 use Rattle.netset_entries.specs.declared.span.Span.{Span}
 use Rattle.netset_entries.proofs.OverlapTextLaws.{whole, whole_right}

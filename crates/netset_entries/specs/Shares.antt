@@ -1,5 +1,5 @@
 -- How many addresses of each entry of a list a set has, and which share of the entry they are.
-use Rattle.std.specs.Prelude.{◌≡◌, ◌≢◌, ◌<◌, ℕ, List, [], ◌∷◌, ◌++◌, decimal, length, slice_index_or}
+use Rattle.std.specs.Prelude.{◌≡◌, ◌≢◌, ℕ, List, [], ◌∷◌, ◌++◌, decimal, length}
 use Rattle.ipnet_base.specs.Address.{Address}
 use Rattle.ipnet_base.specs.Ranges.{AddressRange, address_count}
 use Rattle.ipnet.specs.declared.parser.Grammar.{Grammar}

@@ -1,5 +1,5 @@
 -- The lines of two lists are those that are asked for.
-use Rattle.std.proofs.Common.{length, map, arith, inl, inr}
+use Rattle.std.proofs.Common.{map, arith, inl, inr}
 use Rattle.std.proofs.lemmas.List.{length-map}
 use Rattle.netset_entries.specs.EntryLineOf.{numbered}
 use Rattle.netset_entries.specs.ManyLists.{HasOverlapAt, IsOverlapAt}

@@ -1,5 +1,5 @@
 -- The lines of one list more; a front of them is a front of all.
-use Rattle.std.proofs.Common.{◌≡◌, ◌+◌, ◌-◌, ◌↔◌, IsTrue, length, map, refl, ap, subst, arith}
+use Rattle.std.proofs.Common.{◌≡◌, ◌+◌, ◌-◌, ◌↔◌, IsTrue, length, map, refl, subst, arith}
 use Rattle.std.proofs.lemmas.List.{length-map}
 use Rattle.ipnet_text.specs.Outputs.{IsWritten}
 use Rattle.netset_entries.specs.EntryLineOf.{numbered}

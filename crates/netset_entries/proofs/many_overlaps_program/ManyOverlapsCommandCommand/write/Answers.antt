@@ -52,8 +52,8 @@ returns-clause-front g c =
           (c.in-Err-write_many_overlaps.ensures.front refl),
     )
 
-pub returns-in-Err-write_many_overlaps-clause-failure : goal.returns-in-Err-write_many_overlaps-clause-failure
-returns-in-Err-write_many_overlaps-clause-failure g c =
+pub returns-clause-failure : goal.returns-clause-failure
+returns-clause-failure g c =
     let of = c.args.self in
     let read = c.as_slice-2.result.now in
     let none : are_refused read ≡ false

@@ -1,4 +1,4 @@
-use Rattle.std.proofs.Common.{refl, ap, arith}
+use Rattle.std.proofs.Common.{◌≤◌, ◌+◌, ℕ, refl, ap, arith}
 use Rattle.ipnet.specs.NetworkOf.{ip_network}
 use Rattle.ipnet_text.proofs.ListsLaws.{OnOk_then}
 use Rattle.netset_entries.specs.NotedEntries.{title_from}
@@ -22,16 +22,18 @@ returns-then-not-meets_frame c =
 
 pub returns-in-V4 : goal.returns-in-V4
 returns-in-V4 c =
+    let counts : (k : ℕ) → k ≤ 3000 → k ≤ c.args.self.now.count + 1 → k ≤ c.saturating_add-self.result =
+    λ k small le. omega (arith, small, le, c.saturating_add-self.ensures) in
     OnOk_then c.push.result c.push.ensures
     (λ takes. ipv4_taken c.args.self.now _ _ (title_from c.args.text.now c.args.comment.now) refl refl
     (λ i. title_from (c.in_ok-text.ensures.ok i) (c.in_ok-comment.ensures.ok i))
-    (c.meets_frame.ensures.0 c.if-not-meets_frame.false) (ap (λ z. (ip_network z).family) c.in-V4.is) takes refl
-    (λ k small le. omega (arith, small, le, c.saturating_add-self.ensures)))
+    (c.meets_frame.ensures.0 c.if-not-meets_frame.false) (ap (λ z. (ip_network z).family) c.in-V4.is) takes refl counts)
 
 pub returns-in-V6 : goal.returns-in-V6
 returns-in-V6 c =
+    let counts : (k : ℕ) → k ≤ 3000 → k ≤ c.args.self.now.count + 1 → k ≤ c.saturating_add-self.result =
+    λ k small le. omega (arith, small, le, c.saturating_add-self.ensures) in
     OnOk_then c.push-in-V6.result c.push-in-V6.ensures
     (λ takes. ipv6_taken c.args.self.now _ _ (title_from c.args.text.now c.args.comment.now) refl refl
     (λ i. title_from (c.in_ok-text.ensures.ok i) (c.in_ok-comment.ensures.ok i))
-    (c.meets_frame.ensures.0 c.if-not-meets_frame.false) (ap (λ z. (ip_network z).family) c.in-V6.is) takes refl
-    (λ k small le. omega (arith, small, le, c.saturating_add-self.ensures)))
+    (c.meets_frame.ensures.0 c.if-not-meets_frame.false) (ap (λ z. (ip_network z).family) c.in-V6.is) takes refl counts)

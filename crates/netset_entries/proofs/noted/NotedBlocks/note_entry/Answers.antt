@@ -1,4 +1,4 @@
-use Rattle.std.proofs.Common.{rules, ◌∙◌, ◌∷◌, ap, arith, Contains, refl, sym, subst, string_bytes}
+use Rattle.std.proofs.Common.{rules, ◌∙◌, ◌∷◌, ap, arith, Contains, refl, sym, subst}
 use Rattle.ipnet_base.specs.Blocks.{AreMaximalBlocks, IsAscending}
 use Rattle.ipnet_base.specs.Network.{IsBefore}
 use Rattle.ipnet_base.proofs.ListLaws.{contains_here, contains_there, pairs_tail}
