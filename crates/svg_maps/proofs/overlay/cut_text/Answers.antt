@@ -17,7 +17,7 @@ loop-line-preserved c =
 pub returns : goal.returns
 returns c =
     let low : 10 < 128 = omega arith in
-    let all = YieldsList-end (YieldsList-from_str_split 10 c.args.text.now low c.split.ensures.text
-    c.split.ensures.has_more c.split.ensures.pattern) c.loop-line.yielded _ c.loop-line.yielded_by _ _ c.in-None.is
+    let all = YieldsList-end (YieldsList-from_str_split 10 c.args.text.now low c.split-line-items.ensures.text
+    c.split-line-items.ensures.has_more c.split-line-items.ensures.pattern) c.loop-line.yielded _ c.loop-line.yielded_by _ _ c.in-None.is
     c.next.ensures.steps in
     subst (λ z. AreCutLines z (map string_bytes c.loop-line.lines.items)) all.0 c.loop-line.invariant
