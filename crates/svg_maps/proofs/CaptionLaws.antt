@@ -1,7 +1,7 @@
 -- Captions: lines that are joined again, and captions that are added.
 use Rattle.std.proofs.Common.{◌≡◌, ◌<◌, ◌+◌, ℕ, List, [], ◌∷◌, ◌++◌, ◌==◌, length, get_or, take, map, flat_map, codes}
 use Rattle.std.proofs.Common.{true, false, String, Global, string_bytes, refl, sym, ap, ◌∙◌, append_assoc, append-nil}
-use Rattle.std.proofs.Common.{arith, eqb-true, subst}
+use Rattle.std.proofs.Common.{arith, eqb-true, subst, zero, suc, decimal}
 use Rattle.std.proofs.lemmas.List.{take_more, map_push}
 use Rattle.std.specs.Borrow.{Bor}
 use Rattle.std.specs.List.{join_by}
@@ -9,6 +9,7 @@ use Rattle.svg_maps.specs.declared.label.Ink.{Ink}
 use Rattle.svg_maps.specs.declared.label.Ink.TheVariants.{Faint}
 use Rattle.svg_maps.specs.declared.label.Label.{Label}
 use Rattle.svg_maps.specs.Captions.{joined_lines, AreCutLines, AreCaptions, caption_of, line_captions, note_captions}
+use Rattle.svg_maps.specs.Captions.{ringless_text, left_out_text}
 
 rest_again : {X : Type 0} (f : X → List ℕ) (mark : List ℕ) (xs : List X)
     → flat_map (λ x. mark ++ f x) xs ≡ flat_map (λ y. mark ++ y) (map f xs)
@@ -87,3 +88,18 @@ one_note [] e =
     let clash : false ≡ true = e in
     absurd cc
 one_note (b ∷ note) e = refl
+
+-- the words about parts without a ring
+pub ringless_some : (n : ℕ) → 0 < n
+    → ringless_text n ≡ codes " Small parts without a ring: " ++ decimal n ++ codes "."
+ringless_some zero l = absurd (omega (arith, l))
+ringless_some (suc n) l = refl
+
+note_parts : (a b c d : List ℕ) → a ++ b ++ c ++ d ≡ a ++ (b ++ c ++ d)
+note_parts a b c d = simp append_assoc refl
+
+-- the words about what is left out
+pub left_out_some : (words : List ℕ) (n : ℕ) → 0 < n
+    → left_out_text words n ≡ codes " " ++ words ++ (codes ": " ++ decimal n ++ codes ".")
+left_out_some words zero l = absurd (omega (arith, l))
+left_out_some words (suc n) l = note_parts (codes " " ++ words) (codes ": ") (decimal (suc n)) (codes ".")

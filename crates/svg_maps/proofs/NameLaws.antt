@@ -1,6 +1,6 @@
 -- The names of squares, part by part.
-use Rattle.std.proofs.Common.{◌≡◌, ◌<◌, ◌≤◌, ◌+◌, ℕ, List, [], ◌∷◌, ◌++◌, length, get_or, take, map, refl, sym, ap, ◌∙◌}
-use Rattle.std.proofs.Common.{append_assoc, append-nil, arith, suc}
+use Rattle.std.proofs.Common.{◌≡◌, ◌<◌, ◌+◌, ℕ, List, [], ◌∷◌, ◌++◌, length, get_or, take, map, sym, ap, ◌∙◌}
+use Rattle.std.proofs.Common.{append_assoc, append-nil, arith}
 use Rattle.std.proofs.lemmas.List.{take_more, map_push, length-map, length-take-le}
 use Rattle.svg_maps.specs.Names.{part_text, parts_text}
 
@@ -18,13 +18,12 @@ module _ (mark : List ℕ) (first end : ℕ) where
       (part_text mark first end n part))
 
   -- the name with one part more
-  pub one_part_more : (spell : ℕ → List ℕ) (xs : List ℕ) (i x : ℕ) → i < length xs → x ≡ get_or xs i x
+  pub one_part_more : (spell : ℕ → List ℕ) (xs : List ℕ) (i : ℕ) → i < length xs
       → parts_text mark first end 0 (map spell (take (i + 1) xs))
-      ≡ parts_text mark first end 0 (map spell (take i xs)) ++ part_text mark first end i (spell x)
-  one_part_more spell xs i x less is =
+      ≡ parts_text mark first end 0 (map spell (take i xs)) ++ part_text mark first end i (spell (get_or xs i 0))
+  one_part_more spell xs i less =
       let count : i ≡ 0 + length (map spell (take i xs)) =
       omega (arith, length-map (take i xs) spell, length-take-le i xs (omega (arith, less))) in
-      ap (λ z. parts_text mark first end 0 (map spell z))
-      (take_more xs i x less ∙ ap (λ z. take i xs ++ z ∷ []) (sym is))
-      ∙ ap (parts_text mark first end 0) (map_push spell (take i xs) x)
-      ∙ parts_push 0 i (map spell (take i xs)) (spell x) count
+      ap (λ z. parts_text mark first end 0 (map spell z)) (take_more xs i 0 less)
+      ∙ ap (parts_text mark first end 0) (map_push spell (take i xs) (get_or xs i 0))
+      ∙ parts_push 0 i (map spell (take i xs)) (spell (get_or xs i 0)) count

@@ -51,10 +51,11 @@ fn page_title(alloc: Global, frame: &IpNet, form: MapForm<'_>) -> Result<String,
     ensures { IfOk result (λ title.
         string_bytes title ≡ map_title form.entry.heading.now (ip_network frame.now)) }
 {
-    let heading = form.heading;
     let network = frame.to_text();
-    let network = network.as_str();
-    format!(in alloc; "{heading} {network}")
+    let mut title = String::from_str(alloc, form.heading)?;
+    title.push_str(" ")?;
+    title.push_str(network.as_str())?;
+    Ok(title)
 }
 
 /// The captions of a page that has only its title.
@@ -93,10 +94,12 @@ fn foot_of(
     let square_len = frame.prefix_len() + first_bits_of(frame.prefix_len(), depth);
     let cell_len = frame.prefix_len() + depth;
     let mut text = String::from_str(alloc, "Reads like text: left to right, then down.")?;
-    write!(
-        text,
-        " A square is a /{square_len}. The smallest dot is a /{cell_len}.{more}"
-    )?;
+    text.push_str(" A square is a /")?;
+    write!(text, "{square_len}")?;
+    text.push_str(". The smallest dot is a /")?;
+    write!(text, "{cell_len}")?;
+    text.push_str(".")?;
+    text.push_str(more)?;
     push_ringless(&mut text, without_ring)?;
     Ok(text)
 }

@@ -43,7 +43,7 @@ fn cut_lines(alloc: Global, text: &str, separator: &str) -> Result<Vec<String>, 
 }
 
 /// Returns the lines if they have the text, and otherwise the text as one line: so no cut changes what a page says.
-#[tactic(auto, using(crate::proofs::CaptionLaws::joined_again, crate::proofs::CaptionLaws::joined_one))]
+#[tactic(auto, using(crate::proofs::CaptionLaws::joined_one))]
 fn checked_lines(alloc: Global, lines: Vec<String>, text: &str) -> Result<Vec<String>, AllocError>
     ensures { IfOk result (λ list. joined_lines (map string_bytes list.items) ≡ text.now) }
 {

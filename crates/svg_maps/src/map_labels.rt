@@ -85,8 +85,8 @@ pub(crate) fn map_labels(
     scene: Scene<'_>,
     sheet: Sheet,
 ) -> Result<SquareLabels, AllocError>
-    ensures heads { let s = sheet.entry in IfOk result (λ labels. map seat_of labels.heads.items
-        ≡ (if s.has_heads then heads_of s.scale s.chart_place scene.entry.squares.now else [])) }
+    ensures heads { IfOk result (λ labels. map seat_of labels.heads.items
+        ≡ (if sheet.has_heads then heads_of sheet.scale sheet.chart_place scene.entry.squares.now else [])) }
 {
     let SquareLabels { inside, heads } = square_labels(alloc, scene.squares, sheet)?;
     let mut placed = Placed::new(alloc, ring_boxes(alloc, scene.rings)?);

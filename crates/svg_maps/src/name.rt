@@ -16,7 +16,7 @@ struct Parts {
 
 /// Whether the name has the part at this place.
 fn has_part(parts: Parts, place: usize) -> bool
-    ensures { let p = parts.entry in result ≡ (nat_le p.first place && nat_lt place p.end) }
+    ensures { result ≡ (nat_le parts.first place && nat_lt place parts.end) }
 {
     parts.first <= place && place < parts.end
 }
@@ -30,8 +30,8 @@ fn mark_at(mark: &'static str, place: usize) -> &'static str
 
 /// Appends the octet at this place, if the name has it.
 fn push_octet(text: &mut String, octet: u8, place: usize, parts: Parts) -> Result<(), AllocError>
-    ensures { let p = parts.entry in OnOk result (string_bytes text.new
-        ≡ string_bytes text.old ++ part_text (codes ".") p.first p.end place (decimal octet)) }
+    ensures { OnOk result (string_bytes text.new
+        ≡ string_bytes text.old ++ part_text (codes ".") parts.first parts.end place (decimal octet)) }
 {
     if !has_part(parts, place) {
         return Ok(());
@@ -41,10 +41,9 @@ fn push_octet(text: &mut String, octet: u8, place: usize, parts: Parts) -> Resul
 }
 
 /// The octets of the address in which networks of the frame differ.
-#[tactic(auto, using(crate::proofs::NameLaws::one_part_more))]
 fn octets_name(alloc: Global, octets: &[u8], parts: Parts) -> Result<String, AllocError>
-    ensures { let p = parts.entry in IfOk result (λ name.
-        string_bytes name ≡ parts_text (codes ".") p.first p.end 0 (map decimal octets.now)) }
+    ensures { IfOk result (λ name.
+        string_bytes name ≡ parts_text (codes ".") parts.first parts.end 0 (map decimal octets.now)) }
 {
     let mut text = String::new(alloc);
     for place in 0..octets.len() {

@@ -113,7 +113,10 @@ fn left_out_note(alloc: Global, words: &str, left_out: usize) -> Result<String, 
     if left_out == 0 {
         return Ok(String::new(alloc));
     }
-    format!(in alloc; " {words}: {left_out}.")
+    let mut note = String::from_str(alloc, " ")?;
+    note.push_str(words)?;
+    write!(note, ": {left_out}.")?;
+    Ok(note)
 }
 
 /// The note about things that have neither an outline nor a line. `all` counts those with them too.

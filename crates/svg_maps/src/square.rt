@@ -205,7 +205,6 @@ fn octet_square(
 /// ```text
 /// of 172.0.0.0/11 with 19 bits: 32 squares, each of a /16, named .0 to .31
 /// ```
-#[tactic(auto, using(crate::proofs::LabelLaws::one_square_more))]
 pub(crate) fn octet_squares(
     alloc: Global,
     frame: &IpNet,
@@ -220,7 +219,8 @@ pub(crate) fn octet_squares(
     let mut squares = Vec::new(alloc);
     for network in networks.as_slice() {
         if let Some(rectangle) = extent_of(frame, depth, network) {
-            squares.push(octet_square(alloc, frame, network, rectangle)?)?;
+            let square = octet_square(alloc, frame, network, rectangle)?;
+            squares.push(square)?;
         }
     }
     Ok(squares)

@@ -121,7 +121,6 @@ fn push_heads(
 }
 
 /// The heads of the rows and columns of a map at this corner, if a cell has `scale` pixels.
-#[tactic(auto, using(crate::proofs::LabelLaws::heads_more))]
 fn head_labels(
     alloc: Global,
     squares: &[Square],
@@ -140,8 +139,8 @@ fn head_labels(
 
 /// The heads of a map of this size and place; none if it has no heads.
 fn shown_heads(alloc: Global, squares: &[Square], sheet: Sheet) -> Result<Vec<Label>, AllocError>
-    ensures { let s = sheet.entry in IfOk result (λ heads. map seat_of heads.items
-        ≡ (if s.has_heads then heads_of s.scale s.chart_place squares.now else [])) }
+    ensures { IfOk result (λ heads. map seat_of heads.items
+        ≡ (if sheet.has_heads then heads_of sheet.scale sheet.chart_place squares.now else [])) }
 {
     if sheet.has_heads {
         head_labels(alloc, squares, sheet.scale, sheet.chart_place)
@@ -151,7 +150,6 @@ fn shown_heads(alloc: Global, squares: &[Square], sheet: Sheet) -> Result<Vec<La
 }
 
 /// The names in the squares that have room for them, if a cell has `scale` pixels.
-#[tactic(auto, using(crate::proofs::LabelLaws::inner_more))]
 fn inner_labels(alloc: Global, squares: &[Square], scale: u32) -> Result<Vec<Label>, AllocError>
     ensures { IfOk result (λ labels. All (IsInnerLabel scale squares.now) labels.items) }
 {
@@ -174,9 +172,9 @@ pub(crate) fn square_labels(
     squares: &[Square],
     sheet: Sheet,
 ) -> Result<SquareLabels, AllocError>
-    ensures inside { IfOk result (λ labels. All (IsInnerLabel sheet.entry.scale squares.now) labels.inside.items) }
-    ensures heads { let s = sheet.entry in IfOk result (λ labels. map seat_of labels.heads.items
-        ≡ (if s.has_heads then heads_of s.scale s.chart_place squares.now else [])) }
+    ensures inside { IfOk result (λ labels. All (IsInnerLabel sheet.scale squares.now) labels.inside.items) }
+    ensures heads { IfOk result (λ labels. map seat_of labels.heads.items
+        ≡ (if sheet.has_heads then heads_of sheet.scale sheet.chart_place squares.now else [])) }
 {
     let inside = inner_labels(alloc, squares, sheet.scale)?;
     let heads = shown_heads(alloc, squares, sheet)?;

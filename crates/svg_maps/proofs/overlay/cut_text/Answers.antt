@@ -1,4 +1,5 @@
-use Rattle.std.proofs.Common.{◌≡◌, ◌<◌, ◌∙◌, map, ap, subst, arith, string_bytes}
+use Rattle.std.proofs.Common.{◌≡◌, ◌<◌, ◌∙◌, map, ap, subst, arith, rules, true, string_bytes}
+use Rattle.std.specs.Str.Iter.{split_text, split_has_more, split_pattern}
 use Rattle.std.proofs.lemmas.Iterator.Consumers.{YieldsList-end}
 use Rattle.std.proofs.lemmas.Iterator.Splits.{YieldsList-from_str_split}
 use Rattle.std.proofs.lemmas.List.{map-append}
@@ -16,8 +17,12 @@ loop-line-preserved c =
 
 pub returns : goal.returns
 returns c =
+    let s = c.into_iter-line-iterator.result in
     let low : 10 < 128 = omega arith in
-    let all = YieldsList-end (YieldsList-from_str_split 10 c.args.text.now low c.split.ensures.text
-    c.split.ensures.has_more c.split.ensures.pattern) c.loop-line.yielded _ c.loop-line.yielded_by _ _ c.in-None.is
+    let text : split_text s ≡ c.args.text.now = search rules in
+    let more : split_has_more s ≡ true = search rules in
+    let pattern : split_pattern s ≡ 10 = search rules in
+    let all = YieldsList-end (YieldsList-from_str_split 10 c.args.text.now low text more pattern)
+    c.loop-line.yielded c.loop-line.line-iterator c.loop-line.yielded_by c.next.result c.next.new.self c.in-None.is
     c.next.ensures.steps in
     subst (λ z. AreCutLines z (map string_bytes c.loop-line.lines.items)) all.0 c.loop-line.invariant
