@@ -1,6 +1,6 @@
 -- The routes of a table that one can remove.
-use Rattle.std.proofs.Common.{◌≡◌, ◌≢◌, ℕ, zero, suc, ◌+◌, ◌<◌, ◌≤◌, ◌==◌, ◌⊎◌, ◌↔◌, Bool, not, true, false, IsTrue}
-use Rattle.std.proofs.Common.{List, [], ◌∷◌, All, Contains, map, length, get_or, take, refl, sym, ap, ◌∙◌, subst, arith}
+use Rattle.std.proofs.Common.{◌≡◌, ◌≢◌, ℕ, zero, suc, ◌<◌, ◌≤◌, ◌==◌, ◌↔◌, Bool, not, true, false, IsTrue}
+use Rattle.std.proofs.Common.{List, [], ◌∷◌, All, Contains, length, take, refl, sym, ap, ◌∙◌, subst, arith}
 use Rattle.std.proofs.Common.{inl, inr, nat_eq}
 use Rattle.std.proofs.lemmas.Bool.{cases_lt, ne_eqb}
 use Rattle.std.proofs.lemmas.Bool.Decides.{Decides-eqb}
@@ -8,7 +8,7 @@ use Rattle.std.proofs.lemmas.List.{length-map, get_or-map, take_all}
 use Rattle.std.proofs.lemmas.Slice.Eq.{slice_eq-Decides}
 use lib.Pointwise.{pointwise}
 use Rattle.ipnet_base.specs.Address.{Address, width}
-use Rattle.ipnet_base.specs.Network.{Network, InBlock, IsNetwork, IsSubnetOf, IsSupernetOf, IsTruncated, host_bits}
+use Rattle.ipnet_base.specs.Network.{Network, InBlock, IsNetwork, IsSubnetOf, IsSupernetOf, IsTruncated}
 use Rattle.ipnet_base.proofs.BlockLaws.{own, own_in}
 use Rattle.ipnet_base.proofs.ListLaws.{all_at}
 use Rattle.ipnet_base.proofs.NestingLaws.{nested, longer_from_subnet}
