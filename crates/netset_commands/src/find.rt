@@ -127,7 +127,12 @@ fn search_status(first: u8, second: u8) -> u8
 
 /// Reads the list of this name, prints its lines that are found, and returns the status.
 #[inline(never)]
-fn search_file(rt: &HostRuntime, search: EntrySearch, name: &str, writers: &mut Writers<'_, '_>) -> u8
+fn search_file(
+    rt: &HostRuntime,
+    search: EntrySearch,
+    name: &str,
+    writers: &mut Writers<'_, '_>,
+) -> u8
     ensures { result ≤ 2 }
 {
     match bytes_of(rt, name, "entries", writers.reports) {

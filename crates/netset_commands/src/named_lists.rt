@@ -36,7 +36,7 @@ pub fn last_name<'a>(matches: &ArgMatches<'a>, id: &str) -> &'a str
 }
 
 /// Returns the values of the argument with this id, in order; none if it was not given.
-pub fn values_of<'a>(matches: &'a ArgMatches<'a>, id: &str) -> &'a [&'a str]
+pub fn values_of<'m>(matches: &'m ArgMatches<'_>, id: &str) -> &'m [&'m str]
     ensures { map (λ value. value.now) result.now ≡ values_of matches.now id.now }
 {
     matches.get_strs(id).unwrap_or(&[])

@@ -228,11 +228,11 @@ struct Asked<'a> {
 }
 
 /// Reads what is asked for. If that fails, it is reported, and the error is the exit status.
-fn asked_for<'a>(
+fn asked_for<'m>(
     rt: &HostRuntime,
-    matches: &'a ArgMatches<'a>,
+    matches: &'m ArgMatches<'_>,
     writers: &Writers<'_, '_>,
-) -> Result<Asked<'a>, u8>
+) -> Result<Asked<'m>, u8>
     ensures words { IfOk result (λ asked. AreWordsAsked matches.now asked.words.items) }
     ensures failed { IfErr result (λ status. status ≡ 2) }
 {
@@ -251,7 +251,11 @@ struct Free {
 
 /// Reads the list and the lists in use. Returns the free addresses, and the families of a plan in them. If that fails,
 /// or if lines are refused, it is reported, and the error is the exit status.
-fn read_free(rt: &HostRuntime, matches: &ArgMatches, writers: &mut Writers<'_, '_>) -> Result<Free, u8>
+fn read_free(
+    rt: &HostRuntime,
+    matches: &ArgMatches,
+    writers: &mut Writers<'_, '_>,
+) -> Result<Free, u8>
     ensures free { IfOk result (IsFree matches.now) }
     ensures failed { IfErr result (λ status. status ≡ 2) }
 {

@@ -184,7 +184,12 @@ fn open_and_run(rt: &HostRuntime, name: &str, matches: &ArgMatches) -> u8
 
 /// Runs the command of this name, and returns its status.
 #[inline(never)]
-fn run_command(rt: &HostRuntime, name: &str, matches: &ArgMatches, writers: &mut Writers<'_, '_>) -> u8
+fn run_command(
+    rt: &HostRuntime,
+    name: &str,
+    matches: &ArgMatches,
+    writers: &mut Writers<'_, '_>,
+) -> u8
     ensures { result ≤ 2 }
 {
     match name {
@@ -334,7 +339,12 @@ fn filter_query(matches: &ArgMatches) -> Query
 
 /// Reads the lists, prints the answer to the query, and returns the status.
 #[inline(never)]
-fn run_query(rt: &HostRuntime, query: Query, matches: &ArgMatches, writers: &mut Writers<'_, '_>) -> u8
+fn run_query(
+    rt: &HostRuntime,
+    query: Query,
+    matches: &ArgMatches,
+    writers: &mut Writers<'_, '_>,
+) -> u8
     ensures { result ≤ 2 }
 {
     let names = match two_or_report(rt, matches) {

@@ -1,6 +1,7 @@
 -- Lists that are read one after another.
 use Rattle.std.proofs.Common.{◌≡◌, ◌↔◌, ◌+◌, ◌<◌, ℕ, Bool, List, Option, Some, None, Result, Ok, Err}
 use Rattle.std.proofs.Common.{IsTrue, IfOk, IfSome, IfNone, length, take, get_or, sym, subst}
+use Rattle.std.proofs.Common.{false, if◌then◌else◌, is_err, is_ok}
 use Rattle.std.proofs.lemmas.Fn.{FoldsTo-push}
 use Rattle.std.proofs.lemmas.List.{take_more}
 use Rattle.std.specs.Borrow.{Bor}
@@ -25,8 +26,11 @@ module _ {Reader Value : Type 0} (Reads : Left → Left → Reader → Value →
       subst (λ l. AreAllowed Reads holds refused reports first l last) (sym (take_more names i d within))
       (FoldsTo-push Step first (take i names) (old, a) name last before step)
 
--- one more list
-pub ruleset one_more = (FoldsTo-push, next_allowed)
+-- a call that does not fail leaves the first of the two
+pub if_ok : {T E X : Type 0} (r : Result T E) (new changed old : X) → is_err r ≡ false
+    → new ≡ (if is_ok r then changed else old) → new ≡ changed
+if_ok (Ok x) new changed old same h = h
+if_ok (Err e) new changed old same h = absurd cc
 
 -- if there is none: what follows from it
 pub none_weaker : {X : Type 0} (o : Option X) (P Q : Type 0) → (P → Q) → IfNone o P → IfNone o Q

@@ -308,7 +308,6 @@ impl<L: ListReader> Lists<L> {
     }
 
     /// Reads the lists of these names in order, as `read` does.
-    #[tactic(auto, using(crate::proofs::ReadLaws::one_more))]
     pub fn read_files(
         self,
         rt: &HostRuntime,

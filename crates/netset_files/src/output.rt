@@ -266,6 +266,8 @@ impl<'a, 'e> Writers<'a, 'e> {
         ensures withheld { self.old.answer.is_withheld ≡ true → (result ≡ status) ⊎ (result ≡ 141) }
         ensures published { self.old.answer.is_withheld ≡ false → self.old.answer.is_published ≡ false
             → result ≤ 1 → IsTrue self.new.answer.is_published }
+        ensures unpublished { (2 ≤ status) ⊎ (self.old.answer.is_withheld ≡ true)
+            → self.new.answer.is_published ≡ self.old.answer.is_published }
     {
         let status = if self.answer.is_withheld {
             status
@@ -289,6 +291,11 @@ impl<'a, 'e> Writers<'a, 'e> {
         ensures exit { status ≤ 2 → IsExitStatus result }
         ensures skipped { status ≤ 2 → result ≡ 3 → IsTrue skips × IsTrue self.old.skipped }
         ensures incomplete { IsTrue skips → IsTrue self.old.skipped → 1 < result }
+        ensures kept { (result ≡ status) ⊎ ((result ≡ 141) ⊎ ((status ≤ 1) × ((result ≡ 2) ⊎ (result ≡ 3)))) }
+        ensures published { self.old.answer.is_withheld ≡ false → self.old.answer.is_published ≡ false
+            → (result ≤ 1) ⊎ (result ≡ 3) → status ≤ 2 → IsTrue self.new.answer.is_published }
+        ensures unpublished { (2 ≤ status) ⊎ (self.old.answer.is_withheld ≡ true)
+            → self.new.answer.is_published ≡ self.old.answer.is_published }
     {
         let skipped = skips && self.skipped;
         status_after(skipped, self.end(status))

@@ -31,7 +31,7 @@ pub all_ipv6 : codes "340282366920938463463374607431768211456" ≡ decimal 34028
 unfolding digits
 all_ipv6 = refl
 
--- a number that is written behind a text, where there was room
+-- a number that is written after a text, if there was room
 pub count_written : {E : Type 0} (r : Result (Unit {0}) E) (InSet : Address → Type 0) (n : ℕ) (old new : List ℕ)
     (spelled : List ℕ) → IsCountOf InSet n → spelled ≡ decimal n
     → new ≡ (if is_ok r then old ++ spelled else old)
@@ -198,7 +198,7 @@ total_right (s ∷ []) all line two members is = absurd (omega (arith, two))
 total_right (s ∷ t ∷ sets) all line two members is =
     count_line_same (codes "total") (IsMember all) (IsInSome IsMember (s ∷ t ∷ sets)) line members is
 
--- four texts, one behind the other
+-- four texts, one after the other
 pub four_joined : (t p q r s a b c d : List ℕ) → t ≡ [] → p ≡ t ++ a → q ≡ p ++ b → r ≡ q ++ c → s ≡ r ++ d
     → s ≡ a ++ b ++ c ++ d
 four_joined t p q r s a b c d e f g h k =

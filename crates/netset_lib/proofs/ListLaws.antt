@@ -1,6 +1,6 @@
 -- Results over sets, and over the lists that the sets were read from.
-use Rattle.std.proofs.Common.{◌≡◌, ◌≢◌, ℕ, ◌↔◌, Bool, true, List, [], ◌∷◌, refl, arith, subst, IsTrue}
-use Rattle.ipnet_base.specs.Address.{Address, address_at}
+use Rattle.std.proofs.Common.{◌≡◌, ◌≢◌, ℕ, ◌↔◌, Bool, List, [], ◌∷◌, refl, arith, subst, IsTrue}
+use Rattle.ipnet_base.specs.Address.{address_at}
 use Rattle.ipnet.specs.declared.parser.Grammar.{Grammar}
 use Rattle.ipnet_sets.specs.declared.set.IpSet.{IpSet}
 use Rattle.ipnet_sets.specs.Members.{IsMember, HasNoAddress}

@@ -1,5 +1,6 @@
 -- The room that a plan needs, and the lines of a plan.
-use Rattle.std.proofs.Common.{◌≡◌, ◌∙◌, ◌+◌, ◌<◌, ◌≤◌, ◌++◌, ◌∷◌, [], ℕ, List, ap, append_assoc, drop, get_or, length, sym}
+use Rattle.std.proofs.Common.{◌≡◌, ◌∙◌, ◌+◌, ◌<◌, ◌≤◌, ◌++◌, ◌∷◌, [], ℕ, List}
+use Rattle.std.proofs.Common.{ap, append_assoc, drop, get_or, length, sym}
 use Rattle.std.proofs.lemmas.List.{drop_more, drop-drop}
 use Rattle.std.proofs.Math.ListN.{drop_of_length-le}
 use Rattle.ipnet_base.specs.Address.{Family, Address}
@@ -34,7 +35,7 @@ pub no_name : (words : List PlanWord) (i : ℕ) → length words ≤ i → [] �
 no_name words i past = sym (ap first_name (drop_of_length-le words past))
 
 -- one more line was written, and the others are still to come
-pub next_line : (n : Network) (networks : List Network) (words : List PlanWord) (old new whole : List ℕ)
+next_line : (n : Network) (networks : List Network) (words : List PlanWord) (old new whole : List ℕ)
     → new ≡ old ++ (canonical_text n ++ text_part (first_name words) ++ 10 ∷ [])
     → old ++ plan_lines (n ∷ networks) words ≡ whole → new ++ plan_lines networks (drop 1 words) ≡ whole
 next_line n networks words old new whole e h =

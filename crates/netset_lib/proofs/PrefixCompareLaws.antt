@@ -1,5 +1,5 @@
 -- How two prefix lists differ, and whether the text about it is empty.
-use Rattle.std.proofs.Common.{◌≡◌, ◌↔◌, ◌⊎◌, ◌++◌, ◌∷◌, [], ℕ, Bool, IsTrue, List, codes, inl, inr, sym, ◌∙◌}
+use Rattle.std.proofs.Common.{◌≡◌, ◌↔◌, [], ℕ, Bool, IsTrue, List, inl, inr, sym, ◌∙◌}
 use Rattle.ipnet_rules.specs.PrefixLists.{IsPermittedByOne, PermitSameRoutes}
 use Rattle.ipnet_rules.specs.declared.prefix_list.PrefixRule.{PrefixRule}
 use Rattle.netset_lib.specs.PrefixComparisons.{IsDifferenceText}

@@ -68,7 +68,7 @@ module _ {V : Type 0} (table : RouteTable V) (range : AddressRange) (n : Network
       same_from_block k n good.0 valid good.1 climbed.truncated
       (nested k n x ends.0 climbed.first (omega (arith, bits)), nested n k x climbed.first ends.0 (omega (arith, bits)))
 
-  -- a network that is none of the table's, or has not both ends, is no answer: the longest can only be shorter
+  -- a network that is not in the table, or has not both ends, cannot be the answer: the longest can only be shorter
   shorter : (k : Network) → InTable table k → HasEnds range k → k.prefix_len < n.prefix_len
   shorter k one ends = elim (cases_order k.prefix_len n.prefix_len) [
     | inr (inl less) ↦ less
@@ -90,7 +90,7 @@ module _ {V : Type 0} (table : RouteTable V) (range : AddressRange) (n : Network
 
 -- ---- ranges with an address
 
--- a network has all of a range with an address where it has its two ends
+-- a network has all of a range with an address if it has its two ends
 pub ends_hold : (range : AddressRange) (n : Network) → range.start ≤ range.end
     → HasEnds range n ↔ ((x : Address) → IsInRange range x → InBlock n x)
 ends_hold range n some = (
@@ -140,7 +140,7 @@ pub line_found : (IsOne : Network → Type 0) (e : ListEntry) (found : Option Ip
 line_found IsOne e None h = inr (h, refl)
 line_found IsOne e (Some network) h = inl (ip_network network, h, refl)
 
--- the same line, where the two tables have the same networks, and the entry has an address
+-- the same line, if the two tables have the same networks, and the entry has an address
 pub line_same : (IsOne IsOther : Network → Type 0) (e : ListEntry) (line : List ℕ)
     → ((n : Network) → IsOne n ↔ IsOther n) → HasSome e → IsRouteLine IsOne HoldsEnds e line
     → IsRouteLine IsOther Holds e line

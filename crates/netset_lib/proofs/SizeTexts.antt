@@ -40,8 +40,9 @@ pub host_count : (text : List ℕ) (found : Option ℕ) (count : ℕ)
     → found ≡ Some count → count ≢ 0 → (n : ℕ) → (Some count ≡ Some n) ↔ IsHostCount text n
 host_count text found count reads is some n = (
   λ e. let same : count ≡ n = cc in
-    ((reads n).0 (is ∙ e), subst (λ k. 1 ≤ k) same (omega (arith, some))),
-  λ h. sym is ∙ (reads n).1 h.0)
+      ((reads n).0 (is ∙ e), subst (λ k. 1 ≤ k) same (omega (arith, some))),
+  λ h. sym is ∙ (reads n).1 h.0,
+)
 
 -- 0 is no number of hosts
 pub no_host : (text : List ℕ) (found : Option ℕ) (count : ℕ)
@@ -50,7 +51,8 @@ pub no_host : (text : List ℕ) (found : Option ℕ) (count : ℕ)
 no_host text found count reads is zero n = (
   λ e. absurd cc,
   λ h. let one : Some count ≡ Some n = sym is ∙ (reads n).1 h.0 in
-    let same : count ≡ n = cc in absurd (omega (arith, same, zero, h.1)))
+      let same : count ≡ n = cc in absurd (omega (arith, same, zero, h.1)),
+)
 
 -- nor is a text that is no number
 pub no_number : (text : List ℕ) (found : Option ℕ)
@@ -58,7 +60,8 @@ pub no_number : (text : List ℕ) (found : Option ℕ)
     → found ≡ None → (n : ℕ) → (None ≡ Some n) ↔ IsHostCount text n
 no_number text found reads none n = (
   λ e. absurd cc,
-  λ h. let one : None ≡ Some n = sym none ∙ (reads n).1 h.0 in absurd cc)
+  λ h. let one : None ≡ Some n = sym none ∙ (reads n).1 h.0 in absurd cc,
+)
 
 pub ruleset sizes = (stripped_end, no_size, no_hosts)
 

@@ -1,5 +1,5 @@
 -- Plans of networks in the addresses of a set: their text, and why there is none.
-use Rattle.std.specs.Prelude.{◌≡◌, ◌≢◌, ◌↔◌, ◌<◌, ◌≤◌, ◌⊎◌, ◌++◌, ◌∷◌, ℕ, List, [], Any, All, length, codes, drop}
+use Rattle.std.specs.Prelude.{◌≡◌, ◌<◌, ◌≤◌, ◌⊎◌, ◌++◌, ◌∷◌, ℕ, List, [], Any, All, codes, drop}
 use Rattle.std.specs.Prelude.{Some, nat_lt}
 use Rattle.std.specs.List.{find}
 use Rattle.ipnet_base.specs.Address.{Family, IPv4, IPv6, width, Address}

@@ -5,4 +5,4 @@ use Rattle.netset_lib.specs.RuleContentsOf.{line_of_rule}
 use Rattle.netset_files.proofs.lists.rule_count.Goals as goal
 
 pub returns : goal.returns
-returns c = c.len.ensures ∙ sym (length-map c.lines.result.now line_of_rule) ∙ ap length c.lines.ensures
+returns c = sym (length-map c.lines.result.now line_of_rule) ∙ ap length c.lines.ensures

@@ -5,4 +5,4 @@ use Rattle.ipnet_lists.specs.RefusedLines.{refusal_of}
 use Rattle.netset_files.proofs.lists.shown_count.Goals as goal
 
 pub returns : goal.returns
-returns c = c.len.ensures ∙ sym (length-map c.refused.result.now refusal_of) ∙ ap length c.refused.ensures
+returns c = sym (length-map c.refused.result.now refusal_of) ∙ ap length c.refused.ensures

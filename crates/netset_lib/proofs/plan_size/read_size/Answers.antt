@@ -10,7 +10,8 @@ pub returns-in-Some-read_host_count-clause-some : goal.returns-in-Some-read_host
 returns-in-Some-read_host_count-clause-some c = (
   c.in-Some-strip_suffix.digits.now,
   stripped_end (codes "hosts") c.args.text.now c.in-Some-strip_suffix.digits.now c.in-Some-strip_suffix.ensures.cases,
-  (c.read_host_count.ensures c.in-Some-read_host_count.count).0 c.in-Some-read_host_count.is)
+  (c.read_host_count.ensures c.in-Some-read_host_count.count).0 c.in-Some-read_host_count.is,
+)
 
 pub returns-in-None-clause-none : goal.returns-in-None-clause-none
 returns-in-None-clause-none c =

@@ -1,6 +1,6 @@
 use Rattle.std.proofs.Common.{◌≡◌, subst}
 use Rattle.std.proofs.lemmas.Result.{on_ok_weaker}
-use Rattle.netset_lib.specs.Reports.{IsReason, reason_line}
+use Rattle.netset_lib.specs.Reports.{IsReason}
 use Rattle.netset_lib.proofs.reports.report_error.Goals as goal
 
 pub returns-clause-whole : goal.returns-clause-whole
@@ -9,27 +9,27 @@ returns-clause-whole g c =
     let same : c.error_words.result.bytes ≡ reason = cc in
     on_ok_weaker c.report_reason.result
     (λ written. record {
-      text = reason_line c.args.words.now reason;
+      text = written.text;
       right = (
         reason,
         subst (IsReason (g.E.Display.output c.args.error.now)) same c.error_words.ensures,
-        cc,
+        written.right,
       );
-      written = written;
+      written = written.written;
     }) c.report_reason.ensures.whole
 
 pub returns-clause-front : goal.returns-clause-front
 returns-clause-front g c =
     let reason = c.as_str.result.now in
     let same : c.error_words.result.bytes ≡ reason = cc in
-    let (front, begins, written) = c.report_reason.ensures.front in record {
-      text = reason_line c.args.words.now reason;
+    let begun = c.report_reason.ensures.front in record {
+      text = begun.text;
       right = (
         reason,
         subst (IsReason (g.E.Display.output c.args.error.now)) same c.error_words.ensures,
-        cc,
+        begun.right,
       );
-      front = front;
-      begins = begins;
-      written = written;
+      front = begun.front;
+      begins = begun.begins;
+      written = begun.written;
     }
