@@ -1,17 +1,17 @@
 -- Ranges inside others, and the lines of a list one after another.
-use Rattle.std.proofs.Common.{◌≡◌, ◌≤◌, ◌+◌, ◌++◌, ◌⊎◌, ◌↔◌, ℕ, List, [], ◌∷◌}
+use Rattle.std.proofs.Common.{◌≡◌, ◌≤◌, ◌+◌, ◌++◌, ◌↔◌, ℕ, List, [], ◌∷◌}
 use Rattle.std.proofs.Common.{refl, sym, ap, subst, ◌∙◌, inl, inr, arith, append-nil, append_assoc}
 use Rattle.std.proofs.lemmas.Bool.{cases_lt}
 use Rattle.ipnet.specs.Lines.{lines_of}
-use Rattle.ipnet_base.specs.Address.{Address, Family, IsBetween, address_at}
+use Rattle.ipnet_base.specs.Address.{Address, Family, address_at}
 use Rattle.ipnet_base.specs.Ranges.{AddressRange}
 use Rattle.ipnet_sets.specs.SetRanges.{IsInRange}
-use Rattle.ipnet_lists.specs.Lists.{IsContents, Refusal}
-use Rattle.ipnet_lists.specs.RefusedLines.{AreRefused, HasMore}
+use Rattle.ipnet_lists.specs.Lists.{Refusal}
+use Rattle.ipnet_lists.specs.RefusedLines.{AreRefused}
 use Rattle.ipnet_lists.proofs.RefusalLaws.{more_refused}
 use Rattle.netset_entries.specs.declared.find.FoundLines.{FoundLines}
-use Rattle.netset_entries.specs.Finds.{Search, IsFound, IsOther, IsRefused, AreSearched, found_line}
-use Rattle.netset_entries.specs.FindSteps.{AddsSearched, HasSearched}
+use Rattle.netset_entries.specs.Finds.{Search, AreSearched, found_line}
+use Rattle.netset_entries.specs.FindSteps.{AddsSearched}
 
 -- the first address of a range that is not empty
 first_in : (r : AddressRange) → r.start ≤ r.end → IsInRange r (address_at r.family r.start)

@@ -1,5 +1,5 @@
 -- The lines of pairs of sets, and of the lists that they were read from.
-use Rattle.std.proofs.Common.{◌≡◌, ◌≤◌, ◌<◌, ◌+◌, ◌-◌, ◌^◌, ◌↔◌, ℕ, zero, suc, List, [], ◌∷◌, ◌++◌, length, get_or}
+use Rattle.std.proofs.Common.{◌≡◌, ◌<◌, ◌+◌, ◌-◌, ◌↔◌, ℕ, zero, suc, List, [], ◌∷◌, ◌++◌, length, get_or}
 use Rattle.std.proofs.Common.{All, Option, Some, None, IsNone, IfSome, IsTrue, Bool, refl, sym, ap, ◌∙◌, subst, arith}
 use Rattle.std.proofs.Common.{append_assoc, drop, take, take_all}
 use Rattle.std.proofs.lemmas.List.{take_more}
@@ -11,7 +11,6 @@ use Rattle.ipnet_lists.specs.Lists.{ListEntry, IsInEntries, HaveAddresses}
 use Rattle.ipnet_lists.specs.Names.{Names, name_at}
 use Rattle.ipnet_sets.specs.declared.set.IpSet.{IpSet}
 use Rattle.ipnet_sets.specs.Members.{HaveSameAddresses, IsCountOf, IsMember, IsMemberOf}
-use Rattle.netset_lib.specs.Counts.{HasCounts, HaveSame}
 use Rattle.netset_lib.specs.ListSets.{HaveMembers}
 use Rattle.netset_lib.proofs.CountTexts.{all_counted}
 use Rattle.netset_entries.specs.ListPairs.{AreTabbedCounts, IsPairLine, IsPairAt, IsListAt, ArePairsOf, ArePairs}

@@ -5,13 +5,11 @@ use Rattle.std.proofs.lemmas.List.{length-append}
 use Rattle.ipnet_text.specs.Inputs.{GaveWhole}
 use Rattle.ipnet_lists.specs.Lists.{ListEntry, IsListRead}
 use Rattle.ipnet_lists.specs.Reading.{Adds, WasMadeOf}
-use Rattle.ipnet_lists.specs.declared.reading.Reading.{Reading}
 use Rattle.ipnet_lists.proofs.RefusalLaws.{more_refused}
 use Rattle.netset_lib.specs.Answers.{AreListsRead, HasRefused}
 use Rattle.netset_lib.specs.EntryAnswers.{IsFoundIn}
 use Rattle.netset_lib.proofs.ListsReading.{lists_push, none_of_length}
 use Rattle.netset_entries.specs.declared.selected.SelectRequest.{SelectRequest}
-use Rattle.netset_entries.specs.declared.selected.Selected.{Selected}
 use Rattle.netset_entries.specs.declared.selection.Selection.{Selection}
 use Rattle.netset_entries.specs.Choices.{IsChosen}
 use Rattle.netset_entries.specs.Selections.{IsSelection, IsSelectAnswer, IsSelectOutcome, entries_of_lists}

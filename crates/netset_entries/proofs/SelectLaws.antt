@@ -1,6 +1,6 @@
 -- Selected entries, one entry more: chosen or not, repeated or not, with its text and its place.
 use Rattle.std.proofs.Common.{◌≡◌, ◌≤◌, ◌↔◌, ◌⊎◌, ◌+◌, ◌-◌, ℕ, Bool, true, false, IsTrue, List, [], ◌∷◌, ◌++◌}
-use Rattle.std.proofs.Common.{length, map, take, drop, All, Any, inl, inr, refl, sym, ap, ◌∙◌, subst, arith}
+use Rattle.std.proofs.Common.{length, map, take, drop, All, inl, inr, refl, sym, ap, ◌∙◌, subst, arith}
 use Rattle.std.proofs.Common.{append_assoc, append-nil, ◌<◌, get_or, cond, nat_cmp, Ordering, Less, Equal, Greater}
 use Rattle.std.specs.List.{slice_range}
 use Rattle.std.specs.Ordering.{ordering_then, is_eq}
@@ -16,7 +16,6 @@ use Rattle.ipnet_base.specs.Ranges.{AddressRange}
 use Rattle.ipnet_base.proofs.ListLaws.{contains_nil}
 use Rattle.ipnet_sets.proofs.SetRangeLaws.{any_cases, any_here, any_there}
 use Rattle.ipnet_lists.specs.Lists.{ListEntry}
-use Rattle.netset_lib.specs.EntryAnswers.{IsFoundIn}
 use Rattle.netset_lib.specs.Filters.{AreKept, text_of_entries}
 use Rattle.netset_lib.proofs.EntryAnswerLaws.{found_none, found_push}
 use Rattle.netset_entries.specs.declared.selected.EntryPlace.{EntryPlace}

@@ -54,7 +54,7 @@ pub record IsOfFamily (grammar : Grammar) (frame : Option IpNet) (lines : List (
   pub same_family : (ip_network e.network).family ≡ family
   pub noted : IsNotedOf grammar frame lines e
 
--- No block was kept yet. There is an empty list for each of so many prefix lengths.
+-- No block was kept yet. There is an empty list for each of this number of prefix lengths.
 pub record AreNone (lengths : ℕ) (l : Largest) : Type 0 where
   pub none : All (λ v. v.items ≡ []) l.by_len.items
   pub size : length l.by_len.items ≡ lengths

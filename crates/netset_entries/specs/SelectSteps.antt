@@ -1,6 +1,6 @@
 -- The values of a selection, as contracts see them.
 -- Only private contracts use these, except `WereSelected`, `IsNoted`, `has_entry` and `refused_count`.
-use Rattle.std.specs.Prelude.{◌≡◌, ◌≢◌, ◌≤◌, ◌↔◌, ◌⊎◌, ℕ, Bool, true, IsTrue, List, [], ◌∷◌, ◌++◌, length, map, All}
+use Rattle.std.specs.Prelude.{◌≡◌, ◌≢◌, ◌≤◌, ◌↔◌, ◌⊎◌, ℕ, Bool, true, IsTrue, List, [], length, map, All}
 use Rattle.std.specs.Prelude.{slice_range}
 use Rattle.std.specs.Ordering.{nat_cmp, ordering_then}
 use Rattle.std.specs.BTreeSet.{BTreeSet, contains}

@@ -80,7 +80,7 @@ pub(crate) fn push_line_at(
     }
 }
 
-/// Reports the refused lines of two lists, which have these names: first those of the first list.
+/// Reports the refused lines of two lists with these names: first the lines of the first list.
 fn report_both<X: Write>(
     faults: &mut Watched<'_, X>,
     names: &[&str],

@@ -1,4 +1,4 @@
-use Rattle.std.proofs.Common.{◌≡◌, ◌≢◌, ◌∷◌, [], length, refl, sym, ap, subst, inl, inr, append-nil, arith}
+use Rattle.std.proofs.Common.{◌≢◌, ◌∷◌, [], length, refl, sym, ap, subst, inl, inr, append-nil, arith}
 use Rattle.ipnet_text.proofs.LineCuts.{empty_text, no_bytes, some_bytes}
 use Rattle.ipnet_lists.specs.EntryOf.{entry_range}
 use Rattle.ipnet_lists.specs.Lists.{IsContents, refusal_at}

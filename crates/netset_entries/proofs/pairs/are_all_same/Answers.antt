@@ -1,4 +1,4 @@
-use Rattle.std.proofs.Common.{◌≡◌, ◌≤◌, ◌<◌, ◌-◌, All, drop, length, take, take_all, refl, sym, subst, arith}
+use Rattle.std.proofs.Common.{◌≤◌, ◌-◌, All, drop, length, take, take_all, refl, sym, subst, arith}
 use Rattle.ipnet_sets.specs.Members.{HaveSameAddresses, IsMember}
 use Rattle.netset_entries.specs.ListPairs.{HaveAllSame}
 use Rattle.netset_entries.proofs.PairLineLaws.{all_same_from, one_same_more, rest_of}

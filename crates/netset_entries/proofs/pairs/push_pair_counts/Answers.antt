@@ -1,5 +1,5 @@
 -- Each count is of a set that has exactly these addresses.
-use Rattle.std.proofs.Common.{◌++◌, ◌∙◌, ap, append_assoc, string_bytes}
+use Rattle.std.proofs.Common.{◌++◌, ◌∙◌, ap}
 use Rattle.std.proofs.lemmas.Result.{on_ok_weaker}
 use Rattle.ipnet_sets.specs.Members.{IsMember}
 use Rattle.netset_entries.proofs.PairLineLaws.{tabbed_same}

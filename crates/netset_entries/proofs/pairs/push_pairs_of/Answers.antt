@@ -1,5 +1,5 @@
 -- The pair of the list at the index and the next one after it.
-use Rattle.std.proofs.Common.{◌≡◌, ◌<◌, ◌+◌, ◌-◌, ◌++◌, [], length, refl, sym, ap, ◌∙◌, subst, arith, string_bytes}
+use Rattle.std.proofs.Common.{◌≡◌, ◌<◌, ◌+◌, ◌-◌, ◌++◌, [], length, sym, ap, ◌∙◌, subst, arith, string_bytes}
 use Rattle.std.proofs.Common.{append_assoc, append-nil}
 use Rattle.ipnet_lists.specs.Names.{name_at}
 use Rattle.ipnet_sets.specs.Members.{IsMember}

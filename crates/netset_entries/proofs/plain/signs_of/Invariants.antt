@@ -1,4 +1,4 @@
--- The signs are those of the bytes before the next.
+-- The signs are the signs of the bytes before the next.
 use Rattle.netset_entries.proofs.PlainTexts.{HaveSigns}
 use Rattle.netset_entries.proofs.plain.signs_of.Given as goal
 

@@ -1,4 +1,4 @@
-use Rattle.std.proofs.Common.{◌≡◌, ◌⊎◌, refl, sym, ap, subst, Ok, inl, inr}
+use Rattle.std.proofs.Common.{refl, sym, ap, subst, Ok, inl, inr}
 use Rattle.netset_lib.proofs.RunLaws.{whole_weaker, front_weaker}
 use Rattle.netset_entries.specs.WriteFailures.{IsListsFailure}
 use Rattle.netset_entries.proofs.TwoListLaws.{cut_of_asked, text_of_asked, overlap_outcome}
