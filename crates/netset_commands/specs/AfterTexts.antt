@@ -27,7 +27,8 @@ IsTextCause text LineBreak = HasLineBreak text
 -- or the empty text, which is at the start of each line, if the option is omitted.
 abbrev pub IsAfterText : ArgMatches → List ℕ → Type 0
 IsAfterText matches text =
-    ((first_value (found_of matches) (codes "after") ≡ None) × (text ≡ [])) ⊎ (IsGivenAfter matches text × IsGoodText text)
+    ((first_value (found_of matches) (codes "after") ≡ None) × (text ≡ []))
+    ⊎ (IsGivenAfter matches text × IsGoodText text)
 
 -- Why there is no such text: the value of the option is empty, or has a line break.
 abbrev pub IsTextFailure : ArgMatches → TextFailure → Type 0
