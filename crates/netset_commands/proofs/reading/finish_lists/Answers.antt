@@ -1,5 +1,5 @@
 -- The lines that are refused are bad, and the reader is the one of the lists.
-use Rattle.std.proofs.Common.{inl, subst}
+use Rattle.std.proofs.Common.{inl, refl, subst}
 use Rattle.netset_commands.specs.BadLines.{HasBadLine}
 use Rattle.netset_commands.proofs.reading.finish_lists.Goals as goal
 
@@ -9,7 +9,7 @@ returns-in_err-finish-clause-some c was now =
 
 pub returns-in_err-finish-clause-bad : goal.returns-in_err-finish-clause-bad
 returns-in_err-finish-clause-bad c _ =
-    inl (subst HasBadLine c.into_reader-reader.ensures.reader c.in_err-finish.ensures.bad)
+    inl (subst HasBadLine c.into_reader-reader.ensures.reader (c.in_err-finish.ensures.bad refl))
 
 pub returns-then-allowed-clause-some : goal.returns-then-allowed-clause-some
 returns-then-allowed-clause-some c was now =
