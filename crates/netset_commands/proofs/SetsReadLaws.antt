@@ -27,7 +27,7 @@ sets_read matches count None first sets last none files entries = record {
 }
 sets_read matches count (Some text) first sets last is files entries = record {
   files = λ zero. absurd (omega (arith, zero, is.0));
-  entries = λ _. subst (λ bytes. AreReadThen ReadsSet bytes (count - 1) first sets last) is.1.1 entries;
+  entries = λ _. subst (λ bytes. AreReadThen ReadsSet bytes (count - 1) first sets last) is.2 entries;
 }
 
 module _ (matches : ArgMatches) (first : SetReader) (before : List IpSet) (mid : SetReader) (set : IpSet)
@@ -54,7 +54,7 @@ module _ (matches : ArgMatches) (first : SetReader) (before : List IpSet) (mid :
       all = refl;
       count = omega arith;
       read = read;
-      read_last = subst (λ bytes. ReadsSet (Some bytes) entries.0 mid set last) is.1.1 entries.1;
+      read_last = subst (λ bytes. ReadsSet (Some bytes) entries.0 mid set last) is.2 entries.1;
     };
   }
 
@@ -64,8 +64,8 @@ pub list_sets : (matches : ArgMatches) (count : ℕ) (sets : List IpSet) (last n
     → AreSetsRead matches count new sets last → AreListSets matches count sets last
 list_sets matches count sets last new reader begun same read = record {
   grammar = begun.0;
-  is_grammar = begun.1.0;
+  is_grammar = begun.1;
   new = new;
-  unread = subst (WereRead begun.0 [] []) (sym same) begun.1.1;
+  unread = subst (WereRead begun.0 [] []) (sym same) begun.2;
   read = read;
 }

@@ -40,10 +40,13 @@ names_in rows = map (λ row. row.name.now) rows
 abbrev pub command_names : Command → List (List ℕ)
 command_names command = map command_name (subcommands_of command)
 
--- The commands that are operations, in the order in which help lists them.
+-- The operations on as many lists as there are, in the order in which help lists them.
 abbrev pub operation_names : List (List ℕ)
-operation_names = codes "union" ∷ codes "intersection" ∷ codes "difference" ∷ codes "symmetric-difference"
-    ∷ codes "complement" ∷ []
+operation_names = codes "union" ∷ codes "intersection" ∷ codes "difference" ∷ []
+
+-- The operations on two lists, or on one, in the order in which help lists them.
+abbrev pub pair_names : List (List ℕ)
+pair_names = codes "symmetric-difference" ∷ codes "complement" ∷ []
 
 -- The commands that count and compare lists, and change one, in the order in which help lists them.
 abbrev pub count_names : List (List ℕ)
@@ -72,7 +75,7 @@ rule_names = codes "permitted" ∷ codes "unreached" ∷ codes "prefix-list" ∷
 
 -- The commands about addresses and entries, in the order in which help lists them.
 abbrev pub list_commands : List (List ℕ)
-list_commands = (operation_names ++ count_names) ++ search_names
+list_commands = ((operation_names ++ pair_names) ++ count_names) ++ search_names
 
 -- The commands of the program, in the order in which help lists them.
 abbrev pub all_commands : List (List ℕ)

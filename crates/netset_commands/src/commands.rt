@@ -3,7 +3,7 @@ ghost use Rattle.std.specs.Prelude.{◌≡◌, ◌↔◌, ◌++◌, Some, IfOk};
 ghost use Rattle.clap.specs.Built.{IsParsedFrom};
 ghost use Rattle.clap.specs.declared.builder.command.Command.{Command};
 ghost use Rattle.netset_commands.specs.CommandLines.{all_commands, command_names, count_names, entry_names};
-ghost use Rattle.netset_commands.specs.CommandLines.{limit_names, list_commands, names_in, operation_names};
+ghost use Rattle.netset_commands.specs.CommandLines.{limit_names, list_commands, names_in, operation_names, pair_names};
 ghost use Rattle.netset_commands.specs.CommandLines.{rule_names, search_names, space_names};
 
 use crate::apply::APPLY_COMMAND;
@@ -163,7 +163,7 @@ const ROUTE_ARGUMENTS: &[Argument] = &[
     },
 ];
 
-/// The commands that combine lists into a set.
+/// The commands that combine lists, as many as there are, into a set.
 const OPERATIONS: &[Subcommand] = &[
     Subcommand {
         name: UNION,
@@ -185,6 +185,10 @@ const OPERATIONS: &[Subcommand] = &[
         about: "The addresses of the first list that are in none of the others",
         arguments: TWO_AND_MORE,
     },
+];
+
+/// The commands that make a set of two lists, or of one.
+const PAIR_OPERATIONS: &[Subcommand] = &[
     Subcommand {
         name: SYMMETRIC_DIFFERENCE,
         about: "The addresses that are in exactly one of two lists",
@@ -263,12 +267,20 @@ const RULE_COMMANDS: &[Subcommand] = &[
     ORIGINS_COMMAND,
 ];
 
-/// The operations.
+/// The commands that combine lists, as many as there are, into a set.
 #[inline(never)]
 fn operations() -> &'static [Subcommand]
     ensures { names_in result.now ≡ operation_names }
 {
     OPERATIONS
+}
+
+/// The commands that make a set of two lists, or of one.
+#[inline(never)]
+fn pair_operations() -> &'static [Subcommand]
+    ensures { names_in result.now ≡ pair_names }
+{
+    PAIR_OPERATIONS
 }
 
 /// The commands that count and compare lists, and change one.
@@ -345,6 +357,7 @@ fn list_command<'a>(alloc: Global, version: &'a str) -> Result<Command<'a>, Allo
         .subcommand_required(true)
         .arg_required_else_help(true);
     let command = with_commands(alloc, command, operations())?;
+    let command = with_commands(alloc, command, pair_operations())?;
     let command = with_commands(alloc, command, counts())?;
     with_commands(alloc, command, searches())
 }

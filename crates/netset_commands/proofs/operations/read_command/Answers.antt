@@ -20,7 +20,7 @@ returns-clause-command c =
       are_families = c.families_of-families.ensures;
       combination = c.in_ok-combination.ensures.combination;
       options = form.0;
-      are_options = form.1.0;
-      form = form.1.1;
+      are_options = form.1;
+      form = form.2;
       expected = c.expectation_of-expected.ensures;
     }

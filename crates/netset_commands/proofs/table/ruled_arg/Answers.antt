@@ -11,7 +11,7 @@ returns c =
     let unless = c.in_ok-unless.ensures in
     let conflicts = c.in_ok-conflicts.ensures in
     let needs = c.in_ok-needs.ensures in
-    let no_conflicts = ap (λ arg. arg.conflicts.items) unless.0 ∙ c.new-bare.ensures.plain.1.0 in
+    let no_conflicts = ap (λ arg. arg.conflicts.items) unless.0 ∙ c.new-bare.ensures.plain.1 in
     let no_needs = ap (λ arg. arg.needs.items) conflicts.0 ∙ ap (λ arg. arg.needs.items) unless.0 ∙ none.0 in
     record {
       id = ap (λ arg. arg.id.now) needs.0 ∙ ap (λ arg. arg.id.now) conflicts.0 ∙ ap (λ arg. arg.id.now) unless.0
