@@ -1,6 +1,6 @@
 -- Words that are read as values one after another.
 use Rattle.std.proofs.Common.{◌≡◌, ◌<◌, ◌≤◌, ◌+◌, ◌++◌, ◌∷◌, [], ℕ, List, drop, length, get_or, subst, sym}
-use Rattle.std.proofs.Common.{false, Result, Ok, Err, OnOk, is_err, is_ok, if◌then◌else◌}
+use Rattle.std.proofs.Common.{Result, Ok, Err, OnOk}
 use Rattle.std.proofs.Common.{append_assoc, append-nil}
 use Rattle.std.proofs.lemmas.List.{drop_all, drop_more}
 use Rattle.std.specs.List.{AllZip}
@@ -24,12 +24,6 @@ all_values {W} {T} Is words i values past before =
     let Q : List W → Type 0 = λ left. AllZip Is left [] in
     let none : drop i words ≡ [] = drop_all i words past in
     subst P (append-nil values) (before [] (subst Q (sym none) tt))
-
--- a call that does not fail leaves the first of the two
-pub if_ok : {T E X : Type 0} (r : Result T E) (new changed old : X) → is_err r ≡ false
-    → new ≡ (if is_ok r then changed else old) → new ≡ changed
-if_ok (Ok x) new changed old same h = h
-if_ok (Err e) new changed old same h = absurd cc
 
 -- what is so anyway is promised
 pub anyway : {T E : Type 0} {P : Type 0} (r : Result T E) → P → OnOk r P

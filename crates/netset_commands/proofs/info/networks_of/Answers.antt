@@ -4,7 +4,8 @@ use Rattle.std.proofs.lemmas.List.{map-append}
 use Rattle.ipnet_base.specs.Network.{Network}
 use Rattle.ipnet.specs.NetworkOf.{ip_network}
 use Rattle.netset_commands.specs.InfoWords.{AreNetworkWords, IsNetworkOrAddress}
-use Rattle.netset_commands.proofs.WordLaws.{next_value, all_values, if_ok}
+use Rattle.netset_files.proofs.ReadLaws.{if_ok}
+use Rattle.netset_commands.proofs.WordLaws.{next_value, all_values}
 use Rattle.netset_commands.proofs.info.networks_of.Goals as goal
 
 pub loop-word-preserved : goal.loop-word-preserved

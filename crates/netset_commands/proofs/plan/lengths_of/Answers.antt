@@ -3,7 +3,8 @@ use Rattle.netset_lib.specs.Planning.{family_of}
 use Rattle.netset_lib.specs.PlanWords.{IsLengthFor}
 use Rattle.netset_lib.specs.declared.plan_word.PlanWord.{PlanWord}
 use Rattle.netset_commands.specs.Words.{AreLengthsFor}
-use Rattle.netset_commands.proofs.WordLaws.{next_value, all_values, if_ok}
+use Rattle.netset_files.proofs.ReadLaws.{if_ok}
+use Rattle.netset_commands.proofs.WordLaws.{next_value, all_values}
 use Rattle.netset_commands.proofs.plan.lengths_of.Goals as goal
 
 pub loop-word-preserved : goal.loop-word-preserved
@@ -20,7 +21,7 @@ loop-word-preserved c =
     → AreLengthsFor family asked (all ++ rest) in
     subst P (sym pushed)
     (next_value R asked i c.in-Some.length lengths _ c.loop-word-test.true
-    (subst (λ word. R word c.in-Some.length) c.word-item.is c.in-Some.ensures.some) c.loop-word.invariant)
+    c.in-Some.ensures.some c.loop-word.invariant)
 
 pub returns-clause-lengths : goal.returns-clause-lengths
 returns-clause-lengths c =

@@ -1,7 +1,8 @@
 use Rattle.std.proofs.Common.{◌≡◌, ◌++◌, ◌∷◌, [], List, ◌+◌, drop, sym, subst, ◌∙◌}
 use Rattle.netset_lib.specs.declared.plan_word.PlanWord.{PlanWord}
 use Rattle.netset_commands.specs.Words.{AsksFor, ArePlanWords}
-use Rattle.netset_commands.proofs.WordLaws.{next_value, all_values, if_ok}
+use Rattle.netset_files.proofs.ReadLaws.{if_ok}
+use Rattle.netset_commands.proofs.WordLaws.{next_value, all_values}
 use Rattle.netset_commands.proofs.plan.read_words.Goals as goal
 
 pub loop-word-preserved : goal.loop-word-preserved
