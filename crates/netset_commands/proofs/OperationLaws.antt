@@ -1,5 +1,5 @@
 -- A value that is there, of two that are the same.
-use Rattle.std.proofs.Common.{◌≡◌, Option, Some, ap}
+use Rattle.std.proofs.Common.{◌≡◌, Some, ap}
 use Rattle.std.specs.Prelude.{unwrap_or}
 
 pub some_same : {X : Type 0} (x y : X) → Some x ≡ Some y → x ≡ y

@@ -1,4 +1,4 @@
-use Rattle.std.proofs.Common.{◌≡◌, ◌==◌, ◌∙◌, ◌+◌, All, ap, string_bytes, subst, sym, take_all}
+use Rattle.std.proofs.Common.{◌==◌, ◌∙◌, ◌+◌, All, ap, string_bytes, subst, sym, take_all}
 use Rattle.std.proofs.lemmas.Bool.{true≢false}
 use Rattle.std.specs.List.{list_any}
 use Rattle.netset_commands.specs.EntryOptions.{IsEntryFailure, IsOneLine, entry_lines}
