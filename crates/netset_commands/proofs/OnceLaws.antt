@@ -1,8 +1,8 @@
 -- One more network after networks of which each is kept once.
-use Rattle.std.proofs.Common.{◌≡◌, ◌∙◌, ◌<◌, ◌-◌, ◌++◌, ◌∷◌, [], ℕ, Bool, true, false, cond, List, length}
+use Rattle.std.proofs.Common.{◌≡◌, ◌∙◌, ◌<◌, ◌-◌, ◌++◌, ◌∷◌, [], Bool, true, false, cond, List, length}
 use Rattle.std.proofs.Common.{slice_get, refl, sym, ap, arith}
 use Rattle.std.proofs.lemmas.List.{map-append}
-use Rattle.std.specs.List.{dedup, dedup_from}
+use Rattle.std.specs.List.{dedup_from}
 use Rattle.ipnet.specs.contracts.net.IpNetPartialEq.TheImpl.{eq-value}
 use Rattle.ipnet.specs.declared.net.IpNet.{IpNet}
 use Rattle.netset_commands.specs.MapEntries.{each_once, ends_with, is_that, networks_of}

@@ -1,4 +1,4 @@
-use Rattle.std.proofs.Common.{◌≡◌, ◌∙◌, ◌+◌, ◌++◌, ◌∷◌, [], List, Bool, false, true, not, sym, ap, subst}
+use Rattle.std.proofs.Common.{◌≡◌, ◌∙◌, ◌+◌, ◌++◌, ◌∷◌, [], List, false, true, not, sym, ap, subst}
 use Rattle.netset_commands.specs.MapEntries.{is_v4}
 use Rattle.netset_commands.proofs.MapLaws.{HaveTaken, takes, passes, swapped}
 use Rattle.netset_commands.proofs.noted.first_entries.Goals as goal
