@@ -30,15 +30,25 @@ holder_before networks valid table n valid_n limit after k c sub = elim (cases_l
       (all_at IsTruncated networks table.truncated k c) sub (after.above k c ge))
 ]
 
+-- The search of a table for the nearest network that contains `n`, among those before the place after `n`.
+pub record IsSearched (networks : List Network) (n : Network) (place : ℕ) : Type 0 where
+  pub valid : All IsNetwork networks
+  pub table : IsTable networks
+  pub network : IsNetwork n
+  pub limit : ℕ
+  pub after : IsPlaceAfter networks n limit
+  pub nearest : IsNearest networks n limit place
+
+-- a network that contains it is before the place that is found
+up_to_nearest : (networks : List Network) (n : Network) (place : ℕ) → IsSearched networks n place → (k : Network)
+    (c : Contains networks k) → IsSubnetOf n k → c.0 < place
+up_to_nearest networks n place h k c sub =
+    h.nearest.nearest k c (holder_before networks h.valid h.table n h.network h.limit h.after k c sub) sub
+
 -- if no network is found, none contains it
-pub none_contains : (networks : List Network) → All IsNetwork networks → IsTable networks → (n : Network)
-    → IsNetwork n → (limit place : ℕ) → place ≡ 0 → IsPlaceAfter networks n limit → IsNearest networks n limit place
+pub none_contains : (networks : List Network) (n : Network) (place : ℕ) → IsSearched networks n place → place ≡ 0
     → (k : Network) → Contains networks k → IsSubnetOf n k → ⊥
-none_contains networks valid table n valid_n limit place e after found k c sub = omega (
-  arith,
-  e,
-  found.nearest k c (holder_before networks valid table n valid_n limit after k c sub) sub,
-)
+none_contains networks n place h e k c sub = omega (arith, e, up_to_nearest networks n place h k c sub)
 
 -- if two networks without host bits contain an address, the later one is at least as long
 pub no_longer : (networks : List Network) → IsTable networks → (x : Address) (k e : Network) → Contains networks e
@@ -57,18 +67,13 @@ no_longer networks table x k e c b a before = elim (cases_lt e.prefix_len k.pref
 ]
 
 -- the network that is found is the longest
-pub longest_found : (networks : List Network) → All IsNetwork networks → IsTable networks → (n : Network)
-    → IsNetwork n → (limit place : ℕ) (e : Network) (c : Contains networks e) → c.0 + 1 ≡ place
-    → IsPlaceAfter networks n limit → IsNearest networks n limit place
-    → (k : Network) → Contains networks k → IsSubnetOf n k → k.prefix_len ≤ e.prefix_len
-longest_found networks valid table n valid_n limit place e c at after found k b sub = elim (cases_order b.0 c.0) [
+pub longest_found : (networks : List Network) (n : Network) (place : ℕ) → IsSearched networks n place → (e : Network)
+    (c : Contains networks e) → c.0 + 1 ≡ place → (k : Network) → Contains networks k → IsSubnetOf n k
+    → k.prefix_len ≤ e.prefix_len
+longest_found networks n place h e c at k b sub = elim (cases_order b.0 c.0) [
   | inl same ↦ omega (arith, ap (λ z. z.prefix_len) (one_place networks k e b c same))
-  | inr (inl less) ↦ no_longer networks table (own n) k e c (sub (own n) (own_in n))
-      (found.holds e c at (own n) (own_in n)) (pair_at IsBefore networks (ascending_of networks table) k e b c less)
-  | inr (inr more) ↦ absurd (omega (
-    arith,
-    more,
-    at,
-    found.nearest k b (holder_before networks valid table n valid_n limit after k b sub) sub,
-  ))
+  | inr (inl less) ↦ no_longer networks h.table (own n) k e c (sub (own n) (own_in n))
+      (h.nearest.holds e c at (own n) (own_in n))
+      (pair_at IsBefore networks (ascending_of networks h.table) k e b c less)
+  | inr (inr more) ↦ absurd (omega (arith, more, at, up_to_nearest networks n place h k b sub))
 ]

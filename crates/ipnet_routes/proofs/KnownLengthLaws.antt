@@ -146,14 +146,14 @@ known_taken masks width old new n taken known = record {
       known.each k (network_of_route old (k, found.0) ((taken (k, found.0)).0 found.1).0);
 }
 
--- the mask of an address has the length of each known network that contains it
-pub has_known : (masks : List ℕ) (width : ℕ) (k : Network) (x : Address) (region : ℕ) → region ≡ region_of x
-    → IsKnown masks width k → InBlock k x → region / width < length masks → k.prefix_len < 128 → (mask : ℕ)
-    → mask ≡ get_or masks (region / width) mask → HasLength mask k.prefix_len
-has_known masks width k x region is known in_k inside small mask at =
-    subst (λ z. HasLength z k.prefix_len) (get_or_default masks (region / width) 0 mask inside ∙ sym at)
-    (subst (λ z. HasLength (get_or masks (z / width) 0) k.prefix_len) (sym is)
-    (known.masked x in_k small (subst (λ z. z / width < length masks) is inside)))
+-- the mask of the region of an address has a length that is known there
+pub has_known : (masks : List ℕ) (width : ℕ) (x : Address) (region : ℕ) → region ≡ region_of x → (l : ℕ)
+    → (region_of x / width < length masks → HasLength (get_or masks (region_of x / width) 0) l)
+    → region / width < length masks → (mask : ℕ) → mask ≡ get_or masks (region / width) mask → HasLength mask l
+has_known masks width x region is l known inside mask at =
+    subst (λ z. HasLength z l) (get_or_default masks (region / width) 0 mask inside ∙ sym at)
+    (subst (λ z. HasLength (get_or masks (z / width) 0) l) (sym is)
+    (known (subst (λ z. z / width < length masks) is inside)))
 
 pub none_known : {X P Q : Type 0} (o : Option X) → IfNone o P → (P → Q) → IfNone o Q
 none_known None h to = to h

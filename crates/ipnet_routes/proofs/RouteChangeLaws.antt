@@ -10,7 +10,7 @@ use Rattle.ipnet.specs.declared.net.IpNet.{IpNet}
 use Rattle.ipnet.specs.NetworkOf.{ip_network}
 use Rattle.ipnet_routes.specs.Routes.{Route, ip_routes, ip_networks}
 use Rattle.ipnet_routes.specs.RouteSteps.{IsTable, AreChanged}
-use Rattle.ipnet_routes.proofs.RouteLaws.{ascending_of, network_of_route}
+use Rattle.ipnet_routes.proofs.RouteLaws.{ascending_of}
 use Rattle.ipnet_routes.proofs.LastPassing.{element_at}
 
 -- one route more
@@ -32,57 +32,54 @@ changed_push made xs ys x y h same fits = record {
   ];
 }
 
--- the value of a network is made from its old value
-pub changed_value : {V W : Type 0} (made : V → W → Type 0) (old : List (IpNet × V)) (new : List (IpNet × W))
-    → IsTable (ip_networks old) → AreChanged made old new → (n : Network) (v : V) (w : W)
-    → Contains (ip_routes old) (n, v) → Contains (ip_routes new) (n, w) → made v w
-changed_value {V} {W} made old new table h n v w c e = elim (cases_order c.0 e.0) [
-  | inl same ↦ subst₂ (λ a b. made a b) value_old (value_new same)
-      (h.values c.0 (found.0) (other.0) inside)
-  | inr (inl less) ↦ absurd (twice (pair_at IsBefore networks (ascending_of networks table) n n at_c at_e less))
-  | inr (inr more) ↦ absurd (twice (pair_at IsBefore networks (ascending_of networks table) n n at_e at_c more))
+-- a network of a table is at one place
+one_index : (networks : List Network) → IsTable networks → (n : Network) (c e : Contains networks n) → c.0 ≡ e.0
+one_index networks table n c e = elim (cases_order c.0 e.0) [
+  | inl same ↦ same
+  | inr (inl less) ↦ absurd (twice (pair_at IsBefore networks (ascending_of networks table) n n c e less))
+  | inr (inr more) ↦ absurd (twice (pair_at IsBefore networks (ascending_of networks table) n n e c more))
 ]
   where
-    networks : List Network
-    networks = ip_networks old
+    twice : IsBefore n n → ⊥
+    twice before = IsBefore-asymmetric n n before before
 
+-- so a network of the new table is at its place in the old one
+pub same_index : {V W : Type 0} (made : V → W → Type 0) (old : List (IpNet × V)) (new : List (IpNet × W))
+    → IsTable (ip_networks old) → AreChanged made old new → (n : Network) (c : Contains (ip_networks old) n)
+    (e : Contains (ip_networks new) n) → c.0 ≡ e.0
+same_index made old new table h n c e = one_index (ip_networks old) table n c (
+  e.0,
+  omega (arith, e.1, ap length h.networks),
+  ap (λ z. get_or z e.0 n) (sym h.networks) ∙ e.2,
+)
+
+-- the value at a place is made from the old value there
+pub changed_value : {V W : Type 0} (made : V → W → Type 0) (old : List (IpNet × V)) (new : List (IpNet × W))
+    → AreChanged made old new → (r : Route V) (s : Route W) (c : Contains (ip_routes old) r)
+    → get_or (ip_routes new) c.0 s ≡ s → made r.1 s.1
+changed_value {V} {W} made old new h r s c is =
+    subst₂ (λ a b. made a b) value_old value_new (h.values c.0 found.0 other.0 inside)
+  where
     route_old : IpNet × V → Route V
     route_old z = (ip_network z.0, z.1)
 
     route_new : IpNet × W → Route W
     route_new z = (ip_network z.0, z.1)
 
-    twice : IsBefore n n → ⊥
-    twice before = IsBefore-asymmetric n n before before
-
-    at_c : Contains networks n
-    at_c = network_of_route old (n, v) c
-
-    at_new : Contains (ip_networks new) n
-    at_new = network_of_route new (n, w) e
-
-    at_e : Contains networks n
-    at_e = (
-      e.0,
-      omega (arith, at_new.1, ap length h.networks),
-      ap (λ z. get_or z e.0 n) (sym h.networks) ∙ at_new.2,
-    )
-
     inside : c.0 < length old
     inside = omega (arith, c.1, length-map old route_old)
 
-    there : e.0 < length new
-    there = omega (arith, e.1, length-map new route_new)
+    there : c.0 < length new
+    there = omega (arith, inside, h.size)
 
     found : (x : IpNet × V) × ((d : IpNet × V) → get_or old c.0 d ≡ x)
     found = element_at old c.0 inside
 
-    other : (x : IpNet × W) × ((d : IpNet × W) → get_or new e.0 d ≡ x)
-    other = element_at new e.0 there
+    other : (x : IpNet × W) × ((d : IpNet × W) → get_or new c.0 d ≡ x)
+    other = element_at new c.0 there
 
-    value_old : (get_or old c.0 found.0).1 ≡ v
-    value_old = ap (λ z. z.1) (sym (get_or-map route_old old c.0 found.0 (n, v) inside) ∙ c.2)
+    value_old : (get_or old c.0 found.0).1 ≡ r.1
+    value_old = ap (λ z. z.1) (sym (get_or-map route_old old c.0 found.0 r inside) ∙ c.2)
 
-    value_new : c.0 ≡ e.0 → (get_or new c.0 other.0).1 ≡ w
-    value_new same = ap (λ i. (get_or new i other.0).1) same
-        ∙ ap (λ z. z.1) (sym (get_or-map route_new new e.0 other.0 (n, w) there) ∙ e.2)
+    value_new : (get_or new c.0 other.0).1 ≡ s.1
+    value_new = ap (λ z. z.1) (sym (get_or-map route_new new c.0 other.0 s there) ∙ is)

@@ -65,11 +65,11 @@ place_start networks n high e = record {
 }
 
 pub place_down : (networks : List Network) → IsTable networks → (n : Network) (low high : ℕ) (m : Network)
-    (e : Contains networks m) → low ≤ e.0 → e.0 < high → IsBefore n m
-    → IsPlaceBetween networks n low high → IsPlaceBetween networks n low e.0
-place_down networks table n low high m e ge lt before h = record {
+    (e : Contains networks m) → low ≤ e.0 → IsBefore n m → IsPlaceBetween networks n low high
+    → IsPlaceBetween networks n low e.0
+place_down networks table n low high m e ge before h = record {
   ordered = ge;
-  within = omega (arith, lt, h.within);
+  within = omega (arith, e.1);
   up_to = h.up_to;
   above = λ k c l. elim (cases_order e.0 c.0) [
     | inl same ↦ subst (IsBefore n) (one_place networks m k e c same) before
@@ -127,36 +127,36 @@ encloses k e n before le sub out = elim (nested_or_disjoint e k) [
   | inr (inr apart) ↦ absurd (apart (own e) (own_in e) (holds_between k e n before le sub))
 ]
 
-pub searched_on : (networks : List Network) → IsTable networks → (n : Network) (limit place next : ℕ) (e : Network)
-    (c : Contains networks e) → c.0 + 1 ≡ place
-    → ((k : Network) (b : Contains networks k) → b.0 < limit → IsBeforeOrEqual k n) → (IsSubnetOf n e → ⊥)
-    → IsNearest networks e c.0 next → IsSearchedTo networks n limit place → IsSearchedTo networks n limit next
-searched_on networks table n limit place next e c at up_to out link h = record {
-  within = omega (arith, link.within, at, h.within);
-  nearest = λ k b l sub. elim (cases_order b.0 c.0) [
-    | inl same ↦ absurd (out (subst (IsSubnetOf n) (one_place networks k e b c same) sub))
-    | inr (inl less) ↦ link.nearest k b less
-        (encloses k e n (pair_at IsBefore networks (ascending_of networks table) k e b c less)
-        (up_to e c (omega (arith, at, h.within))) sub out)
-    | inr (inr more) ↦ absurd (omega (arith, more, at, h.nearest k b l sub))
-  ];
-}
+-- the search goes on at the link of a network that does not contain it, ends at one that does, or at no place
+module _ (networks : List Network) (n : Network) (limit : ℕ) where
+  pub searched_on : IsTable networks → (place next : ℕ) (e : Network) (c : Contains networks e) → c.0 + 1 ≡ place
+      → ((k : Network) (b : Contains networks k) → b.0 < limit → IsBeforeOrEqual k n) → (IsSubnetOf n e → ⊥)
+      → IsNearest networks e c.0 next → IsSearchedTo networks n limit place → IsSearchedTo networks n limit next
+  searched_on table place next e c at up_to out link h = record {
+    within = omega (arith, link.within, at, h.within);
+    nearest = λ k b l sub. elim (cases_order b.0 c.0) [
+      | inl same ↦ absurd (out (subst (IsSubnetOf n) (one_place networks k e b c same) sub))
+      | inr (inl less) ↦ link.nearest k b less
+          (encloses k e n (pair_at IsBefore networks (ascending_of networks table) k e b c less)
+          (up_to e c (omega (arith, at, h.within))) sub out)
+      | inr (inr more) ↦ absurd (omega (arith, more, at, h.nearest k b l sub))
+    ];
+  }
 
-pub searched_found : (networks : List Network) (n : Network) (limit place : ℕ) (e : Network) (c : Contains networks e)
-    → c.0 + 1 ≡ place → IsSubnetOf n e → IsSearchedTo networks n limit place → IsNearest networks n limit place
-searched_found networks n limit place e c at inside h = record {
-  within = h.within;
-  holds = λ k b same. subst (IsSubnetOf n) (one_place networks e k c b (omega (arith, at, same))) inside;
-  nearest = h.nearest;
-}
+  pub searched_found : (place : ℕ) (e : Network) (c : Contains networks e) → c.0 + 1 ≡ place → IsSubnetOf n e
+      → IsSearchedTo networks n limit place → IsNearest networks n limit place
+  searched_found place e c at inside h = record {
+    within = h.within;
+    holds = λ k b same. subst (IsSubnetOf n) (one_place networks e k c b (omega (arith, at, same))) inside;
+    nearest = h.nearest;
+  }
 
-pub searched_none : (networks : List Network) (n : Network) (limit place : ℕ) → place ≡ 0
-    → IsSearchedTo networks n limit place → IsNearest networks n limit 0
-searched_none networks n limit place e h = record {
-  within = omega arith;
-  holds = λ k b same. absurd (omega (arith, same));
-  nearest = λ k b l sub. absurd (omega (arith, e, h.nearest k b l sub));
-}
+  pub searched_none : (place : ℕ) → place ≡ 0 → IsSearchedTo networks n limit place → IsNearest networks n limit 0
+  searched_none place e h = record {
+    within = omega arith;
+    holds = λ k b same. absurd (omega (arith, same));
+    nearest = λ k b l sub. absurd (omega (arith, e, h.nearest k b l sub));
+  }
 
 -- one link more
 pub links_more : (networks : List Network) (links more : List ℕ) (link : ℕ) → length links < length networks

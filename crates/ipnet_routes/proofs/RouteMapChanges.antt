@@ -9,7 +9,7 @@ use Rattle.std.proofs.lemmas.List.{get_or_default}
 use Rattle.std.specs.Vec.{with_item}
 use Rattle.std.proofs.lemmas.List.{length-set, length-drop, get_or-take, take-map, drop-map}
 use Rattle.std.proofs.lemmas.List.{length-take-le, drop_more, set_split}
-use Rattle.std.proofs.lemmas.List.Elements.{All-append, All-cons, All-drop, All-take, All-set, All-same}
+use Rattle.std.proofs.lemmas.List.Elements.{All-append, All-cons, All-drop, All-take, All-set}
 use Rattle.std.proofs.lemmas.List.Elements.{Contains-append_left}
 use Rattle.std.proofs.lemmas.List.Elements.{Contains-append_right, Contains-append_cases}
 use Rattle.ipnet_base.specs.Network.{Network, IsNetwork, IsTruncated, IsBefore, truncation}
@@ -34,7 +34,7 @@ use Rattle.ipnet_routes.proofs.LastPassing.{element_at}
 use Rattle.ipnet.specs.NetLaws.{ip_valid}
 use Rattle.ipnet_routes.proofs.ChunkLaws.{pairs_left, pairs_right, pairs_across, all_left, all_right}
 use Rattle.ipnet_routes.proofs.ChunkLaws.{read_in_chunk, set_in_chunk}
-use Rattle.ipnet_routes.proofs.RouteMapLaws.{items, table_right, table_across, networks_append}
+use Rattle.ipnet_routes.proofs.RouteMapLaws.{items, table_right, table_across, networks_append, IsHeldAt}
 
 -- if the list has the network, it is the last one up to it
 last_is_it : {V : Type 0} (list : List (IpNet × V)) (n : Network) (r : Route V) → IsLastUpTo list n r
@@ -401,10 +401,9 @@ same_table {V} list routes t is =
 abbrev pub Filled : {V : Type 0} → Chunk V → Type 0
 Filled chunk = 0 < length chunk.items
 
-pub filled_with : {V : Type 0} (cs new : List (Chunk V)) (i j : ℕ) (a b : Chunk V) → new ≡ insert (set cs i a) j b
-    → AreFilled cs → 0 < length a.items → 0 < length b.items → AreFilled new
-filled_with {V} cs new i j a b is filled some_a some_b =
-    All-same Filled new (insert (set cs i a) j b) is
+pub filled_with : {V : Type 0} (cs : List (Chunk V)) (i j : ℕ) (a b : Chunk V) → AreFilled cs → 0 < length a.items
+    → 0 < length b.items → AreFilled (insert (set cs i a) j b)
+filled_with {V} cs i j a b filled some_a some_b =
     (All-append Filled (take j (set cs i a)) (b ∷ drop j (set cs i a)) (All-take Filled j (set cs i a) all)
     (All-cons Filled b (drop j (set cs i a)) some_b (All-drop Filled j (set cs i a) all)))
   where
@@ -423,12 +422,12 @@ out_cut list t n is out has =
     out (subst₂ (λ ns k. Contains ns k) (same_networks list) (sym (truncation_from_relation t n is)) has)
 
 -- a value exchanged in its chunk is exchanged in the list of all routes
-pub value_set : {V : Type 0} (cs : List (Chunk V)) (i j : ℕ) (c : Chunk V) (y : IpNet × V) (w : V) → i < length cs
-    → get_or cs i c ≡ c → j < length c.items → y ≡ get_or c.items j y → (d : IpNet × V)
-    → all_of (set cs i (with_item c j (y.0, w)))
+pub value_set : {V : Type 0} (cs : List (Chunk V)) (i j : ℕ) (c : Chunk V) (r : IpNet × V) → IsHeldAt cs i j c r
+    → (w : V) (d : IpNet × V) → all_of (set cs i (with_item c j (r.0, w)))
     ≡ set (all_of cs) (position_of cs i j) ((get_or (all_of cs) (position_of cs i j) d).0, w)
-value_set cs i j c y w l at inside is d =
-    let read : y ≡ get_or (all_of cs) (position_of cs i j) d
-    = is ∙ get_or_default c.items j y d inside ∙ sym (read_in_chunk items cs i c l at j d inside) in
-    set_in_chunk items cs i c l at (with_item c j (y.0, w)) j ((get_or (all_of cs) (position_of cs i j) d).0, w) inside
-    (ap (λ z. set c.items j (z.0, w)) read)
+value_set cs i j c r h w d =
+    let read : r ≡ get_or (all_of cs) (position_of cs i j) d
+    = h.is ∙ get_or_default c.items j r d h.within
+    ∙ sym (read_in_chunk items cs i c h.chunk_within h.chunk_is j d h.within) in
+    set_in_chunk items cs i c h.chunk_within h.chunk_is (with_item c j (r.0, w)) j
+    ((get_or (all_of cs) (position_of cs i j) d).0, w) h.within (ap (λ z. set c.items j (z.0, w)) read)

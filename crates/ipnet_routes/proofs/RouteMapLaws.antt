@@ -26,7 +26,7 @@ use Rattle.ipnet_routes.specs.RouteMapSteps.{position_of, IsLastUpTo}
 use Rattle.ipnet_routes.proofs.RouteLaws.{not_back, ascending_of, table_of, read_at, found_network}
 use Rattle.ipnet_routes.proofs.RouteLaws.{place_start, place_down, place_up, place_end}
 use Rattle.ipnet_routes.proofs.ChunkLaws.{pairs_left, pairs_right, pairs_across, all_left, all_right, member_of_either}
-use Rattle.ipnet_routes.proofs.ChunkLaws.{chunk_split, read_in_chunk}
+use Rattle.ipnet_routes.proofs.ChunkLaws.{chunk_split, chunk_only, read_in_chunk}
 
 -- the routes of a chunk
 abbrev pub items : {V : Type 0} → Chunk V → List (IpNet × V)
@@ -220,32 +220,16 @@ module _ {V : Type 0} (cs : List (Chunk V)) (t : IsTable (ip_networks (all_of cs
       (after.up_to (first_network c.items) chunk_first lt))
   not_at_start n place after lt (suc j) mid = omega arith
 
--- a place between two routes of a chunk, the first of which is up to n, and the second after it
-pub place_between : {V : Type 0} (cs : List (Chunk V)) → IsTable (ip_networks (all_of cs)) → (i : ℕ) (c : Chunk V)
-    → i < length cs → get_or cs i c ≡ c → (n : Network) (j : ℕ) → 0 < j → j < length c.items → (r s : IpNet × V)
-    → r ≡ get_or c.items (j - 1) r → s ≡ get_or c.items j s → IsBeforeOrEqual (ip_network r.0) n
-    → IsBefore n (ip_network s.0) → IsPlaceAfter (ip_networks (all_of cs)) n (position_of cs i j)
-place_between {V} cs t i c l e n j some inside r s at_r at_s up_to above =
-    let networks : List Network = ip_networks (all_of cs) in
-    let first = read_at (λ z. ip_network z.0) (all_of cs) (position_of cs i (j - 1)) r
-    (bound (j - 1) (omega (arith, inside)))
-    (at_r ∙ sym (read_in_chunk (items {V = V}) cs i c l e (j - 1) r (omega (arith, inside)))) in
-    let second = read_at (λ z. ip_network z.0) (all_of cs) (position_of cs i j) s (bound j inside)
-    (at_s ∙ sym (read_in_chunk (items {V = V}) cs i c l e j s inside)) in
-    subst (IsPlaceAfter networks n) (omega (arith, some))
-    (place_end networks n (position_of cs i (j - 1) + 1) (position_of cs i j) (omega (arith, some))
-    (place_up networks t n 0 (position_of cs i j) (ip_network r.0) first (omega (arith, some)) up_to
-    (place_down networks t n 0 (length networks) (ip_network s.0) second (omega arith) second.1 above
+-- a place between two networks of a table, the first of which is up to n, and the second after it
+pub place_between : (networks : List Network) → IsTable networks → (n r s : Network) (first : Contains networks r)
+    (second : Contains networks s) → second.0 ≡ first.0 + 1 → IsBeforeOrEqual r n → IsBefore n s
+    → IsPlaceAfter networks n second.0
+place_between networks t n r s first second next up_to above =
+    subst (IsPlaceAfter networks n) (sym next)
+    (place_end networks n (first.0 + 1) second.0 (omega (arith, next))
+    (place_up networks t n 0 second.0 r first (omega (arith, next)) up_to
+    (place_down networks t n 0 (length networks) s second (omega arith) above
     (place_start networks n (length networks) refl))))
-  where
-    bound : (k : ℕ) → k < length c.items → position_of cs i k < length (all_of cs)
-    bound k m = omega (
-      arith,
-      m,
-      ap length (chunk_split (items {V = V}) cs i c l e),
-      length-append (all_of (take i cs)) (c.items ++ all_of (drop (suc i) cs)),
-      length-append c.items (all_of (drop (suc i) cs)),
-    )
 
 -- the route before the place after a network is the last route up to it
 last_before_place : {V : Type 0} (list : List (IpNet × V)) → IsTable (ip_networks list) → (n : Network) (place : ℕ)
@@ -285,6 +269,43 @@ chunk_inside {V} cs i l = elim (cases_lt i (length cs)) [
       let none : chunk_at cs i ≡ [] = ap (λ z. flat_map (items {V = V}) (take 1 z)) (drop_all i cs ge) in
       absurd (omega (arith, l, ap length none))
 ]
+
+-- The route `r` is at the index `j` of the chunk `c`, which is at the index `i` of all chunks.
+pub record IsHeldAt {V : Type 0} (cs : List (Chunk V)) (i j : ℕ) (c : Chunk V) (r : IpNet × V) : Type 0 where
+  pub chunk_within : i < length cs
+  pub chunk_is : get_or cs i c ≡ c
+  pub within : j < length c.items
+  pub is : r ≡ get_or c.items j r
+
+pub held_at : {V : Type 0} (cs : List (Chunk V)) (i j : ℕ) (c : Chunk V) (r : IpNet × V) → get_or cs i c ≡ c
+    → r ≡ get_or c.items j r → j < length (chunk_at cs i) → IsHeldAt cs i j c r
+held_at {V} cs i j c r chunk_is is l = record {
+  chunk_within = inside;
+  chunk_is = chunk_is;
+  within = omega (arith, l, ap length (chunk_only (items {V = V}) cs i c inside chunk_is));
+  is = is;
+}
+  where
+    inside : i < length cs
+    inside = chunk_inside cs i (omega (arith, l))
+
+-- its position among all routes
+pub route_in_chunk : {V : Type 0} (cs : List (Chunk V)) (i j : ℕ) (c : Chunk V) (r : IpNet × V) → IsHeldAt cs i j c r
+    → (at : Contains (ip_networks (all_of cs)) (ip_network r.0)) × (at.0 ≡ position_of cs i j)
+route_in_chunk {V} cs i j c r h = (
+  read_at (λ z. ip_network z.0) (all_of cs) (position_of cs i j) r bound
+      (h.is ∙ sym (read_in_chunk (items {V = V}) cs i c h.chunk_within h.chunk_is j r h.within)),
+  refl,
+)
+  where
+    bound : position_of cs i j < length (all_of cs)
+    bound = omega (
+      arith,
+      h.within,
+      ap length (chunk_split (items {V = V}) cs i c h.chunk_within h.chunk_is),
+      length-append (all_of (take i cs)) (c.items ++ all_of (drop (suc i) cs)),
+      length-append c.items (all_of (drop (suc i) cs)),
+    )
 
 -- the route before the place after a network, by the chunk that it is in and its place there
 module _ {V : Type 0} (cs : List (Chunk V)) (t : IsTable (ip_networks (all_of cs))) (filled : AreFilled cs) (i : ℕ)

@@ -16,10 +16,10 @@ use Rattle.ipnet_base.proofs.OrderLaws.{IsBefore-asymmetric}
 use Rattle.ipnet.specs.declared.net.IpNet.{IpNet}
 use Rattle.ipnet.specs.NetworkOf.{ip_network}
 use Rattle.ipnet_routes.specs.Routes.{Route, ip_routes, ip_networks, AreMatches, IsLongestMatch}
-use Rattle.ipnet_routes.specs.RouteSteps.{IsTable, IsPlaceAfter, IsNearest, AreLinks, linked}
+use Rattle.ipnet_routes.specs.RouteSteps.{IsTable, IsNearest, AreLinks, linked}
 use Rattle.ipnet_routes.proofs.RouteLaws.{value_at, ascending_of, all_valid, network_of_route}
 use Rattle.ipnet_routes.proofs.RouteLaws.{host, host_in, in_from_host}
-use Rattle.ipnet_routes.proofs.CoveringLaws.{holder_before, no_longer}
+use Rattle.ipnet_routes.proofs.CoveringLaws.{IsSearched, holder_before, no_longer}
 use Rattle.ipnet_routes.proofs.LastPassing.{element_at}
 
 -- the list of the one element at a place
@@ -81,7 +81,7 @@ way_from {V} list links h (suc k) i e r l is =
     (way_on list links h k r (omega (arith, l, same)) (subst (λ z. r ≡ get_or list z r) same is))
 
 -- the routes before a limit that contain a network, the longest first
-pub record IsWay {V : Type 0} (routes : List (Route V)) (n : Network) (limit : ℕ) (way : List (Route V)) : Type 0 where
+record IsWay {V : Type 0} (routes : List (Route V)) (n : Network) (limit : ℕ) (way : List (Route V)) : Type 0 where
   pub lengths : AllPairs (λ r s. s.0.prefix_len < r.0.prefix_len) way
   pub members : (r : Route V) → Contains way r ↔ ((c : Contains routes r) × (c.0 < limit) × IsSubnetOf n r.0)
 
@@ -108,136 +108,135 @@ shorter k e valid_k valid_e cut_k cut_e sub before = elim (cases_lt k.prefix_len
       absurd (IsBefore-asymmetric k e before (subst (λ z. IsBefore z k) (sym same) (subst (IsBefore k) same before)))
 ]
 
--- the route before a place, and then those that contain it
-way_more : {V : Type 0} (list : List (IpNet × V)) (links : List ℕ) → IsTable (ip_networks list)
-    → AreLinks (ip_networks list) links → (i limit : ℕ) (n : Network) → limit ≤ length links
-    → IsNearest (ip_networks list) n limit (suc i) → (rest : List (Route V))
-    → ((e : Network) → IsNearest (ip_networks list) e i (get_or links i 0) → IsWay (ip_routes list) e i rest)
-    → IsWay (ip_routes list) n limit (take 1 (drop i (ip_routes list)) ++ rest)
-way_more {V} list links table h i limit n small near rest follow =
-    subst (λ z. IsWay (ip_routes list) n limit (z ++ rest))
-    (sym (take_one (ip_routes list) i q some (get_or-map route list i r q inside ∙ ap route (found.1 r)))) longer
-  where
-    route : IpNet × V → Route V
-    route z = (ip_network z.0, z.1)
+-- a table with the link of each network
+module _ {V : Type 0} (list : List (IpNet × V)) (links : List ℕ) (table : IsTable (ip_networks list))
+    (h : AreLinks (ip_networks list) links) where
+  -- the route before a place, and then those that contain it
+  way_more : (i limit : ℕ) (n : Network) → limit ≤ length links
+      → IsNearest (ip_networks list) n limit (suc i) → (rest : List (Route V))
+      → ((e : Network) → IsNearest (ip_networks list) e i (get_or links i 0) → IsWay (ip_routes list) e i rest)
+      → IsWay (ip_routes list) n limit (take 1 (drop i (ip_routes list)) ++ rest)
+  way_more i limit n small near rest follow =
+      subst (λ z. IsWay (ip_routes list) n limit (z ++ rest))
+      (sym (take_one (ip_routes list) i q some (get_or-map route list i r q inside ∙ ap route (found.1 r)))) longer
+    where
+      route : IpNet × V → Route V
+      route z = (ip_network z.0, z.1)
 
-    networks : List Network
-    networks = ip_networks list
+      networks : List Network
+      networks = ip_networks list
 
-    small_i : i < length links
-    small_i = omega (arith, near.within, small)
+      small_i : i < length links
+      small_i = omega (arith, near.within, small)
 
-    inside : i < length list
-    inside = omega (arith, small_i, h.within, length-map list (λ z. ip_network z.0))
+      inside : i < length list
+      inside = omega (arith, small_i, h.within, length-map list (λ z. ip_network z.0))
 
-    some : i < length (ip_routes list)
-    some = omega (arith, inside, length-map list route)
+      some : i < length (ip_routes list)
+      some = omega (arith, inside, length-map list route)
 
-    found : (x : IpNet × V) × ((d : IpNet × V) → get_or list i d ≡ x)
-    found = element_at list i inside
+      found : (x : IpNet × V) × ((d : IpNet × V) → get_or list i d ≡ x)
+      found = element_at list i inside
 
-    r : IpNet × V
-    r = found.0
+      r : IpNet × V
+      r = found.0
 
-    q : Route V
-    q = route r
+      q : Route V
+      q = route r
 
-    e : Network
-    e = q.0
+      e : Network
+      e = q.0
 
-    at_q : Contains (ip_routes list) q
-    at_q = (i, some, get_or-map route list i r q inside ∙ ap route (found.1 r))
+      at_q : Contains (ip_routes list) q
+      at_q = (i, some, get_or-map route list i r q inside ∙ ap route (found.1 r))
 
-    at : Contains networks e
-    at = network_of_route list q at_q
+      at : Contains networks e
+      at = network_of_route list q at_q
 
-    link : ℕ
-    link = get_or links i 0
+      link : ℕ
+      link = get_or links i 0
 
-    link_near : IsNearest networks e i link
-    link_near = h.nearest e at 0 small_i
+      link_near : IsNearest networks e i link
+      link_near = h.nearest e at 0 small_i
 
-    further : IsWay (ip_routes list) e i rest
-    further = follow e link_near
+      further : IsWay (ip_routes list) e i rest
+      further = follow e link_near
 
-    holds : IsSubnetOf n e
-    holds = near.holds e at (omega arith)
+      holds : IsSubnetOf n e
+      holds = near.holds e at (omega arith)
 
-    valid : (k : Network) → Contains networks k → IsNetwork k
-    valid k c = all_at IsNetwork networks (all_valid list) k c
+      valid : (k : Network) → Contains networks k → IsNetwork k
+      valid k c = all_at IsNetwork networks (all_valid list) k c
 
-    cut : (k : Network) → Contains networks k → IsTruncated k
-    cut k c = all_at IsTruncated networks table.truncated k c
+      cut : (k : Network) → Contains networks k → IsTruncated k
+      cut k c = all_at IsTruncated networks table.truncated k c
 
-    before : (k : Network) (c : Contains networks k) → c.0 < i → IsBefore k e
-    before k c l = pair_at IsBefore networks (ascending_of networks table) k e c at l
+      before : (k : Network) (c : Contains networks k) → c.0 < i → IsBefore k e
+      before k c l = pair_at IsBefore networks (ascending_of networks table) k e c at l
 
-    -- an earlier route that contains n contains e
-    around : (k : Network) (c : Contains networks k) → c.0 < i → IsSubnetOf n k → IsSubnetOf e k
-    around k c l sub =
-        let in_e : InBlock e (own n) = holds (own n) (own_in n) in
-        let in_k : InBlock k (own n) = sub (own n) (own_in n) in
-        let len : k.prefix_len ≤ e.prefix_len = no_longer networks table (own n) k e at in_k in_e (before k c l) in
-        nested e k (own n) in_e in_k (omega (arith, len, ap width (sym in_e.same_family ∙ in_k.same_family)))
+      -- an earlier route that contains n contains e
+      around : (k : Network) (c : Contains networks k) → c.0 < i → IsSubnetOf n k → IsSubnetOf e k
+      around k c l sub =
+          let in_e : InBlock e (own n) = holds (own n) (own_in n) in
+          let in_k : InBlock k (own n) = sub (own n) (own_in n) in
+          let len : k.prefix_len ≤ e.prefix_len = no_longer networks table (own n) k e at in_k in_e (before k c l) in
+          nested e k (own n) in_e in_k (omega (arith, len, ap width (sym in_e.same_family ∙ in_k.same_family)))
 
-    longer : IsWay (ip_routes list) n limit (q ∷ rest)
-    longer = record {
-      lengths = pairs_cons (λ x y. y.0.prefix_len < x.0.prefix_len) q rest
-          (λ y c.
-          let there = (further.members y).0 c in
-          let k = network_of_route list y there.0 in
-          shorter y.0 e (valid y.0 k) (valid e at) (cut y.0 k) (cut e at) there.2 (before y.0 k there.1))
-          further.lengths;
-      members = λ y. (
-        λ c. elim (contains_cases q rest y c) [
-          | inl same ↦ subst (λ z. (b : Contains (ip_routes list) z) × (b.0 < limit) × IsSubnetOf n z.0) same
-              (at_q, omega (arith, near.within), holds)
-          | inr later ↦
-              let there = (further.members y).0 later in
-              (there.0, omega (arith, there.1, near.within), λ x a. there.2 x (holds x a))
-        ],
-        λ b. elim (cases_order b.0.0 i) [
-          | inl same ↦ subst (λ z. Contains (q ∷ rest) z)
-              (one_place (ip_routes list) q y at_q b.0 (sym same)) (contains_here q rest)
-          | inr (inl less) ↦ contains_there q rest y ((further.members y).1
-              (b.0, less, around y.0 (network_of_route list y b.0) less b.2))
-          | inr (inr more) ↦ absurd (omega (
-            arith,
-            more,
-            near.nearest y.0 (network_of_route list y b.0) b.1 b.2,
-          ))
-        ],
-      );
-    }
+      longer : IsWay (ip_routes list) n limit (q ∷ rest)
+      longer = record {
+        lengths = pairs_cons (λ x y. y.0.prefix_len < x.0.prefix_len) q rest
+            (λ y c.
+            let there = (further.members y).0 c in
+            let k = network_of_route list y there.0 in
+            shorter y.0 e (valid y.0 k) (valid e at) (cut y.0 k) (cut e at) there.2 (before y.0 k there.1))
+            further.lengths;
+        members = λ y. (
+          λ c. elim (contains_cases q rest y c) [
+            | inl same ↦ subst (λ z. (b : Contains (ip_routes list) z) × (b.0 < limit) × IsSubnetOf n z.0) same
+                (at_q, omega (arith, near.within), holds)
+            | inr later ↦
+                let there = (further.members y).0 later in
+                (there.0, omega (arith, there.1, near.within), λ x a. there.2 x (holds x a))
+          ],
+          λ b. elim (cases_order b.0.0 i) [
+            | inl same ↦ subst (λ z. Contains (q ∷ rest) z)
+                (one_place (ip_routes list) q y at_q b.0 (sym same)) (contains_here q rest)
+            | inr (inl less) ↦ contains_there q rest y ((further.members y).1
+                (b.0, less, around y.0 (network_of_route list y b.0) less b.2))
+            | inr (inr more) ↦ absurd (omega (
+              arith,
+              more,
+              near.nearest y.0 (network_of_route list y b.0) b.1 b.2,
+            ))
+          ],
+        );
+      }
 
-pub way : {V : Type 0} (list : List (IpNet × V)) (links : List ℕ) → IsTable (ip_networks list)
-    → AreLinks (ip_networks list) links → (steps place limit : ℕ) (n : Network) → place ≤ steps → limit ≤ length links
-    → IsNearest (ip_networks list) n limit place
-    → IsWay (ip_routes list) n limit (linked steps (ip_routes list) links place)
-way list links table h zero place limit n le small near = no_way list n limit place (omega (arith, le)) near
-way list links table h (suc m) zero limit n le small near = no_way list n limit 0 refl near
-way list links table h (suc m) (suc i) limit n le small near =
-    way_more list links table h i limit n small near (linked m (ip_routes list) links (get_or links i 0))
-    (λ e link. way list links table h m (get_or links i 0) i e (omega (arith, link.within, le))
-    (omega (arith, near.within, small)) link)
+  way : (steps place limit : ℕ) (n : Network) → place ≤ steps → limit ≤ length links
+      → IsNearest (ip_networks list) n limit place
+      → IsWay (ip_routes list) n limit (linked steps (ip_routes list) links place)
+  way zero place limit n le small near = no_way list n limit place (omega (arith, le)) near
+  way (suc m) zero limit n le small near = no_way list n limit 0 refl near
+  way (suc m) (suc i) limit n le small near =
+      way_more i limit n small near (linked m (ip_routes list) links (get_or links i 0))
+      (λ e link. way m (get_or links i 0) i e (omega (arith, link.within, le))
+      (omega (arith, near.within, small)) link)
 
 -- the way from the nearest network that contains an address has the matches of the address
-pub matches_of : {V : Type 0} (list : List (IpNet × V)) (links : List ℕ) → IsTable (ip_networks list)
-    → AreLinks (ip_networks list) links → length links ≡ length list → (x : Address) → IsNetwork (host x)
-    → (limit place : ℕ) → IsPlaceAfter (ip_networks list) (host x) limit
-    → IsNearest (ip_networks list) (host x) limit place
+pub matches_of : {V : Type 0} (list : List (IpNet × V)) (links : List ℕ) → AreLinks (ip_networks list) links
+    → length links ≡ length list → (x : Address) (place : ℕ) → IsSearched (ip_networks list) (host x) place
     → AreMatches (ip_routes list) x (linked place (ip_routes list) links place)
-matches_of list links table h size x valid limit place after near =
-    let all = way list links table h place place limit (host x) (omega arith)
-    (omega (arith, after.within, size, length-map list (λ r. ip_network r.0))) near in
+matches_of list links h size x place searched =
+    let all = way list links searched.table h place place searched.limit (host x) (omega arith)
+    (omega (arith, searched.after.within, size, length-map list (λ r. ip_network r.0))) searched.nearest in
     record {
       longest_first = all.lengths;
       members = λ r. (
         λ c. let there = (all.members r).0 c in (there.0, in_from_host r.0 x there.2),
         λ b. (all.members r).1 (
           b.0,
-          holder_before (ip_networks list) (all_valid list) table (host x) valid limit after r.0
-              (network_of_route list r b.0) (host_in r.0 x b.1),
+          holder_before (ip_networks list) searched.valid searched.table (host x) searched.network searched.limit
+              searched.after r.0 (network_of_route list r b.0) (host_in r.0 x b.1),
           host_in r.0 x b.1,
         ),
       );

@@ -46,7 +46,7 @@ place_next networks n place after out = record {
 }
 
 -- the place of a block's first address is at most the place after its last address
-pub places_in_order : (networks : List Network) (t h : Network) (start end : ℕ) → IsBeforeOrEqual t h
+places_in_order : (networks : List Network) (t h : Network) (start end : ℕ) → IsBeforeOrEqual t h
     → IsPlaceOf networks t start → IsPlaceAfter networks h end → start ≤ end
 places_in_order networks t h start end le first after = elim (cases_lt end start) [
   | inr ge ↦ ge
@@ -149,7 +149,7 @@ order_from_within k n b valid_k valid_n last sub = (early, late)
     ]
 
 -- the first address of a block comes no later than the last
-pub first_to_last : (n : Network) (b : Address) → IsNetwork n → IsGreatestOf n b
+first_to_last : (n : Network) (b : Address) → IsNetwork n → IsGreatestOf n b
     → IsBeforeOrEqual (truncation n) (host b)
 first_to_last n b valid last = elim (cases_lt (truncation n).number b.number) [
   | inl less ↦ inr (inr (sym last.inside.same_family, inl less))
@@ -206,31 +206,46 @@ map_of_part : {X Y : Type 0} (f : X → Y) (xs : List X) (start count : ℕ)
 map_of_part f xs start count =
     sym (take-map f count (drop start xs)) ∙ ap (take count) (sym (drop-map f start xs))
 
+-- The places of the networks within a network: of its first address, and after its last address.
+pub record AreEnds (networks : List Network) (n : Network) (start end : ℕ) : Type 0 where
+  pub valid : IsNetwork n
+  pub address : Address
+  pub last : IsGreatestOf n address
+  pub first : IsPlaceOf networks (truncation n) start
+  pub after : IsPlaceAfter networks (host address) end
+
+pub ends_in_order : (networks : List Network) (n : Network) (start end : ℕ) → AreEnds networks n start end
+    → start ≤ end
+ends_in_order networks n start end h = places_in_order networks (truncation n) (host h.address) start end
+    (first_to_last n h.address h.valid h.last) h.first h.after
+
 -- the part of a table between the two places
-pub part_within : {V : Type 0} (list : List (IpNet × V)) → IsTable (ip_networks list) → (n : Network) (b : Address)
-    → IsNetwork n → IsGreatestOf n b → (start end : ℕ) → IsPlaceOf (ip_networks list) (truncation n) start
-    → IsPlaceAfter (ip_networks list) (host b) end → start ≤ end
+pub part_within : {V : Type 0} (list : List (IpNet × V)) → IsTable (ip_networks list) → (n : Network) (start end : ℕ)
+    → AreEnds (ip_networks list) n start end
     → AreWithin (ip_routes list) n (ip_routes (take (end - start) (drop start list)))
-part_within {V} list table n b valid last start end first after le = record {
+part_within {V} list table n start end h = record {
   ascending = subst IsAscending
       (sym (same_networks (take (end - start) (drop start list))
       ∙ map_of_part (λ z. ip_network z.0) list start (end - start)))
-      (pairs_of_part IsBefore networks start end le after.within (ascending_of networks table));
+      (pairs_of_part IsBefore networks start end le h.after.within (ascending_of networks table));
   members = λ r. (
     λ c.
         let there = (in_part (ip_routes list) start end le within r).0
         (subst (λ z. Contains z r) (map_of_part route list start (end - start)) c) in
         let at : Contains networks r.0 = network_of_route list r there.0 in (
           there.0,
-          within_from_order r.0 n b (all_at IsNetwork networks (all_valid list) r.0 at)
-              (all_at IsTruncated networks table.truncated r.0 at) last (first.from r.0 at there.1)
-              (after.up_to r.0 at there.2),
+          within_from_order r.0 n h.address (all_at IsNetwork networks (all_valid list) r.0 at)
+              (all_at IsTruncated networks table.truncated r.0 at) h.last (h.first.from r.0 at there.1)
+              (h.after.up_to r.0 at there.2),
         ),
-    λ h. subst (λ z. Contains z r) (sym (map_of_part route list start (end - start)))
-        ((in_part (ip_routes list) start end le within r).1 (placed r h.0 h.1)),
+    λ b. subst (λ z. Contains z r) (sym (map_of_part route list start (end - start)))
+        ((in_part (ip_routes list) start end le within r).1 (placed r b.0 b.1)),
   );
 }
   where
+    le : start ≤ end
+    le = ends_in_order (ip_networks list) n start end h
+
     networks : List Network
     networks = ip_networks list
 
@@ -238,20 +253,21 @@ part_within {V} list table n b valid last start end first after le = record {
     route z = (ip_network z.0, z.1)
 
     within : end ≤ length (ip_routes list)
-    within = omega (arith, after.within, length-map list (λ z. ip_network z.0), length-map list route)
+    within = omega (arith, h.after.within, length-map list (λ z. ip_network z.0), length-map list route)
 
     placed : (r : Route V) (c : Contains (ip_routes list) r) → IsSubnetOf r.0 n
         → (c : Contains (ip_routes list) r) × (start ≤ c.0) × (c.0 < end)
     placed r c sub =
         let at : Contains networks r.0 = network_of_route list r c in
-        let order = order_from_within r.0 n b (all_at IsNetwork networks (all_valid list) r.0 at) valid last sub in (
+        let order = order_from_within r.0 n h.address (all_at IsNetwork networks (all_valid list) r.0 at) h.valid
+        h.last sub in (
           c,
           elim (cases_lt c.0 start) [
             | inr ge ↦ ge
-            | inl lt ↦ absurd (not_back r.0 (truncation n) (first.before r.0 at lt) order.0)
+            | inl lt ↦ absurd (not_back r.0 (truncation n) (h.first.before r.0 at lt) order.0)
           ],
           elim (cases_lt c.0 end) [
             | inl lt ↦ lt
-            | inr ge ↦ absurd (not_back (host b) r.0 (after.above r.0 at ge) order.1)
+            | inr ge ↦ absurd (not_back (host h.address) r.0 (h.after.above r.0 at ge) order.1)
           ],
         )

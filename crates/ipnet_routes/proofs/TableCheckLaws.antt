@@ -9,7 +9,7 @@ use Rattle.ipnet_base.specs.Address.{Family, IPv4, IPv6}
 use Rattle.ipnet_base.specs.Blocks.{IsAscending}
 use Rattle.ipnet_base.specs.Network.{Network, IsNetwork, IsTruncated, IsBefore}
 use Rattle.ipnet_base.specs.Stack.{IsBeforeOrEqual}
-use Rattle.ipnet_base.proofs.ListLaws.{contains_nil, contains_at, pair_at, one_place, at_place}
+use Rattle.ipnet_base.proofs.ListLaws.{contains_nil, contains_at, pair_at, one_place, at_place, all_at}
 use Rattle.ipnet_base.proofs.NetworkLaws.{same_network}
 use Rattle.ipnet_base.proofs.OrderLaws.{IsBefore-transitive, IsBeforeOrEqual-transitive}
 use Rattle.ipnet.specs.declared.net.IpNet.{IpNet}
@@ -172,24 +172,45 @@ all_before {count} bytes t h previous last n before k c = go previous refl
         other : (d : Network) → get_or (networks_of t) c.0 d ≡ k
         other d = at_place (networks_of t) c.0 d k c.1 ∙ c.2
 
--- in each image, the route before comes before this one
-pub comes_before : {count many : ℕ} (bytes : List ℕ) (t u : List (Route ℕ)) → AreRoutesIn bytes count t
-    → AreRoutesIn bytes many u → count < many → (previous : Option IpNet) → IsLastOf t count previous
-    → (other : StoredRoute) → IsFound u count other → (p : IpNet) → previous ≡ Some p
-    → IsBefore (ip_network p) (ip_network other.network)
-comes_before {count} {many} bytes t u h g lt previous last other found p e =
-    let d = last.some p e in
-    let place : count - 1 < count = omega (arith, d.1) in
-    let here : d.0.0 ≡ count - 1 = omega (arith, d.1) in
-    let s = stored_route bytes t h (count - 1) place in
-    let r = stored_route bytes u g (count - 1) (omega (arith, place, lt)) in
-    let same : r.0.0 ≡ s.0.0 = network_once bytes (count - 1) r.0.0 s.0.0 r.0.1 s.0.1 r.1.linked.link s.1.linked.link
-    r.1.linked.stored s.1.linked.stored in
-    let mine : s.0.0 ≡ ip_network p = one_place (networks_of t) s.0.0 (ip_network p) s.1.at d.0
-    (s.1.at_is ∙ sym here) in
-    subst (λ z. IsBefore z (ip_network other.network)) (same ∙ mine)
-    (pair_at IsBefore (networks_of u) g.ascending r.0.0 (ip_network other.network) r.1.at found.at
-    (omega (arith, r.1.at_is, found.at_is, place)))
+-- the link that a search finds in a table is the one that is stored
+pub link_once : {count : ℕ} (bytes : List ℕ) (t : List (Route ℕ)) → AreRoutesIn bytes count t → (i : ℕ)
+    (other : StoredRoute) → IsFound t i other → (link : ℕ)
+    → (((k : Network) (b : Contains (networks_of t) k) → b.0 < i → IsBeforeOrEqual k (ip_network other.network))
+    → IsNearest (networks_of t) (ip_network other.network) i link) → link ≡ other.link
+link_once bytes t h i other found link near =
+    nearest_once (networks_of t) (ip_network other.network) i link other.link
+    (omega (arith, found.at.1, found.at_is))
+    (near (λ k b l. inr (pair_at IsBefore (networks_of t) h.ascending k (ip_network other.network) b found.at
+    (omega (arith, l, found.at_is))))) found.linked
+
+-- two tables of the same bytes
+module _ {count many : ℕ} (bytes : List ℕ) (t u : List (Route ℕ)) (h : AreRoutesIn bytes count t)
+    (g : AreRoutesIn bytes many u) where
+  -- have the same networks at the same places
+  same_there : (n : Network) (c : Contains (networks_of t) n) → c.0 < many
+      → (d : Contains (networks_of u) n) × (d.0 ≡ c.0)
+  same_there n c inside =
+      let size : length (networks_of t) ≡ count = length-map t (λ (q : Route ℕ). q.0) ∙ h.as_many in
+      let s = stored_route bytes t h c.0 (omega (arith, c.1, size)) in
+      let r = stored_route bytes u g c.0 inside in
+      let same : r.0.0 ≡ s.0.0 = network_once bytes c.0 r.0.0 s.0.0 r.0.1 s.0.1 r.1.linked.link s.1.linked.link
+      r.1.linked.stored s.1.linked.stored in
+      let mine : s.0.0 ≡ n = one_place (networks_of t) s.0.0 n s.1.at c s.1.at_is in
+      subst (λ z. (d : Contains (networks_of u) z) × (d.0 ≡ c.0)) (same ∙ mine) (r.1.at, r.1.at_is)
+
+  -- so the route before comes before this one, which has no host bits
+  pub follows_in : (previous : Option IpNet) → IsLastOf t count previous → (other : StoredRoute)
+      → IsFound u count other → IsTruncated (ip_network other.network)
+      × ((p : IpNet) → previous ≡ Some p → IsBefore (ip_network p) (ip_network other.network))
+  follows_in previous last other found = (
+    all_at IsTruncated (networks_of u) g.truncated (ip_network other.network) found.at,
+    λ p e.
+        let c = last.some p e in
+        let size : length (networks_of u) ≡ many = length-map u (λ (q : Route ℕ). q.0) ∙ g.as_many in
+        let d = same_there (ip_network p) c.0 (omega (arith, c.1, found.at.1, found.at_is, size)) in
+        pair_at IsBefore (networks_of u) g.ascending (ip_network p) (ip_network other.network) d.0 found.at
+        (omega (arith, d.1, c.1, found.at_is)),
+  )
 
 pub routes_none : (bytes : List ℕ) → AreRoutesIn bytes 0 []
 routes_none bytes = record {

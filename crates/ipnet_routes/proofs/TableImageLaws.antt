@@ -16,7 +16,7 @@ use Rattle.ipnet_routes.specs.TableImages.{stated_bits, index_size, index_place,
 use Rattle.ipnet_routes.specs.TableImages.{AreRoutesIn, AreStartsIn, IsSomeRoute}
 use Rattle.ipnet_routes.proofs.RouteLaws.{table_of, read_at, IsPlaceBetween, IsSearchedTo, place_down, place_up}
 use Rattle.ipnet_routes.proofs.RouteLaws.{searched_found, searched_on}
-use Rattle.ipnet_routes.proofs.CoveringLaws.{none_contains, longest_found}
+use Rattle.ipnet_routes.proofs.CoveringLaws.{IsSearched, none_contains, longest_found}
 use Rattle.ipnet_routes.proofs.LastPassing.{element_at}
 
 abbrev from_some : {X : Type 0} → Option X → X → X
@@ -132,7 +132,7 @@ module _ {count : ℕ} (bytes : List ℕ) (t : List (Route ℕ)) (h : AreRoutesI
   image_down low high middle other found ge lt before b =
       subst (IsPlaceBetween (networks_of t) n low) found.at_is
       (place_down (networks_of t) (image_table bytes t h) n low high (ip_network other.network) found.at
-      (omega (arith, ge, found.at_is)) (omega (arith, lt, found.at_is)) before b)
+      (omega (arith, ge, found.at_is)) before b)
 
   pub image_up : (low high middle : ℕ) (other : StoredRoute) → IsFound t middle other → middle < high
       → IsBeforeOrEqual (ip_network other.network) n → IsPlaceBetween (networks_of t) n low high
@@ -154,14 +154,25 @@ module _ {count : ℕ} (bytes : List ℕ) (t : List (Route ℕ)) (h : AreRoutesI
       → (IsSubnetOf n (ip_network other.network) → ⊥) → IsSearchedTo (networks_of t) n limit place
       → IsSearchedTo (networks_of t) n limit other.link
   image_on limit place other some found up_to out b =
-      searched_on (networks_of t) (image_table bytes t h) n limit place other.link (ip_network other.network) found.at
+      searched_on (networks_of t) n limit (image_table bytes t h) place other.link (ip_network other.network) found.at
       (omega (arith, some, found.at_is)) up_to out
       (subst (λ z. IsNearest (networks_of t) (ip_network other.network) z other.link) (sym found.at_is) found.linked) b
 
+  image_searched : IsNetwork n → (limit place : ℕ) → IsPlaceAfter (networks_of t) n limit
+      → IsNearest (networks_of t) n limit place → IsSearched (networks_of t) n place
+  image_searched valid limit place after near = record {
+    valid = h.valid;
+    table = image_table bytes t h;
+    network = valid;
+    limit = limit;
+    after = after;
+    nearest = near;
+  }
+
   pub image_none : IsNetwork n → (limit place : ℕ) → place ≡ 0 → IsPlaceAfter (networks_of t) n limit
       → IsNearest (networks_of t) n limit place → (k : Network) → Contains (networks_of t) k → IsSubnetOf n k → ⊥
-  image_none valid limit place e after found =
-      none_contains (networks_of t) h.valid (image_table bytes t h) n valid limit place e after found
+  image_none valid limit place e after near =
+      none_contains (networks_of t) n place (image_searched valid limit place after near) e
 
   pub image_some : IsNetwork n → (limit place : ℕ) (other : StoredRoute) → 0 < place
       → IsFound t (place - 1) other → IsPlaceAfter (networks_of t) n limit → IsNearest (networks_of t) n limit place
@@ -169,22 +180,21 @@ module _ {count : ℕ} (bytes : List ℕ) (t : List (Route ℕ)) (h : AreRoutesI
   image_some valid limit place other some found after near = record {
     member = found.member;
     holds = near.holds (ip_network other.network) found.at (omega (arith, some, found.at_is));
-    longest = λ r has sub. longest_found (networks_of t) h.valid (image_table bytes t h) n valid limit place
-        (ip_network other.network) found.at (omega (arith, some, found.at_is)) after near r.0
+    longest = λ r has sub. longest_found (networks_of t) n place (image_searched valid limit place after near)
+        (ip_network other.network) found.at (omega (arith, some, found.at_is)) r.0
         (read_at (λ (q : Route ℕ). q.0) t has.0 r has.1 (sym has.2)) sub;
   }
 
 -- ---- the search between two places of the index
 
 -- the entry of a bucket
-pub place_of_bucket : (bytes : List ℕ) (t : List (Route ℕ)) → AreStartsIn bytes (networks_of t)
-    → (b c bucket place : ℕ) → b ≡ stated_bits bytes IPv4 → c ≡ stated_bits bytes IPv6 → bucket < index_size b c
-    → place ≡ number_from 4 bytes (index_place bytes + bucket * 4)
-    → IsPlaceOf (networks_of t) (bucket_start b c bucket) place
-place_of_bucket bytes t starts b c bucket place e f l g =
+pub place_of_bucket : (bytes : List ℕ) (t : List (Route ℕ)) → AreStartsIn bytes (networks_of t) → (b c bucket : ℕ)
+    → b ≡ stated_bits bytes IPv4 → c ≡ stated_bits bytes IPv6 → bucket < index_size b c
+    → IsPlaceOf (networks_of t) (bucket_start b c bucket) (number_from 4 bytes (index_place bytes + bucket * 4))
+place_of_bucket bytes t starts b c bucket e f l =
+    let place = number_from 4 bytes (index_place bytes + bucket * 4) in
     subst₂ (λ x y. IsPlaceOf (networks_of t) (bucket_start x y bucket) place) (sym e) (sym f)
-    (subst (IsPlaceOf (networks_of t) (bucket_start (stated_bits bytes IPv4) (stated_bits bytes IPv6) bucket)) (sym g)
-    (starts bucket (omega (arith, l, ap₂ index_size e f))))
+    (starts bucket (omega (arith, l, ap₂ index_size e f)))
 
 -- what comes before the first network of a bucket is not after a network of the bucket
 pub before_bucket : (networks : List Network) (start n : Network) (place : ℕ) → IsPlaceOf networks start place

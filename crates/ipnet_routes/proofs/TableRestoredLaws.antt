@@ -29,20 +29,19 @@ restored_none t routes links e f = record {
   };
 }
 
-pub restored_more : (t : List (Route ℕ)) (count : ℕ) (routes more : List (IpNet × ℕ)) (links new : List ℕ)
-    (route : StoredRoute) → count < length t → IsFound t count route
-    → more ≡ routes ++ (route.network, route.value) ∷ [] → new ≡ links ++ route.link ∷ []
-    → AreRestoredTo t count routes links → AreRestoredTo t (count + 1) more new
-restored_more t count routes more links new route inside found e f h = record {
-  routes_are = ap ip_routes e ∙ map-append view routes ((route.network, route.value) ∷ [])
+pub restored_more : (t : List (Route ℕ)) (count : ℕ) (routes : List (IpNet × ℕ)) (links : List ℕ)
+    (route : StoredRoute) → IsFound t count route → AreRestoredTo t count routes links
+    → AreRestoredTo t (count + 1) (routes ++ (route.network, route.value) ∷ []) (links ++ route.link ∷ [])
+restored_more t count routes links route found h = record {
+  routes_are = map-append view routes ((route.network, route.value) ∷ [])
       ∙ ap (λ z. z ++ r ∷ []) h.routes_are
       ∙ sym (take_more t count r inside ∙ ap (λ z. take count t ++ z ∷ []) here);
-  size = omega (arith, ap length f, length_push links route.link, h.size);
-  links_are = links_more (networks_of t) links new route.link
+  size = omega (arith, length_push links route.link, h.size);
+  links_are = links_more (networks_of t) links (links ++ route.link ∷ []) route.link
       (omega (arith, h.size, inside, length-map t (λ (q : Route ℕ). q.0)))
-      (ap length f ∙ length_push links route.link)
-      (λ i d l. ap (λ z. get_or z i d) f ∙ get_or_append_left links (route.link ∷ []) d i l)
-      (λ d. ap (λ z. get_or z (length links) d) f ∙ get_or_push links route.link d (length links) refl)
+      (length_push links route.link)
+      (λ i d l. get_or_append_left links (route.link ∷ []) d i l)
+      (λ d. get_or_push links route.link d (length links) refl)
       (λ n c same. subst₂ (λ m i. IsNearest (networks_of t) m i route.link)
       (one_place (networks_of t) (ip_network route.network) n found.at c (omega (arith, found.at_is, same, h.size)))
       (sym h.size) found.linked)
@@ -54,6 +53,9 @@ restored_more t count routes more links new route inside found e f h = record {
 
     r : Route ℕ
     r = (ip_network route.network, route.value)
+
+    inside : count < length t
+    inside = omega (arith, found.member.1, found.member_at)
 
     here : get_or t count r ≡ r
     here = ap (λ i. get_or t i r) (sym found.member_at) ∙ found.member.2

@@ -10,7 +10,7 @@ use Rattle.ipnet_base.specs.Stack.{IsBeforeOrEqual}
 use Rattle.ipnet_base.proofs.ListLaws.{one_place}
 use Rattle.ipnet.specs.declared.net.IpNet.{IpNet}
 use Rattle.ipnet.specs.NetworkOf.{ip_network, ipv6_network_of}
-use Rattle.ipnet_sets.specs.Images.{number_from, IsAppended, AreAppended}
+use Rattle.ipnet_sets.specs.Images.{number_from, numbers_from, IsAppended, AreAppended}
 use Rattle.ipnet_routes.specs.Routes.{Route, networks_of, ip_routes, ip_networks}
 use Rattle.ipnet_routes.specs.RouteSteps.{IsTable, IsPlaceOf, IsNearest, AreLinks}
 use Rattle.ipnet_routes.specs.TableImages.{stated_routes, route_count, index_bits, index_size, route_place, index_place}
@@ -19,7 +19,7 @@ use Rattle.ipnet_routes.specs.TableImages.{IsRowAdded, AreRowsAdded, AreFirstIpv
 use Rattle.ipnet_routes.proofs.RouteLaws.{same_networks, all_valid, ascending_of, network_of_route}
 use Rattle.ipnet_sets.proofs.ImageLaws.{number_front, at_numbers}
 use Rattle.ipnet_sets.proofs.ImageSetLaws.{IsLonger, longer, by_one, by_many, size_one, size_many, read_back}
-use Rattle.ipnet_sets.proofs.ImageSetLaws.{read_all_back, same_bytes}
+use Rattle.ipnet_sets.proofs.ImageSetLaws.{read_all_back, same_bytes, BeginsWithHeader, header_stays}
 
 -- ---- one row
 
@@ -54,46 +54,46 @@ ipv6_row_says bytes at n value link family h =
           ∙ subst (λ f. number_from (link_width f) bytes (at + number_width f + 8) ≡ link) family h.link_is,
     )
 
--- a row, appended
-pub row_added : (n : Network) (value link number len : ℕ) (b0 b1 b2 b3 b4 : List ℕ)
-    → IsAppended (number_width n.family) number b0 b1 → IsAppended 4 len b1 b2 → IsAppended 4 value b2 b3
-    → IsAppended (link_width n.family) link b3 b4 → number ≡ n.number → len ≡ n.prefix_len
-    → IsRowAdded n value link b0 b4
-row_added n value link number len b0 b1 b2 b3 b4 h1 h2 h3 h4 e f = record {
+-- a row, appended: the number of the network, the two numbers of four bytes, and the link
+pub row_added : (n : Network) (value link : ℕ) (b0 b1 b2 b3 : List ℕ)
+    → IsAppended (number_width n.family) n.number b0 b1 → AreAppended 4 (n.prefix_len ∷ value ∷ []) b1 b2
+    → IsAppended (link_width n.family) link b2 b3
+    → IsRowAdded n value link b0 b3
+row_added n value link b0 b1 b2 b3 number two last = record {
   more = whole.more;
   bytes_are = whole.is;
-  size = omega (arith, l3, size_one (link_width n.family) link b3 b4 h4);
+  size = omega (arith, l2, size_one (link_width n.family) link b2 b3 last);
   row = record {
-    number = read_back w number (length b0) b0 b1 b4 h1 refl to1 ∙ e;
-    prefix_len = read_back 4 len (length b0 + w) b1 b2 b4 h2 l1 to2 ∙ f;
-    value_is = read_back 4 value (length b0 + w + 4) b2 b3 b4 h3 l2 to3;
-    link_is = read_back (link_width n.family) link (length b0 + w + 8) b3 b4 b4 h4 l3 (same_bytes b4);
+    number = read_back w n.number (length b0) b0 b1 b3 number refl to1;
+    prefix_len = ap (λ ns. get_or ns 0 0) read;
+    value_is = ap (λ ns. get_or ns 1 0) read;
+    link_is = read_back (link_width n.family) link (length b0 + w + 8) b2 b3 b3 last l2 (same_bytes b3);
   };
 }
   where
     w : ℕ
     w = number_width n.family
 
+    numbers : List ℕ
+    numbers = n.prefix_len ∷ value ∷ []
+
     l1 : length b1 ≡ length b0 + w
-    l1 = size_one w number b0 b1 h1
+    l1 = size_one w n.number b0 b1 number
 
-    l2 : length b2 ≡ length b0 + w + 4
-    l2 = omega (arith, size_one 4 len b1 b2 h2, l1)
+    l2 : length b2 ≡ length b0 + w + 8
+    l2 = omega (arith, size_many 4 numbers b1 b2 two, l1)
 
-    l3 : length b3 ≡ length b0 + w + 8
-    l3 = omega (arith, size_one 4 value b2 b3 h3, l2)
+    to2 : IsLonger b2 b3
+    to2 = by_one (link_width n.family) link b2 b3 last
 
-    to3 : IsLonger b3 b4
-    to3 = by_one (link_width n.family) link b3 b4 h4
+    to1 : IsLonger b1 b3
+    to1 = longer b1 b2 b3 (by_many 4 numbers b1 b2 two) to2
 
-    to2 : IsLonger b2 b4
-    to2 = longer b2 b3 b4 (by_one 4 value b2 b3 h3) to3
+    whole : IsLonger b0 b3
+    whole = longer b0 b1 b3 (by_one w n.number b0 b1 number) to1
 
-    to1 : IsLonger b1 b4
-    to1 = longer b1 b2 b4 (by_one 4 len b1 b2 h2) to2
-
-    whole : IsLonger b0 b4
-    whole = longer b0 b1 b4 (by_one w number b0 b1 h1) to1
+    read : numbers_from 4 2 b3 (length b0 + w) ≡ numbers
+    read = read_all_back 4 (length b0 + w) numbers b1 b2 b3 two l1 to2
 
 row_longer : (bytes all : List ℕ) (at : ℕ) (n : Network) (value link : ℕ)
     → at + (number_width n.family + link_width n.family + 8) ≤ length bytes → IsLonger bytes all
@@ -126,48 +126,54 @@ later i j m le = omega (arith, le)
 -- the first `count` of the routes, appended
 pub record AreAddedUpTo (routes : List (Route ℕ)) (links : List ℕ) (m : ℕ) (old new : List ℕ) (count : ℕ) : Type 0
   where
+    pub ipv4_first : (r : Route ℕ) (c : Contains routes r) → (r.0.family ≡ IPv4) ↔ (c.0 < m)
     pub grown : IsLonger old new
     pub size : length new ≡ length old + count * 16 + (count - m) * 16
     pub rows : (r : Route ℕ) (c : Contains routes r) → c.0 < count
         → IsRowAt new (length old + c.0 * 16 + (c.0 - m) * 16) r.0 r.1 (get_or links c.0 0)
 
 pub added_none : (routes : List (Route ℕ)) (links : List ℕ) (m : ℕ) (old : List ℕ)
+    → ((r : Route ℕ) (c : Contains routes r) → (r.0.family ≡ IPv4) ↔ (c.0 < m))
     → AreAddedUpTo routes links m old old 0
-added_none routes links m old = record {
+added_none routes links m old parts = record {
+  ipv4_first = parts;
   grown = same_bytes old;
   size = omega arith;
   rows = λ r c l. absurd (omega (arith, l));
 }
 
-pub added_one : (routes : List (Route ℕ)) (links : List ℕ) (m : ℕ) (old new newer : List ℕ) (count : ℕ) (x : Route ℕ)
-    (link : ℕ) → ((r : Route ℕ) (c : Contains routes r) → (r.0.family ≡ IPv4) ↔ (c.0 < m))
-    → (at : Contains routes x) → at.0 ≡ count → get_or links count 0 ≡ link → IsRowAdded x.0 x.1 link new newer
-    → AreAddedUpTo routes links m old new count → AreAddedUpTo routes links m old newer (count + 1)
-added_one routes links m old new newer count x link parts at here links_to one h = record {
+pub added_one : (routes : List (Route ℕ)) (links : List ℕ) (m : ℕ) (old new newer : List ℕ) (x : Route ℕ)
+    (at : Contains routes x) → IsRowAdded x.0 x.1 (get_or links at.0 0) new newer
+    → AreAddedUpTo routes links m old new at.0 → AreAddedUpTo routes links m old newer (at.0 + 1)
+added_one routes links m old new newer x at one h = record {
+  ipv4_first = h.ipv4_first;
   grown = longer old new newer h.grown grown;
-  size = omega (arith, h.size, one.size, fits);
+  size = omega (arith, h.size, one.size, row_size x.0.family count m (h.ipv4_first x at));
   rows = λ r c l. elim (cases_lt c.0 count) [
     | inl lt ↦ row_longer new newer (length old + c.0 * 16 + (c.0 - m) * 16) r.0 r.1 (get_or links c.0 0)
-        (omega (arith, h.size, row_size r.0.family c.0 m (parts r c), later (c.0 + 1) count m (omega (arith, lt))))
+        (omega (
+          arith,
+          h.size,
+          row_size r.0.family c.0 m (h.ipv4_first r c),
+          later (c.0 + 1) count m (omega (arith, lt)),
+        ))
         grown (h.rows r c lt)
     | inr ge ↦
         let same : c.0 ≡ count = omega (arith, ge, l) in
         let place : length new ≡ length old + c.0 * 16 + (c.0 - m) * 16 =
         h.size ∙ ap (λ i. length old + i * 16 + (i - m) * 16) (sym same) in
-        let link_of : link ≡ get_or links c.0 0 = sym (ap (λ i. get_or links i 0) same ∙ links_to) in
+        let link_of : get_or links count 0 ≡ get_or links c.0 0 = sym (ap (λ i. get_or links i 0) same) in
         subst (λ (q : Route ℕ). IsRowAt newer (length old + c.0 * 16 + (c.0 - m) * 16) q.0 q.1 (get_or links c.0 0))
-        (one_place routes x r at c (here ∙ sym same))
+        (one_place routes x r at c (sym same))
         (subst₂ (λ i k. IsRowAt newer i x.0 x.1 k) place link_of one.row)
   ];
 }
   where
+    count : ℕ
+    count = at.0
+
     grown : IsLonger new newer
     grown = record { more = one.more; is = one.bytes_are }
-
-    fits : count * 16 + (count - m) * 16 + (number_width x.0.family + link_width x.0.family + 8)
-        ≡ (count + 1) * 16 + (count + 1 - m) * 16
-    fits = row_size x.0.family count m
-        (subst (λ i. (x.0.family ≡ IPv4) ↔ (i < m)) here (parts x at))
 
 pub added_all : (routes : List (Route ℕ)) (links : List ℕ) (m : ℕ) (old new : List ℕ) (count : ℕ)
     → length routes ≡ count → AreAddedUpTo routes links m old new count → AreRowsAdded routes links m old new
@@ -235,113 +241,103 @@ starts_more networks ipv4 ipv6 count starts more place is e h = record {
 
 -- ---- the whole image
 
+-- What the image of a table holds: the link of each route, how many routes each family has, and the index.
+pub record ImageParts (list : List (IpNet × ℕ)) : Type 0 where
+  pub table : IsTable (ip_networks list)
+  pub links : List ℕ
+  pub links_are : AreLinks (ip_networks list) links
+  pub all_linked : length links ≡ length list
+  pub ipv4 : ℕ
+  pub ipv6 : ℕ
+  pub ipv4_first : AreFirstIpv4 (ip_networks list) ipv4
+  pub counts : length list ≡ ipv4 + ipv6
+  pub starts : List ℕ
+  pub index : AreStarts (ip_networks list) (index_bits ipv4) (index_bits ipv6) starts
+
 -- the header, the rows and the index, each after the other
-pub table_written : (list : List (IpNet × ℕ)) (links starts : List ℕ) (magic m n : ℕ)
-    (b0 b1 b2 b3 b4 b5 b6 : List ℕ) → IsTable (ip_networks list) → AreLinks (ip_networks list) links
-    → length links ≡ length list → AreFirstIpv4 (ip_networks list) m → length list ≡ m + n
-    → AreStarts (ip_networks list) (index_bits m) (index_bits n) starts → b0 ≡ [] → IsAppended 8 magic b0 b1
-    → IsAppended 8 1 b1 b2 → IsAppended 8 m b2 b3 → IsAppended 8 n b3 b4
-    → AreRowsAdded (ip_routes list) links m b4 b5 → AreAppended 4 starts b5 b6
-    → IsTableWritten magic (ip_routes list) b6
-table_written list links starts magic m n b0 b1 b2 b3 b4 b5 b6 table linked full first count index none h1 h2 h3 h4 h5
-    h6 = record {
-      magic_is = read_back 8 magic 0 b0 b1 b6 h1 l0 to1;
-      version = read_back 8 1 8 b1 b2 b6 h2 l1 to2;
-      stated = size ∙ ap₂ (λ i k. i + k * 4) (sym at_index) (index.as_many ∙ sym entries);
-      table = record {
-        held = record {
-          as_many = many ∙ count ∙ sym total;
-          valid = subst (All IsNetwork) (sym (same_networks list)) (all_valid list);
-          truncated = subst (All IsTruncated) (sym (same_networks list)) table.truncated;
-          ascending = subst IsAscending (sym (same_networks list)) (ascending_of (ip_networks list) table);
-          held = held;
-        };
-        starts = λ bucket l. subst₂ (λ ns p. IsPlaceOf ns (bucket_start (index_bits (stated_routes b6 IPv4))
-            (index_bits (stated_routes b6 IPv6)) bucket) p) (sym (same_networks list))
-            (sym (entry bucket (omega (arith, l, entries, index.as_many))))
-            (subst₂ (λ x y. IsPlaceOf (ip_networks list) (bucket_start (index_bits x) (index_bits y) bucket)
-            (get_or starts bucket 0)) (sym ipv4_stated) (sym ipv6_stated)
-            (index.each bucket 0 (omega (arith, l, entries, index.as_many))));
-      };
-    }
+pub table_written : (list : List (IpNet × ℕ)) (parts : ImageParts list) (magic : ℕ) (header rows all : List ℕ)
+    → length header ≡ 32 → BeginsWithHeader magic parts.ipv4 parts.ipv6 header
+    → AreRowsAdded (ip_routes list) parts.links parts.ipv4 header rows → AreAppended 4 parts.starts rows all
+    → IsTableWritten magic (ip_routes list) all
+table_written list parts magic header rows all l4 begins h5 h6 = record {
+  magic_is = written.magic_is;
+  version = written.version_is;
+  stated = size ∙ ap₂ (λ i k. i + k * 4) (sym at_index) (parts.index.as_many ∙ sym entries);
+  table = record {
+    held = record {
+      as_many = many ∙ parts.counts ∙ sym total;
+      valid = subst (All IsNetwork) (sym (same_networks list)) (all_valid list);
+      truncated = subst (All IsTruncated) (sym (same_networks list)) parts.table.truncated;
+      ascending = subst IsAscending (sym (same_networks list)) (ascending_of (ip_networks list) parts.table);
+      held = held;
+    };
+    starts = λ bucket l. subst₂ (λ ns p. IsPlaceOf ns (bucket_start (index_bits (stated_routes all IPv4))
+        (index_bits (stated_routes all IPv6)) bucket) p) (sym (same_networks list))
+        (sym (entry bucket (omega (arith, l, entries, parts.index.as_many))))
+        (subst₂ (λ x y. IsPlaceOf (ip_networks list) (bucket_start (index_bits x) (index_bits y) bucket)
+        (get_or starts bucket 0)) (sym written.ipv4_is) (sym written.ipv6_is)
+        (parts.index.each bucket 0 (omega (arith, l, entries, parts.index.as_many))));
+  };
+}
   where
+    m : ℕ
+    m = parts.ipv4
+
+    n : ℕ
+    n = parts.ipv6
+
+    starts : List ℕ
+    starts = parts.starts
+
     many : length (ip_routes list) ≡ length list
     many = length-map list (λ (r : IpNet × ℕ). let q : Route ℕ = (ip_network r.0, r.1) in q)
 
-    l0 : length b0 ≡ 0
-    l0 = ap length none
+    l5 : length rows ≡ 32 + (m + n) * 16 + (m + n - m) * 16
+    l5 = h5.size ∙ ap₂ (λ z i. z + i * 16 + (i - m) * 16) l4 (many ∙ parts.counts)
 
-    l1 : length b1 ≡ 8
-    l1 = omega (arith, size_one 8 magic b0 b1 h1, l0)
+    size : length all ≡ 32 + (m + n) * 16 + (m + n - m) * 16 + length starts * 4
+    size = omega (arith, size_many 4 starts rows all h6, l5)
 
-    l2 : length b2 ≡ 16
-    l2 = omega (arith, size_one 8 1 b1 b2 h2, l1)
+    to_all : IsLonger rows all
+    to_all = by_many 4 starts rows all h6
 
-    l3 : length b3 ≡ 24
-    l3 = omega (arith, size_one 8 m b2 b3 h3, l2)
+    written : BeginsWithHeader magic m n all
+    written = header_stays magic m n header all
+        (longer header rows all (record { more = h5.more; is = h5.bytes_are }) to_all) begins
 
-    l4 : length b4 ≡ 32
-    l4 = omega (arith, size_one 8 n b3 b4 h4, l3)
+    total : route_count all ≡ m + n
+    total = ap₂ (λ x y. x + y) written.ipv4_is written.ipv6_is
 
-    l5 : length b5 ≡ 32 + (m + n) * 16 + (m + n - m) * 16
-    l5 = h5.size ∙ ap₂ (λ z i. z + i * 16 + (i - m) * 16) l4 (many ∙ count)
-
-    size : length b6 ≡ 32 + (m + n) * 16 + (m + n - m) * 16 + length starts * 4
-    size = omega (arith, size_many 4 starts b5 b6 h6, l5)
-
-    to5 : IsLonger b5 b6
-    to5 = by_many 4 starts b5 b6 h6
-
-    to4 : IsLonger b4 b6
-    to4 = longer b4 b5 b6 (record { more = h5.more; is = h5.bytes_are }) to5
-
-    to3 : IsLonger b3 b6
-    to3 = longer b3 b4 b6 (by_one 8 n b3 b4 h4) to4
-
-    to2 : IsLonger b2 b6
-    to2 = longer b2 b3 b6 (by_one 8 m b2 b3 h3) to3
-
-    to1 : IsLonger b1 b6
-    to1 = longer b1 b2 b6 (by_one 8 1 b1 b2 h2) to2
-
-    ipv4_stated : stated_routes b6 IPv4 ≡ m
-    ipv4_stated = read_back 8 m 16 b2 b3 b6 h3 l2 to3
-
-    ipv6_stated : stated_routes b6 IPv6 ≡ n
-    ipv6_stated = read_back 8 n 24 b3 b4 b6 h4 l3 to4
-
-    total : route_count b6 ≡ m + n
-    total = ap₂ (λ x y. x + y) ipv4_stated ipv6_stated
-
-    entries : index_size (index_bits (stated_routes b6 IPv4)) (index_bits (stated_routes b6 IPv6))
+    entries : index_size (index_bits (stated_routes all IPv4)) (index_bits (stated_routes all IPv6))
         ≡ index_size (index_bits m) (index_bits n)
-    entries = ap₂ (λ x y. index_size (index_bits x) (index_bits y)) ipv4_stated ipv6_stated
+    entries = ap₂ (λ x y. index_size (index_bits x) (index_bits y)) written.ipv4_is written.ipv6_is
 
-    at_index : index_place b6 ≡ 32 + (m + n) * 16 + (m + n - m) * 16
-    at_index = ap₂ (λ i x. 32 + i * 16 + (i - x) * 16) total ipv4_stated
+    at_index : index_place all ≡ 32 + (m + n) * 16 + (m + n - m) * 16
+    at_index = ap₂ (λ i x. 32 + i * 16 + (i - x) * 16) total written.ipv4_is
 
     entry : (bucket : ℕ) → bucket < length starts
-        → number_from 4 b6 (index_place b6 + bucket * 4) ≡ get_or starts bucket 0
-    entry bucket l = sym (at_numbers 4 (length starts) b6 (index_place b6) bucket 0 l)
+        → number_from 4 all (index_place all + bucket * 4) ≡ get_or starts bucket 0
+    entry bucket l = sym (at_numbers 4 (length starts) all (index_place all) bucket 0 l)
         ∙ ap (λ ns. get_or ns bucket 0)
-        (read_all_back 4 (index_place b6) (length starts) starts b5 b6 b6 h6 (l5 ∙ sym at_index) refl (same_bytes b6))
+        (read_all_back 4 (index_place all) starts rows all all h6 (l5 ∙ sym at_index) (same_bytes all))
 
-    held : (r : Route ℕ) (c : Contains (ip_routes list) r) → IsLinkedAt b6 (networks_of (ip_routes list)) c.0 r
+    held : (r : Route ℕ) (c : Contains (ip_routes list) r) → IsLinkedAt all (networks_of (ip_routes list)) c.0 r
     held r c =
         let at = network_of_route list r c in
-        let fits : c.0 + 1 ≤ m + n = omega (arith, c.1, many, count) in
-        let part = parts_of list m first r c in
-        let place : length b4 + c.0 * 16 + (c.0 - m) * 16 ≡ route_place b6 c.0 =
-        ap₂ (λ z x. z + c.0 * 16 + (c.0 - x) * 16) l4 (sym ipv4_stated) in
+        let link = get_or parts.links c.0 0 in
+        let fits : c.0 + 1 ≤ m + n = omega (arith, c.1, many, parts.counts) in
+        let part = parts_of list m parts.ipv4_first r c in
+        let place : length header + c.0 * 16 + (c.0 - m) * 16 ≡ route_place all c.0 =
+        ap₂ (λ z x. z + c.0 * 16 + (c.0 - x) * 16) l4 (sym written.ipv4_is) in
         record {
-          link = get_or links c.0 0;
+          link = link;
           stored = record {
-            in_part = subst (λ x. (r.0.family ≡ IPv4) ↔ (c.0 < x)) (sym ipv4_stated) part;
-            row = subst (λ i. IsRowAt b6 i r.0 r.1 (get_or links c.0 0)) place
-                (row_longer b5 b6 (length b4 + c.0 * 16 + (c.0 - m) * 16) r.0 r.1 (get_or links c.0 0)
-                (omega (arith, l4, l5, row_size r.0.family c.0 m part, later (c.0 + 1) (m + n) m fits)) to5
+            in_part = subst (λ x. (r.0.family ≡ IPv4) ↔ (c.0 < x)) (sym written.ipv4_is) part;
+            row = subst (λ i. IsRowAt all i r.0 r.1 link) place
+                (row_longer rows all (length header + c.0 * 16 + (c.0 - m) * 16) r.0 r.1 link
+                (omega (arith, l4, l5, row_size r.0.family c.0 m part, later (c.0 + 1) (m + n) m fits)) to_all
                 (h5.rows r c));
           };
-          nearest = subst (λ ns. IsNearest ns r.0 c.0 (get_or links c.0 0)) (sym (same_networks list))
-              (linked.nearest r.0 at 0 (omega (arith, c.1, many, full)));
+          nearest = subst (λ ns. IsNearest ns r.0 c.0 link) (sym (same_networks list))
+              (parts.links_are.nearest r.0 at 0 (omega (arith, c.1, many, parts.all_linked)));
         }

@@ -21,7 +21,7 @@ use Rattle.ipnet_rules.specs.declared.cells.Span.{Span}
 use Rattle.ipnet_rules.specs.declared.cells.Cells.{Cells}
 use Rattle.ipnet_rules.specs.Cells.{HasNumber, IsInPiece, ArePieces, HasEndsOf, HasPieceAdded, HasEndsAdded, IsInCell}
 use Rattle.ipnet_rules.specs.Cells.{AreCutsOf}
-use Rattle.ipnet_rules.specs.Cells.{AreCuts, IsSpanOf, AreNexts, HasSpanAdded, HasOwnersAdded}
+use Rattle.ipnet_rules.specs.Cells.{AreCuts, IsInSpan, IsSpanOf, AreNexts, HasSpanAdded, HasOwnersAdded}
 use Rattle.ipnet_rules.proofs.VerdictLaws.{any_nil, any_cons, any_push}
 
 -- The pieces so far and the ranges that are left have the addresses.
@@ -307,29 +307,28 @@ added_none owners span old owner = (
 )
 
 -- the owner of a cell is added, and all cells up to the next one have it
-pub added_next : (owners nexts : List ℕ) (span : Span) (cell next : ℕ) (old now new : List ℕ)
-    → AreNexts owners nexts → cell < length owners → span.start ≤ cell → cell < span.end
-    → next ≡ slice_index nexts cell → AreAddedTo owners span cell old now
-    → new ≡ now ++ slice_index owners cell ∷ [] → AreAddedTo owners span next old new
-added_next owners nexts span cell next old now new nexts_are inside from less next_is h is owner = (
-  λ c. elim (Contains-push_cases now (slice_index owners cell) owner (subst (λ l. Contains l owner) is c)) [
+pub added_next : (owners nexts : List ℕ) (span : Span) (cell : ℕ) (old now : List ℕ) → AreNexts owners nexts
+    → cell < length owners → IsInSpan span cell → AreAddedTo owners span cell old now
+    → AreAddedTo owners span (slice_index nexts cell) old (now ++ slice_index owners cell ∷ [])
+added_next owners nexts span cell old now nexts_are inside in_span h owner = (
+  λ c. elim (Contains-push_cases now (slice_index owners cell) owner c) [
     | inl before ↦ elim ((h owner).0 before) [
       | inl first ↦ inl first
-      | inr some ↦ inr (some.0, some.1, some.2, omega (arith, some.3, next_is, nexts_are.later cell inside), some.4)
+      | inr some ↦ inr (some.0, some.1, some.2, omega (arith, some.3, nexts_are.later cell inside), some.4)
     ]
-    | inr same ↦ inr (cell, from, less, omega (arith, next_is, nexts_are.later cell inside), same)
+    | inr same ↦ inr (cell, in_span.0, in_span.1, nexts_are.later cell inside, same)
   ],
-  λ a. subst (λ l. Contains l owner) (sym is) (elim a [
+  λ a. elim a [
     | inl first ↦ Contains-append_left now (slice_index owners cell ∷ []) owner ((h owner).1 (inl first))
     | inr some ↦ elim (cases_lt some.0 cell) [
       | inl below ↦ Contains-append_left now (slice_index owners cell ∷ []) owner
           ((h owner).1 (inr (some.0, some.1, some.2, below, some.4)))
       | inr not ↦
-          let one = nexts_are.same cell some.0 inside (omega (arith, not)) (omega (arith, some.3, next_is)) in
+          let one = nexts_are.same cell some.0 inside (omega (arith, not)) some.3 in
           subst (Contains (now ++ slice_index owners cell ∷ [])) (sym one ∙ some.4)
           (Contains-push now (slice_index owners cell))
     ]
-  ]),
+  ],
 )
 
 -- all cells of the span are below the cell
@@ -348,10 +347,9 @@ added_all owners span cell old now ended h owner = (
 
 -- the owners of one piece more
 owners_more : (cells : Cells) (pieces : List Piece) (p : Piece) (s : Span) (old now new : List ℕ)
-    → length cells.owners.items ≡ length cells.cuts.items
     → IsSpanOf cells.cuts.items p s → HasOwnersAdded cells pieces old now
     → HasSpanAdded cells.owners.items s.start s.end now new → HasOwnersAdded cells (pieces ++ p ∷ []) old new
-owners_more cells pieces p s old now new count is h added owner = (
+owners_more cells pieces p s old now new is h added owner = (
   λ c. elim ((added owner).0 c) [
     | inl before ↦ elim ((h owner).0 before) [
       | inl first ↦ inl first
@@ -383,13 +381,21 @@ owners_more cells pieces p s old now new count is h added owner = (
   ]),
 )
 
--- the owners of one more of the pieces
-pub owners_next_piece : (cells : Cells) (cuts : List ℕ) (pieces : List Piece) (i : ℕ) (d : Piece) (s : Span)
-    (old now new : List ℕ) → cuts ≡ cells.cuts.items → i < length pieces
-    → length cells.owners.items ≡ length cells.cuts.items → IsSpanOf cuts (get_or pieces i d) s
-    → HasOwnersAdded cells (take i pieces) old now → HasSpanAdded cells.owners.items s.start s.end now new
+-- The owners of the cells of the next piece are added.
+pub record IsPieceAdded (cells : Cells) (pieces : List Piece) (i : ℕ) (now new : List ℕ) : Type 0 where
+  pub within : i < length pieces
+  pub default : Piece
+  pub span : Span
+  pub span_is : IsSpanOf cells.cuts.items (get_or pieces i default) span
+  pub added : HasSpanAdded cells.owners.items span.start span.end now new
+
+pub owners_next_piece : (cells : Cells) (pieces : List Piece) (i : ℕ) (old now new : List ℕ)
+    → IsPieceAdded cells pieces i now new → HasOwnersAdded cells (take i pieces) old now
     → HasOwnersAdded cells (take (i + 1) pieces) old new
-owners_next_piece cells cuts pieces i d s old now new cuts_are within count is h added =
-    subst (λ z. HasOwnersAdded cells z old new) (sym (take_next pieces i d within))
-    (owners_more cells (take i pieces) (get_or pieces i d) s old now new count
-    (subst (λ ks. IsSpanOf ks (get_or pieces i d) s) cuts_are is) h added)
+owners_next_piece cells pieces i old now new step h =
+    subst (λ z. HasOwnersAdded cells z old new) (sym (take_next pieces i step.default step.within))
+    (owners_more cells (take i pieces) (get_or pieces i step.default) step.span old now new step.span_is h step.added)
+
+-- the span in the same cuts
+pub span_as : (slice cuts : List ℕ) (p : Piece) (s : Span) → slice ≡ cuts → IsSpanOf slice p s → IsSpanOf cuts p s
+span_as slice cuts p s same h = subst (λ ks. IsSpanOf ks p s) same h

@@ -145,23 +145,23 @@ painted_skip len count rules r p h cannot = record {
 
 -- ---- the verdicts on equal terms
 
--- entries that match x if and only if they match y have one verdict on both
-pub verdict_same : {E X Y : Type 0} (M : E → X → Type 0) (N : E → Y → Type 0) (action_of : E → Action)
-    (default : Action) (es : List E) (x : X) (y : Y) (a : Action) → All (λ e. M e x ↔ N e y) es
-    → HasVerdict M action_of default es x a → HasVerdict N action_of default es y a
-verdict_same M N action_of default [] x y a all v = v
-verdict_same M N action_of default (e ∷ es) x y a all v =
+-- entries that match x if and only if they match y permit both, or none
+pub permit_same : {E X Y : Type 0} (M : E → X → Type 0) (N : E → Y → Type 0) (action_of : E → Action)
+    (es : List E) (x : X) (y : Y) → All (λ e. M e x ↔ N e y) es
+    → HasVerdict M action_of Deny es x Permit ↔ HasVerdict N action_of Deny es y Permit
+permit_same M N action_of [] x y all = (λ v. v, λ v. v)
+permit_same M N action_of (e ∷ es) x y all =
     let same = All-head (λ q. M q x ↔ N q y) e es all in
-    elim v [
-      | inl here ↦ inl (same.0 here.0, here.1)
-      | inr later ↦ inr (
-        λ m. later.0 (same.1 m),
-        verdict_same M N action_of default es x y a (All-tail (λ q. M q x ↔ N q y) e es all) later.1,
-      )
-    ]
-
-flipped : {E : Type 0} (P Q : E → Type 0) (es : List E) → All (λ e. P e ↔ Q e) es → All (λ e. Q e ↔ P e) es
-flipped P Q es h = All-weaker (λ e. P e ↔ Q e) (λ e. Q e ↔ P e) (λ e same. (same.1, same.0)) es h
+    let rest = permit_same M N action_of es x y (All-tail (λ q. M q x ↔ N q y) e es all) in (
+      λ v. elim v [
+        | inl here ↦ inl (same.0 here.0, here.1)
+        | inr later ↦ inr (λ m. later.0 (same.1 m), rest.0 later.1)
+      ],
+      λ v. elim v [
+        | inl here ↦ inl (same.1 here.0, here.1)
+        | inr later ↦ inr (λ m. later.0 (same.0 m), rest.1 later.1)
+      ],
+    )
 
 -- the rules permit a network of this length in a cell if and only if they permit the network at the cell's first number
 cell_verdict : (f : Family) (cuts : List ℕ) (len cell : ℕ) (placed : List PlacedRule) → cell < length cuts
@@ -193,11 +193,7 @@ of_length rules len x a l =
     let r = get_or rules k d in (
       λ m. (match_of_length r len x m.can).0 m.inside,
       λ m. let can = can_from_match r len x a l m in record { can = can; inside = (match_of_length r len x can).1 m },
-    ) in (
-      verdict_same (MatchesOfLength len) MatchesRoute (λ r. r.action) Deny rules x n Permit same,
-      verdict_same MatchesRoute (MatchesOfLength len) (λ r. r.action) Deny rules n x Permit
-          (flipped (λ r. MatchesOfLength len r x) (λ r. MatchesRoute r n) rules same),
-    )
+    ) in permit_same (MatchesOfLength len) MatchesRoute (λ r. r.action) rules x n same
 
 -- ---- cuts
 
@@ -287,11 +283,7 @@ in_cell f rules v cell n len h inside =
     (λ r cuts. let one = cuts.one_cell cell n inside in (
       λ m. record { can = m.can; inside = one.1 m.inside },
       λ m. record { can = m.can; inside = one.0 m.inside },
-    )) rules h.cut in (
-      verdict_same (MatchesOfLength len) (MatchesOfLength len) (λ r. r.action) Deny rules y x Permit same,
-      verdict_same (MatchesOfLength len) (MatchesOfLength len) (λ r. r.action) Deny rules x y Permit
-          (flipped (λ r. MatchesOfLength len r y) (λ r. MatchesOfLength len r x) rules same),
-    )
+    )) rules h.cut in permit_same (MatchesOfLength len) (MatchesOfLength len) (λ r. r.action) rules y x same
 
 in_no_cell : (f : Family) (rules : List PrefixRule) (v : FamilyVerdicts) (n len : ℕ) → AreFamilyVerdicts f rules v
     → ((cell : ℕ) → ¬ (IsInCell v.cuts.items cell n)) → ¬ (IsPermittedOfLength rules len (address_at f n))
@@ -314,17 +306,16 @@ network_span f cuts k p s same h = record {
 }
 
 -- the numbers from the least address of a network to the greatest
-pub piece_of_block : (k : Network) (f : Family) (low high : Address) (p : Piece) → IsLeastOf k low
-    → IsGreatestOf k high → low.family ≡ f → p.first ≡ low.number → p.last ≡ high.number → (n : ℕ)
-    → IsInPiece n p ↔ InBlock k (address_at f n)
-piece_of_block k f low high p least greatest fam first last n =
-    let same = block_is_between k low high (address_at f n) least greatest in (
+pub piece_of_block : (k : Network) (low high : Address) → IsLeastOf k low → IsGreatestOf k high → (n : ℕ)
+    → IsInPiece n (record { first = low.number; last = high.number }) ↔ InBlock k (address_at low.family n)
+piece_of_block k low high least greatest n =
+    let same = block_is_between k low high (address_at low.family n) least greatest in (
       λ inside. same.1 (record {
-        of_family = sym fam ∙ least.inside.same_family;
-        from_start = omega (arith, inside.0, first);
-        to_end = omega (arith, inside.1, last);
+        of_family = least.inside.same_family;
+        from_start = inside.0;
+        to_end = inside.1;
       }),
-      λ b. let r = same.0 b in (omega (arith, r.from_start, first), omega (arith, r.to_end, last)),
+      λ b. let r = same.0 b in (r.from_start, r.to_end),
     )
 
 -- the network is of the other family
@@ -376,38 +367,39 @@ cell_missing cuts n after h none cell inside =
     let above = leb-false (slice_index cuts cell) n (h.1 cell 0 (omega (arith, none)) inside.within) in
     omega (arith, above, inside.from_cut)
 
--- the flag of a cell
-pub permits_at : (f : Family) (rules : List PrefixRule) (v : FamilyVerdicts) (cell n len : ℕ) (flags : Vec Bool)
-    (b : Bool) → AreFamilyVerdicts f rules v → IsInCell v.cuts.items cell n → n < 2 ^ width f → len ≤ width f
-    → get_or v.permitted.items len flags ≡ flags → get_or flags.items cell b ≡ b
-    → (b ≡ true) ↔ IsRoutePermitted rules (network_at (address_at f n) len)
-permits_at f rules v cell n len flags b h inside fits le is at =
-    let all = h.flags len flags (omega (arith, le, h.lengths)) is in
-    let own = all.each cell inside.within in
-    let flag = sym at ∙ at_place flags.items cell b false (omega (arith, all.cells, inside.within)) in
-    let same = in_cell f rules v cell n len h inside in
-    let route = of_length rules len (address_at f n) fits le in (
-      λ e. route.0 (same.0 (own.0 (sym flag ∙ e))),
-      λ p. flag ∙ own.1 (same.1 (route.1 p)),
-    )
+-- a network of this length at an address of the family
+module _ (f : Family) (rules : List PrefixRule) (v : FamilyVerdicts) (n len : ℕ) (h : AreFamilyVerdicts f rules v)
+    (fits : n < 2 ^ width f) (le : len ≤ width f) where
+  -- the flag of its cell
+  pub permits_at : (cell : ℕ) (flags : Vec Bool) (b : Bool) → IsInCell v.cuts.items cell n
+      → get_or v.permitted.items len flags ≡ flags → get_or flags.items cell b ≡ b
+      → (b ≡ true) ↔ IsRoutePermitted rules (network_at (address_at f n) len)
+  permits_at cell flags b inside is at =
+      let all = h.flags len flags (omega (arith, le, h.lengths)) is in
+      let own = all.each cell inside.within in
+      let flag = sym at ∙ at_place flags.items cell b false (omega (arith, all.cells, inside.within)) in
+      let same = in_cell f rules v cell n len h inside in
+      let route = of_length rules len (address_at f n) fits le in (
+        λ e. route.0 (same.0 (own.0 (sym flag ∙ e))),
+        λ p. flag ∙ own.1 (same.1 (route.1 p)),
+      )
 
--- the number lies in no cell
-pub permits_nothing : (f : Family) (rules : List PrefixRule) (v : FamilyVerdicts) (n len : ℕ)
-    → AreFamilyVerdicts f rules v → ((cell : ℕ) → ¬ (IsInCell v.cuts.items cell n)) → n < 2 ^ width f → len ≤ width f
-    → ¬ (IsRoutePermitted rules (network_at (address_at f n) len))
-permits_nothing f rules v n len h none fits le p =
-    in_no_cell f rules v n len h none ((of_length rules len (address_at f n) fits le).1 p)
+  -- the number lies in no cell
+  pub permits_nothing : ((cell : ℕ) → ¬ (IsInCell v.cuts.items cell n))
+      → ¬ (IsRoutePermitted rules (network_at (address_at f n) len))
+  permits_nothing none p =
+      in_no_cell f rules v n len h none ((of_length rules len (address_at f n) fits le).1 p)
 
 -- The test of a network by its number and its length. That the parts have the verdicts of the rules is only known to
 -- have a proof.
 pub permits_network : (rules : List PrefixRule) (v : FamilyVerdicts) (k : Network) (number len : ℕ) (b : Bool)
-    → IsNetwork k → number ≡ k.number → len ≡ k.prefix_len → ∥ AreFamilyVerdicts k.family rules v ∥₁
+    → IsNetwork k → network_at (address_at k.family number) len ≡ k → ∥ AreFamilyVerdicts k.family rules v ∥₁
     → ((f : Family) → (list : List PrefixRule) → AreFamilyVerdicts f list v → number < 2 ^ width f → len ≤ width f
     → (b ≡ true) ↔ IsRoutePermitted list (network_at (address_at f number) len))
     → (b ≡ true) ↔ IsRoutePermitted rules k
-permits_network rules v k number len b valid at length_is known own =
-    let same : network_at (address_at k.family number) len ≡ k =
-    λ i. record { family = k.family; number = at i; prefix_len = length_is i } in
+permits_network rules v k number len b valid same known own =
+    let at : number ≡ k.number = ap (λ n. n.number) same in
+    let length_is : len ≡ k.prefix_len = ap (λ n. n.prefix_len) same in
     permits_by_fact (AreFamilyVerdicts k.family rules v) rules k b valid known (λ h.
     subst (λ n. (b ≡ true) ↔ IsRoutePermitted rules n) same
     (own k.family rules h (omega (arith, at, valid.address_fits)) (omega (arith, length_is, valid.prefix_fits))))

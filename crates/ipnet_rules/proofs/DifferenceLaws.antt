@@ -10,10 +10,9 @@ use Rattle.ipnet.specs.NetworkParts.{network_at}
 use Rattle.ipnet_sets.specs.Members.{IsMember, IsFirstOf}
 use Rattle.ipnet_sets.specs.declared.set.IpSet.{IpSet}
 use Rattle.ipnet_rules.specs.declared.prefix_list.PrefixRule.{PrefixRule}
-use Rattle.ipnet_rules.specs.declared.rules.Action.TheVariants.{Permit, Deny}
 use Rattle.ipnet_rules.specs.CompiledLists.{MatchesOfLength, IsPermittedOfLength}
 use Rattle.ipnet_rules.specs.PrefixLists.{IsRoutePermitted, IsPermittedByOne, IsFirstOfLength}
-use Rattle.ipnet_rules.proofs.CompiledLaws.{verdict_same, of_length}
+use Rattle.ipnet_rules.proofs.CompiledLaws.{permit_same, of_length}
 use Rattle.ipnet_rules.proofs.RouteLaws.{valid_at}
 
 -- an address of a network is valid
@@ -34,7 +33,7 @@ same_block x y len b = record {
 permitted_of_both : (rules : List PrefixRule) (x y : Address) (len : ℕ) → InBlock (network_at x len) y
     → IsPermittedOfLength rules len x → IsPermittedOfLength rules len y
 permitted_of_both rules x y len b =
-    verdict_same (MatchesOfLength len) (MatchesOfLength len) (λ r. r.action) Deny rules x y Permit
+    (permit_same (MatchesOfLength len) (MatchesOfLength len) (λ r. r.action) rules x y
     (λ k d less. let r = get_or rules k d in (
       λ m. record {
         can = m.can;
@@ -44,7 +43,7 @@ permitted_of_both rules x y len b =
         can = m.can;
         inside = subnet_from_own (network_at y len) (ip_network r.network) m.can.0 m.inside x (same_block x y len b);
       },
-    ))
+    ))).0
 
 -- an address of one family does not come before another by its family
 before_same : (x y : Address) → family_index x.family < family_index y.family → y.family ≡ x.family → ⊥

@@ -21,14 +21,14 @@ use Rattle.ipnet_rules.specs.declared.cells.Painting.{Painting}
 use Rattle.ipnet_rules.specs.declared.cells.Piece.{Piece}
 use Rattle.ipnet_rules.specs.declared.kept.OwnedCell.{OwnedCell}
 use Rattle.ipnet_rules.specs.declared.rules.Rule.{Rule}
-use Rattle.ipnet_rules.specs.Cells.{family_of, owner_of, AreSkips, AreCells, AreCutsOf, ArePieces, ArePainted}
+use Rattle.ipnet_rules.specs.Cells.{family_of, owner_of, AreSkips, AreCells, AreCutsOf, ArePainted}
 use Rattle.ipnet_rules.specs.Cells.{IsCutIn}
 use Rattle.ipnet_rules.specs.KeptRules.{IsKept, IsStillThere, AreKept}
 use Rattle.ipnet_rules.specs.KeptSteps.{for_family, IsCellOf, HasCellsAdded, AreByOwner, first_of_cell, IsPaintedBy}
 use Rattle.ipnet_rules.specs.KeptSteps.{HasOwn, IsAt, AreKeptFrom}
 use Rattle.ipnet_rules.specs.UnreachedRules.{MatchesAt, Decides}
 use Rattle.ipnet_rules.proofs.OwnerLaws.{one_cell_at, owner_decides}
-use Rattle.ipnet_rules.proofs.UnreachedLaws.{matches_at}
+use Rattle.ipnet_rules.proofs.OwnerLaws.{IsRulePainted, matches_cut}
 
 -- ---- the list of cells
 
@@ -124,43 +124,35 @@ painted_start f rules cells kept p none skips count free each = record {
   painted = λ cell within taken. absurd (taken (each cell within ∙ sym free));
 }
 
-pub painted_next : (f : Family) (rules : List Rule) (cells : Cells) (kept : List Bool) (j : ℕ) (d : Rule)
-    (pieces : List Piece) (old new : Painting) → j < length kept → j < length rules
-    → IsPaintedBy f rules cells kept old → ArePieces (family_of f) (get_or rules j d).addresses pieces
-    → AreSkips new → ArePainted (IsCutIn cells.cuts.items pieces) j old new
-    → IsPaintedBy f rules cells (set kept j true) new
-painted_next f rules cells kept j d pieces old new flag within h are skips painted = record {
-  skips = skips;
-  count = painted.cells ∙ h.count;
-  of_free = painted.of_free ∙ h.of_free;
-  free = λ cell inside is k kept_now m. elim (painted.each cell (omega (arith, inside, h.count))) [
-    | inl a ↦ absurd (taken (sym a.2 ∙ is ∙ painted.of_free))
+pub painted_next : (f : Family) (rules : List Rule) (cells : Cells) (kept : List Bool) (j : ℕ) (old new : Painting)
+    → j < length kept → IsPaintedBy f rules cells kept old
+    → IsRulePainted (family_of f) rules cells.cuts.items j old new → IsPaintedBy f rules cells (set kept j true) new
+painted_next f rules cells kept j old new flag h rule = record {
+  skips = rule.skips;
+  count = rule.painted.cells ∙ h.count;
+  of_free = rule.painted.of_free ∙ h.of_free;
+  free = λ cell inside is k kept_now m. elim (rule.painted.each cell (omega (arith, inside, h.count))) [
+    | inl a ↦ absurd (taken (sym a.2 ∙ is ∙ rule.painted.of_free))
     | inr a ↦
-        let was : owner_of old cell ≡ old.free = sym a.1 ∙ is ∙ painted.of_free in
+        let was : owner_of old cell ≡ old.free = sym a.1 ∙ is ∙ rule.painted.of_free in
         elim ((kept_set kept j k flag).0 kept_now) [
           | inl before ↦ h.free cell inside was k before m
           | inr last ↦ a.0 ((own cell).0 (subst (λ i. MatchesAt rules i (first_of_cell f cells cell)) last m)) was
         ]
   ];
-  painted = λ cell inside is. elim (painted.each cell (omega (arith, inside, h.count))) [
+  painted = λ cell inside is. elim (rule.painted.each cell (omega (arith, inside, h.count))) [
     | inl a ↦ (j, (kept_set kept j j flag).1 (inr refl), (own cell).1 a.0)
     | inr a ↦
-        let one = h.painted cell inside (λ free. is (a.1 ∙ free ∙ sym painted.of_free)) in
+        let one = h.painted cell inside (λ free. is (a.1 ∙ free ∙ sym rule.painted.of_free)) in
         (one.0, (kept_set kept j one.0 flag).1 (inl one.1), one.2)
   ];
 }
   where
     taken : j ≡ old.free → ⊥
-    taken e = let wrong : ⊥ = omega (arith, e, within, h.of_free) in wrong
+    taken e = let wrong : ⊥ = omega (arith, e, rule.within, h.of_free) in wrong
 
-    -- the rule matches the first address of a cell if and only if the cut lies in its pieces
-    own : (cell : ℕ) → MatchesAt rules j (first_of_cell f cells cell) ↔ IsCutIn cells.cuts.items pieces cell
-    own cell =
-        let n = slice_index cells.cuts.items cell in
-        let x = first_of_cell f cells cell in (
-          λ m. (are.numbers n).0 ((matches_at rules j d x within).0 m),
-          λ a. (matches_at rules j d x within).1 ((are.numbers n).1 a),
-        )
+    own : (cell : ℕ) → MatchesAt rules j (first_of_cell f cells cell) ↔ IsCutIn cells.cuts.items rule.pieces cell
+    own cell = matches_cut (family_of f) rules cells.cuts.items j old new rule cell
 
 -- as the words of slices say it
 pub painted_as : (cuts slice : List ℕ) (pieces words : List Piece) (place : ℕ) (old new : Painting) → slice ≡ cuts
@@ -366,10 +358,10 @@ module _ (rules : List Rule) (ipv4 ipv6 : Cells) (four : AreCells addresses.IPv4
 
 -- ---- the lists of both families, and sorted
 
-pub both_added : (ipv4 ipv6 : Cells) (none mid all sorted : List OwnedCell) → none ≡ []
-    → HasCellsAdded Ipv4 ipv4.owners.items none mid → HasCellsAdded Ipv6 ipv6.owners.items mid all
-    → IsPermutation all sorted → IsNonDecreasingBy (λ o. o.owner) sorted → AreByOwner ipv4 ipv6 sorted
-both_added ipv4 ipv6 none mid all sorted empty four six moved up = record {
+pub both_added : (ipv4 ipv6 : Cells) (mid all sorted : List OwnedCell) → HasCellsAdded Ipv4 ipv4.owners.items [] mid
+    → HasCellsAdded Ipv6 ipv6.owners.items mid all → IsPermutation all sorted
+    → IsNonDecreasingBy (λ o. o.owner) sorted → AreByOwner ipv4 ipv6 sorted
+both_added ipv4 ipv6 mid all sorted four six moved up = record {
   ascending = up;
   all = in_all;
   only = λ o c. go o (six.only o (Contains-permutation _ _ o (IsPermutation-sym _ _ moved) c));
@@ -388,7 +380,7 @@ both_added ipv4 ipv6 none mid all sorted empty four six moved up = record {
         → IsCellOf o.family (for_family o.family ipv4 ipv6).owners.items o
     go o (inr is) = of_family Ipv6 o is
     go o (inl c) = elim (four.only o c) [
-      | inl nothing ↦ absurd (contains_nil o (subst (λ l. Contains l o) empty nothing))
+      | inl nothing ↦ absurd (contains_nil o nothing)
       | inr is ↦ of_family Ipv4 o is
     ]
 

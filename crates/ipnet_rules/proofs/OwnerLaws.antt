@@ -1,6 +1,6 @@
 -- The owners of cells decide on the addresses of the cells.
-use Rattle.std.proofs.Common.{◌≡◌, ℕ, ◌+◌, ◌<◌, ◌⊎◌, ◌↔◌, List, [], AllPairs, Contains}
-use Rattle.std.proofs.Common.{Bool, true, false, length, get_or, slice_index, arith, sym, subst, ◌∙◌, inl, inr}
+use Rattle.std.proofs.Common.{◌≡◌, ℕ, ◌+◌, ◌<◌, ◌⊎◌, ◌↔◌, List, [], Contains}
+use Rattle.std.proofs.Common.{length, get_or, slice_index, arith, sym, subst, ◌∙◌, inl, inr}
 use Rattle.std.proofs.lemmas.Bool.{cases_lt}
 use Rattle.ipnet_base.proofs.ListLaws.{all_at, at_place, contains_nil}
 use Rattle.ipnet_base.specs.Address.{Family, IPv4, IPv6, Address, address_at}
@@ -8,30 +8,47 @@ use Rattle.ipnet_rules.specs.declared.cells.Cells.{Cells}
 use Rattle.ipnet_rules.specs.declared.cells.Painting.{Painting}
 use Rattle.ipnet_rules.specs.declared.cells.Piece.{Piece}
 use Rattle.ipnet_rules.specs.declared.rules.Rule.{Rule}
-use Rattle.ipnet_rules.specs.UnreachedRules.{MatchesAt, Decides, IsUnreached, AreDeciders}
-use Rattle.ipnet_rules.specs.Cells.{ArePieces, IsInCell, AreCutsOf, AreCuts, IsCutIn, ArePainted}
+use Rattle.ipnet_rules.specs.declared.unreached.Decisions.{Decisions}
+use Rattle.ipnet_rules.specs.UnreachedRules.{MatchesAt, Decides, IsUnreached}
+use Rattle.ipnet_rules.specs.Decisions.{AreDecisions}
+use Rattle.ipnet_rules.specs.Cells.{AreSkips, ArePieces, IsInCell, AreCutsOf, AreCuts, IsCutIn, ArePainted}
 use Rattle.ipnet_rules.specs.Cells.{AreOwnersBefore, AreCells, AreInOrder, HasOwnersAdded}
 use Rattle.ipnet_rules.proofs.UnreachedLaws.{matches_at}
 
--- a bit is not both
-not_both_bits : true ≡ false → ⊥
-not_both_bits e = absurd (cc)
+-- The rule at the place paints the free cells in its pieces.
+pub record IsRulePainted (f : Family) (rules : List Rule) (cuts : List ℕ) (place : ℕ) (old new : Painting) : Type 0
+  where
+    pub within : place < length rules
+    pub default : Rule
+    pub pieces : List Piece
+    pub pieces_are : ArePieces f (get_or rules place default).addresses pieces
+    pub skips : AreSkips new
+    pub painted : ArePainted (IsCutIn cuts pieces) place old new
+
+-- it matches the first address of a cell if and only if the cut lies in its pieces
+pub matches_cut : (f : Family) (rules : List Rule) (cuts : List ℕ) (place : ℕ) (old new : Painting)
+    (h : IsRulePainted f rules cuts place old new) (cell : ℕ)
+    → MatchesAt rules place (address_at f (slice_index cuts cell)) ↔ IsCutIn cuts h.pieces cell
+matches_cut f rules cuts place old new h cell =
+    let n = slice_index cuts cell in
+    let own = matches_at rules place h.default (address_at f n) h.within in (
+      λ m. (h.pieces_are.numbers n).0 (own.0 m),
+      λ a. own.1 ((h.pieces_are.numbers n).1 a),
+    )
 
 -- the rule at the place was asked
-pub owners_next : (f : Family) (rules : List Rule) (cuts : List ℕ) (place : ℕ) (d : Rule) (pieces : List Piece)
-    (old new : Painting) → place < length rules → length old.owners.items ≡ length cuts
-    → old.free ≡ length rules → ArePieces f (get_or rules place d).addresses pieces
-    → ArePainted (IsCutIn cuts pieces) place old new
+pub owners_next : (f : Family) (rules : List Rule) (cuts : List ℕ) (place : ℕ) (old new : Painting)
+    → length old.owners.items ≡ length cuts → old.free ≡ length rules → IsRulePainted f rules cuts place old new
     → AreOwnersBefore f rules cuts place (length rules) old.owners.items
     → AreOwnersBefore f rules cuts (place + 1) (length rules) new.owners.items
-owners_next f rules cuts place d pieces old new within count free are painted before cell inside =
-    elim (painted.each cell (omega (arith, inside, count))) [
+owners_next f rules cuts place old new count free h before cell inside =
+    elim (h.painted.each cell (omega (arith, inside, count))) [
       | inl a ↦ elim (before cell inside) [
         | inl none ↦ inr (
           omega (arith, a.2),
           subst (λ i. Decides rules i x) (sym a.2) (record { matches = own.1 a.0; first = none.1 }),
         )
-        | inr some ↦ absurd (let wrong : ⊥ = omega (arith, some.0, a.1, free, within) in wrong)
+        | inr some ↦ absurd (let wrong : ⊥ = omega (arith, some.0, a.1, free, h.within) in wrong)
       ]
       | inr a ↦ elim (before cell inside) [
         | inl none ↦ inl (
@@ -47,18 +64,11 @@ owners_next f rules cuts place d pieces old new within count free are painted be
       ]
     ]
   where
-    n : ℕ
-    n = slice_index cuts cell
-
     x : Address
-    x = address_at f n
+    x = address_at f (slice_index cuts cell)
 
-    -- the rule at the place matches the cut if and only if the cut lies in its pieces
-    own : MatchesAt rules place x ↔ IsCutIn cuts pieces cell
-    own = (
-      λ m. (are.numbers n).0 ((matches_at rules place d x within).0 m),
-      λ a. (matches_at rules place d x within).1 ((are.numbers n).1 a),
-    )
+    own : MatchesAt rules place x ↔ IsCutIn cuts h.pieces cell
+    own = matches_cut f rules cuts place old new h cell
 
 -- a rule matches a number if and only if it matches the cut of its cell
 pub one_cell_at : (f : Family) (rules : List Rule) (cuts : List ℕ) → AreCuts f rules cuts → (cell n : ℕ)
@@ -158,100 +168,103 @@ reached_if_cell f rules cells h place c never =
     (subst (λ i. Decides rules i (address_at f (slice_index cells.cuts.items c.0))) is
     (owner_decides f rules cells h c.0 within (omega (arith, is, never.within))))
 
--- the owners of cells in the pieces of an unreached rule decide on addresses of it
-decider_of_cell : (f : Family) (rules : List Rule) (cells : Cells) (place : ℕ) (d : Rule) (pieces : List Piece)
-    → AreCells f rules cells → IsUnreached rules place → ArePieces f (get_or rules place d).addresses pieces
-    → (cell earlier : ℕ) → cell < length cells.cuts.items → IsCutIn cells.cuts.items pieces cell
-    → slice_index cells.owners.items cell ≡ earlier
-    → (earlier < place) × (x : Address) × MatchesAt rules place x × Decides rules earlier x
-decider_of_cell f rules cells place d pieces h never are cell earlier within a is =
-    let n = slice_index cells.cuts.items cell in
-    let x = address_at f n in
-    let m = (matches_at rules place d x never.within).1 ((are.numbers n).1 a) in
-    elim (h.owners cell within) [
-      | inl none ↦ absurd (none.1 place never.within m)
-      | inr some ↦
-          let decides = subst (λ i. Decides rules i x) is some.1 in (
-            elim (cases_lt earlier place) [
-              | inl less ↦ less
-              | inr not ↦ elim (cases_lt place earlier) [
-                | inl before ↦ absurd (decides.first place before m)
-                | inr too ↦
-                    let same : earlier ≡ place = omega (arith, not, too) in
-                    absurd (never.never x (subst (λ i. Decides rules i x) same decides))
-              ]
-            ],
-            x,
-            m,
-            decides,
-          )
-    ]
+-- The owners of the cells in the pieces of an unreached rule, added to a list.
+pub record AreOwnersOf (f : Family) (rules : List Rule) (cells : Cells) (place : ℕ) (old new : List ℕ) : Type 0 where
+  pub cells_are : AreCells f rules cells
+  pub unreached : IsUnreached rules place
+  pub default : Rule
+  pub pieces : List Piece
+  pub pieces_are : ArePieces f (get_or rules place default).addresses pieces
+  pub added : HasOwnersAdded cells pieces old new
+
+-- The earlier rule decides on an address of the rule.
+abbrev IsDecider : List Rule → ℕ → ℕ → Type 0
+IsDecider rules place earlier = (earlier < place) × (x : Address) × MatchesAt rules place x × Decides rules earlier x
+
+-- each of these owners does
+decider_of_owner : (f : Family) (rules : List Rule) (cells : Cells) (place : ℕ) (old new : List ℕ)
+    → AreOwnersOf f rules cells place old new → (earlier : ℕ) → Contains new earlier
+    → Contains old earlier ⊎ IsDecider rules place earlier
+decider_of_owner f rules cells place old new h earlier c = elim ((h.added earlier).0 c) [
+  | inl before ↦ inl before
+  | inr some ↦
+      let cell = some.0 in
+      let n = slice_index cells.cuts.items cell in
+      let x = address_at f n in
+      let within = h.unreached.within in
+      let m = (matches_at rules place h.default x within).1 ((h.pieces_are.numbers n).1 some.2) in
+      elim (h.cells_are.owners cell some.1) [
+        | inl none ↦ absurd (none.1 place within m)
+        | inr owner ↦
+            let decides = subst (λ i. Decides rules i x) some.3 owner.1 in
+            inr (
+              elim (cases_lt earlier place) [
+                | inl less ↦ less
+                | inr not ↦ elim (cases_lt place earlier) [
+                  | inl before ↦ absurd (decides.first place before m)
+                  | inr too ↦
+                      let same : earlier ≡ place = omega (arith, not, too) in
+                      absurd (h.unreached.never x (subst (λ i. Decides rules i x) same decides))
+                ]
+              ],
+              x,
+              m,
+              decides,
+            )
+      ]
+]
+
+-- and each rule that does is one of them
+owner_of_decider : (f : Family) (rules : List Rule) (cells : Cells) (place : ℕ) (old new : List ℕ)
+    → AreOwnersOf f rules cells place old new → (earlier n : ℕ)
+    → MatchesAt rules place (address_at f n) × Decides rules earlier (address_at f n) → Contains new earlier
+owner_of_decider f rules cells place old new h earlier n known =
+    let c = cell_of_number f rules cells h.cells_are n earlier known.1 in
+    let cut = slice_index cells.cuts.items c.0 in
+    (h.added earlier).1 (inr (
+      c.0,
+      c.1,
+      (h.pieces_are.numbers cut).0
+          ((matches_at rules place h.default (address_at f cut) h.unreached.within).0 (c.3 place known.0)),
+      c.2,
+    ))
 
 -- the cells of rules are in order
 pub in_order : (f : Family) (rules : List Rule) (cells : Cells) → AreCells f rules cells → AreInOrder cells
 in_order f rules cells h = record { cuts = h.cuts.ascending; owners = h.count; nexts = h.nexts }
 
 -- the deciders of an unreached rule are the owners of the cells in its pieces
-pub deciders_from_owners : (rules : List Rule) (ipv4 ipv6 : Cells) (place : ℕ) (d : Rule) (pieces more : List Piece)
-    (none first second found : List ℕ) → AreCells IPv4 rules ipv4 → AreCells IPv6 rules ipv6
-    → IsUnreached rules place → ArePieces IPv4 (get_or rules place d).addresses pieces
-    → ArePieces IPv6 (get_or rules place d).addresses more → none ≡ []
-    → HasOwnersAdded ipv4 pieces none first → HasOwnersAdded ipv6 more first second
-    → ((i : ℕ) → Contains found i ↔ Contains second i) → AllPairs (λ i j. i < j) found
-    → AreDeciders rules place found
-deciders_from_owners rules ipv4 ipv6 place d pieces more none first second found h k never are also empty a b same up =
-    record {
-      ascending = up;
-      members = λ earlier. (
-        λ c. elim ((b earlier).0 ((same earlier).0 c)) [
-          | inl front ↦ elim ((a earlier).0 front) [
-            | inl nothing ↦ absurd (contains_nil earlier (subst (λ l. Contains l earlier) empty nothing))
-            | inr cell ↦ decider_of_cell IPv4 rules ipv4 place d pieces h never are cell.0 earlier cell.1 cell.2 cell.3
-          ]
-          | inr cell ↦ decider_of_cell IPv6 rules ipv6 place d more k never also cell.0 earlier cell.1 cell.2 cell.3
-        ],
-        λ known. (same earlier).1 (go earlier known.1.family known.1.number known.2 known.3),
-      );
-    }
+pub owners_are_deciders : (rules : List Rule) (ipv4 ipv6 : Cells) (place : ℕ) (first second : List ℕ)
+    → AreOwnersOf IPv4 rules ipv4 place [] first → AreOwnersOf IPv6 rules ipv6 place first second → (earlier : ℕ)
+    → Contains second earlier
+    ↔ ((earlier < place) × (x : Address) × MatchesAt rules place x × Decides rules earlier x)
+owners_are_deciders rules ipv4 ipv6 place first second four six earlier = (
+  λ c. elim (decider_of_owner IPv6 rules ipv6 place first second six earlier c) [
+    | inl front ↦ elim (decider_of_owner IPv4 rules ipv4 place [] first four earlier front) [
+      | inl nothing ↦ absurd (contains_nil earlier nothing)
+      | inr own ↦ own
+    ]
+    | inr own ↦ own
+  ],
+  λ known. go known.1.family known.1.number (known.2, known.3),
+)
   where
-    go : (earlier : ℕ) (f : Family) (n : ℕ) → MatchesAt rules place (address_at f n)
-        → Decides rules earlier (address_at f n) → Contains second earlier
-    go earlier IPv4 n m decides =
-        let c = cell_of_number IPv4 rules ipv4 h n earlier decides in
-        let cut = slice_index ipv4.cuts.items c.0 in
-        (b earlier).1 (inl ((a earlier).1 (inr (
-          c.0,
-          c.1,
-          (are.numbers cut).0 ((matches_at rules place d (address_at IPv4 cut) never.within).0 (c.3 place m)),
-          c.2,
-        ))))
-    go earlier IPv6 n m decides =
-        let c = cell_of_number IPv6 rules ipv6 k n earlier decides in
-        let cut = slice_index ipv6.cuts.items c.0 in
-        (b earlier).1 (inr (
-          c.0,
-          c.1,
-          (also.numbers cut).0 ((matches_at rules place d (address_at IPv6 cut) never.within).0 (c.3 place m)),
-          c.2,
-        ))
+    go : (f : Family) (n : ℕ) → MatchesAt rules place (address_at f n) × Decides rules earlier (address_at f n)
+        → Contains second earlier
+    go IPv4 n known =
+        (six.added earlier).1 (inl (owner_of_decider IPv4 rules ipv4 place [] first four earlier n known))
+    go IPv6 n known = owner_of_decider IPv6 rules ipv6 place first second six earlier n known
 
 -- a rule that is not in the list of those that own a cell is unreached
-pub unreached_if_absent : (rules : List Rule) (ipv4 ipv6 : Cells) → AreCells IPv4 rules ipv4
-    → AreCells IPv6 rules ipv6 → (place : ℕ) → place < length rules → (reached : List ℕ)
-    → Contains reached place ↔ (Contains ipv4.owners.items place ⊎ Contains ipv6.owners.items place)
-    → (slice : List ℕ) → slice ≡ reached → (b : Bool) → (b ≡ true) ↔ Contains slice place → b ≡ false
-    → IsUnreached rules place
-unreached_if_absent rules ipv4 ipv6 h k place within reached members slice is b has absent =
-    unreached_if_no_cell rules ipv4 ipv6 h k place within
-    (λ own. absurd (not_both_bits (sym (has.1 (subst (λ l. Contains l place) (sym is) (members.1 own))) ∙ absent)))
+pub unreached_if_absent : (rules : List Rule) (d : Decisions) → AreDecisions rules d → (place : ℕ)
+    → place < length rules → ¬ (Contains d.reached.items place) → IsUnreached rules place
+unreached_if_absent rules d h place within absent =
+    unreached_if_no_cell rules d.ipv4 d.ipv6 h.ipv4 h.ipv6 place within (λ own. absent ((h.members place).1 own))
 
 -- a rule in the list of those that own a cell is not
-pub reached_if_present : (rules : List Rule) (ipv4 ipv6 : Cells) → AreCells IPv4 rules ipv4
-    → AreCells IPv6 rules ipv6 → (place : ℕ) → (reached : List ℕ)
-    → Contains reached place ↔ (Contains ipv4.owners.items place ⊎ Contains ipv6.owners.items place)
-    → (slice : List ℕ) → slice ≡ reached → Contains slice place → IsUnreached rules place → ⊥
-reached_if_present rules ipv4 ipv6 h k place reached members slice is has never =
-    elim (members.0 (subst (λ l. Contains l place) is has)) [
-      | inl own ↦ reached_if_cell IPv4 rules ipv4 h place own never
-      | inr own ↦ reached_if_cell IPv6 rules ipv6 k place own never
-    ]
+pub reached_if_present : (rules : List Rule) (d : Decisions) → AreDecisions rules d → (place : ℕ)
+    → Contains d.reached.items place → IsUnreached rules place → ⊥
+reached_if_present rules d h place has never = elim ((h.members place).0 has) [
+  | inl own ↦ reached_if_cell IPv4 rules d.ipv4 h.ipv4 place own never
+  | inr own ↦ reached_if_cell IPv6 rules d.ipv6 h.ipv6 place own never
+]

@@ -1,6 +1,6 @@
 -- The smallest network around the numbers of one family, and around the members of a set.
 use Rattle.std.proofs.Common.{◌≡◌, ℕ, ◌≤◌, ◌↔◌, true, false, List, map, sym, ◌∙◌, subst, arith, inl, inr}
-use Rattle.std.proofs.Common.{refl, ◌<◌, ◌^◌, subst₂, Option, Some, None, IfSome}
+use Rattle.std.proofs.Common.{refl, ◌<◌, ◌^◌, Option, Some, None, IfSome}
 use Rattle.std.proofs.lemmas.Bool.{cases_Bool, true≢false}
 use Rattle.ipnet_base.specs.Address.{Family, Address, address_at, width, greatest_number}
 use Rattle.ipnet_base.specs.Network.{Network, InBlock, IsSubnetOf}
@@ -56,14 +56,12 @@ around_ends f ts lo hi s least greatest h = record {
 }
 
 -- as it is found
-pub around_found : (f : Family) (ts : List ℕ) (lo hi : ℕ) (n k : Network) (found : Option IpNet)
-    → IsLeastInside f ts lo → IsGreatestInside f ts hi → n ≡ single (address_at f lo) → k ≡ single (address_at f hi)
-    → IfSome found (λ s. IsCommonSupernet n k (ip_network s))
+pub around_found : (f : Family) (ts : List ℕ) (lo hi : ℕ) (found : Option IpNet) → IsLeastInside f ts lo
+    → IsGreatestInside f ts hi
+    → IfSome found (λ s. IsCommonSupernet (single (address_at f lo)) (single (address_at f hi)) (ip_network s))
     → IfSome found (λ s. IsSmallestAround (IsWithin f ts) (ip_network s))
-around_found f ts lo hi n k None least greatest first last h = h
-around_found f ts lo hi n k (Some s) least greatest first last h =
-    around_ends f ts lo hi (ip_network s) least greatest
-    (subst₂ (λ a b. IsCommonSupernet a b (ip_network s)) first last h)
+around_found f ts lo hi None least greatest h = h
+around_found f ts lo hi (Some s) least greatest h = around_ends f ts lo hi (ip_network s) least greatest h
 
 -- a number is inside the boundaries of a set if and only if its address is a member
 within_is_member : (s : IpSet) (f : Family) (slice : List ℕ) → map (λ n. n) slice ≡ boundaries_of s f

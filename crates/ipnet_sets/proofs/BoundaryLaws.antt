@@ -1,5 +1,5 @@
 -- Two sets of numbers by their boundaries, merged into the one that an operation makes of them.
-use Rattle.std.proofs.Common.{◌≡◌, ℕ, ◌+◌, ◌<◌, ◌≤◌, ◌⊎◌, false, not}
+use Rattle.std.proofs.Common.{◌≡◌, ℕ, ◌+◌, ◌<◌, ◌≤◌, ◌⊎◌, Bool, false, not}
 use Rattle.std.proofs.Common.{List, [], ◌∷◌, ◌++◌, length, take, get_or, All}
 use Rattle.std.proofs.Common.{refl, sym, ap, ap₂, ◌∙◌, subst, arith, inl, inr}
 use Rattle.std.proofs.lemmas.Bool.{cases_lt, cases_order}
@@ -58,6 +58,18 @@ ascending_rest : (ts : List ℕ) (i number : ℕ) → AreAscending ts → i < le
 ascending_rest ts i number asc l e k d le lt =
     subst (λ z. z < get_or ts k d) (e d) (asc i k d (omega (arith, le)) lt)
 
+-- One turn: the boundaries of two lists of a family are merged up to the places, and `number` is the next boundary.
+pub record IsTurn (operation : Operation) (first : List ℕ) (i : ℕ) (second : List ℕ) (j : ℕ) (boundaries : List ℕ)
+    : Type 0 where
+  pub family : Family
+  pub number : ℕ
+  pub next_i : ℕ
+  pub next_j : ℕ
+  pub first_are : AreBoundaries family first
+  pub second_are : AreBoundaries family second
+  pub boundary : IsBoundary first i second j number next_i next_j
+  pub merged : IsCombining operation first i second j boundaries
+
 -- before the step the merged boundaries are below the number; after it the number is below the rest
 turned_within : (ts : List ℕ) (i number next : ℕ) → i ≤ length ts → IsTurned ts i number next → next ≤ length ts
 turned_within ts i number next le (inl (e, l, at)) = omega (arith, e, l)
@@ -115,34 +127,61 @@ front_from : (ts : List ℕ) (next x : ℕ) → next ≤ length ts → All (λ t
     → is_inside (take next ts) x ≡ is_odd next
 front_from ts next x le h = inside_from (take next ts) x h ∙ ap is_odd (length-take-le next ts le)
 
+-- the number is below the boundaries after it
+number_before_rests : (operation : Operation) (first : List ℕ) (i : ℕ) (second : List ℕ) (j : ℕ)
+    (boundaries : List ℕ) (turn : IsTurn operation first i second j boundaries)
+    → IsBeforeRests first turn.next_i second turn.next_j turn.number
+number_before_rests operation first i second j boundaries turn = (
+  turned_rest first i turn.number turn.next_i turn.first_are.ascending turn.boundary.in_first,
+  turned_rest second j turn.number turn.next_j turn.second_are.ascending turn.boundary.in_second,
+)
+
+-- The new boundaries are as the old ones below the number, and from it on all numbers are inside, or none is.
+record IsAsFrom (number : ℕ) (inside : Bool) (old new : List ℕ) : Type 0 where
+  pub ascending : AreAscending new
+  pub one_more : length new ≤ length old + 1
+  pub below : (x : ℕ) → x < number → is_inside new x ≡ is_inside old x
+  pub from : (x : ℕ) → number ≤ x → is_inside new x ≡ inside
+
 -- one boundary of the two lists, which leaves the boundaries or the boundaries with the number
 combining_boundary : (operation : Operation) (first : List ℕ) (i : ℕ) (second : List ℕ) (j : ℕ) (boundaries : List ℕ)
-    (number next_i next_j : ℕ) (made : List ℕ) → AreAscending first → AreAscending second
-    → IsBoundary first i second j number next_i next_j → IsCombining operation first i second j boundaries
-    → AreAscending made → length made ≤ next_i + next_j → All (λ t. IsBeforeRests first next_i second next_j t) made
-    → ((x : ℕ) → x < number → is_inside made x ≡ is_inside boundaries x)
-    → ((x : ℕ) → number ≤ x → is_inside made x ≡ combined operation (is_odd next_i) (is_odd next_j))
-    → IsCombining operation first next_i second next_j made
-combining_boundary operation first i second j boundaries number next_i next_j made asc asc' boundary h good few before
-    below from
-    = record {
-      first_within = within;
-      second_within = within';
-      ascending = good;
-      no_more = few;
-      boundaries_before = before;
-      first_before = firsts;
-      second_before = seconds;
-      members = λ x. elim (cases_lt x number) [
-        | inl lt ↦ below x lt ∙ h.members x ∙ sym (ap₂ (combined operation)
-            (front_below first i number next_i x boundary.in_first lt)
-            (front_below second j number next_j x boundary.in_second lt))
-        | inr ge ↦ from x ge ∙ sym (ap₂ (combined operation)
-            (front_from first next_i x within (up first i next_i x boundary.in_first ge h.first_before))
-            (front_from second next_j x within' (up second j next_j x boundary.in_second ge h.second_before)))
-      ];
-    }
+    (turn : IsTurn operation first i second j boundaries) (made : List ℕ)
+    → IsAsFrom turn.number (combined operation (is_odd turn.next_i) (is_odd turn.next_j)) boundaries made
+    → All (λ t. IsBeforeRests first turn.next_i second turn.next_j t) made
+    → IsCombining operation first turn.next_i second turn.next_j made
+combining_boundary operation first i second j boundaries turn made after before = record {
+  first_within = within;
+  second_within = within';
+  ascending = after.ascending;
+  no_more = omega (arith, after.one_more, h.no_more, boundary.on);
+  boundaries_before = before;
+  first_before = firsts;
+  second_before = seconds;
+  members = λ x. elim (cases_lt x number) [
+    | inl lt ↦ after.below x lt ∙ h.members x ∙ sym (ap₂ (combined operation)
+        (front_below first i number next_i x boundary.in_first lt)
+        (front_below second j number next_j x boundary.in_second lt))
+    | inr ge ↦ after.from x ge ∙ sym (ap₂ (combined operation)
+        (front_from first next_i x within (up first i next_i x boundary.in_first ge h.first_before))
+        (front_from second next_j x within' (up second j next_j x boundary.in_second ge h.second_before)))
+  ];
+}
   where
+    number : ℕ
+    number = turn.number
+
+    next_i : ℕ
+    next_i = turn.next_i
+
+    next_j : ℕ
+    next_j = turn.next_j
+
+    boundary : IsBoundary first i second j number next_i next_j
+    boundary = turn.boundary
+
+    h : IsCombining operation first i second j boundaries
+    h = turn.merged
+
     within : next_i ≤ length first
     within = turned_within first i number next_i h.first_within boundary.in_first
 
@@ -156,10 +195,7 @@ combining_boundary operation first i second j boundaries number next_i next_j ma
     New t = IsBeforeRests first next_i second next_j t
 
     here : New number
-    here = (
-      turned_rest first i number next_i asc boundary.in_first,
-      turned_rest second j number next_j asc' boundary.in_second,
-    )
+    here = number_before_rests operation first i second j boundaries turn
 
     later : (t : ℕ) → Old t → New t
     later t (p, q) = (
@@ -200,72 +236,89 @@ all_later first i second j number next_i next_j ts boundary h =
 
 -- the number is a boundary of the set too
 pub combining_push : (operation : Operation) (first : List ℕ) (i : ℕ) (second : List ℕ) (j : ℕ) (boundaries : List ℕ)
-    (number next_i next_j : ℕ) → AreAscending first → AreAscending second
-    → IsBoundary first i second j number next_i next_j → IsCombining operation first i second j boundaries
-    → not (is_odd (length boundaries)) ≡ combined operation (is_odd next_i) (is_odd next_j)
-    → IsCombining operation first next_i second next_j (boundaries ++ number ∷ [])
-combining_push operation first i second j boundaries number next_i next_j asc asc' boundary h flip =
+    (turn : IsTurn operation first i second j boundaries)
+    → not (is_odd (length boundaries)) ≡ combined operation (is_odd turn.next_i) (is_odd turn.next_j)
+    → IsCombining operation first turn.next_i second turn.next_j (boundaries ++ turn.number ∷ [])
+combining_push operation first i second j boundaries turn flip =
+    let number = turn.number in
+    let h = turn.merged in
     let below : All (λ t. t < number) boundaries
-    = all_before first i second j number next_i next_j boundaries boundary h.boundaries_before in
-    combining_boundary operation first i second j boundaries number next_i next_j (boundaries ++ number ∷ []) asc asc'
-    boundary h
-    (ascending_push boundaries number h.ascending below)
-    (omega (arith, length_push boundaries number, h.no_more, boundary.on))
-    (All-push (λ t. IsBeforeRests first next_i second next_j t) boundaries number
-    (all_later first i second j number next_i next_j boundaries boundary h.boundaries_before) (
-      turned_rest first i number next_i asc boundary.in_first,
-      turned_rest second j number next_j asc' boundary.in_second,
-    ))
-    (λ x lt. inside_push_before boundaries number x lt)
-    (λ x ge. inside_push_at boundaries number x ge
-    ∙ ap not (inside_from boundaries x (All-weaker (λ t. t < number) (λ t. t ≤ x) (λ t l. omega (arith, l, ge))
-    boundaries below))
-    ∙ flip)
+    = all_before first i second j number turn.next_i turn.next_j boundaries turn.boundary h.boundaries_before in
+    combining_boundary operation first i second j boundaries turn (boundaries ++ number ∷ [])
+    (record {
+      ascending = ascending_push boundaries number h.ascending below;
+      one_more = omega (arith, length_push boundaries number);
+      below = λ x lt. inside_push_before boundaries number x lt;
+      from = λ x ge. inside_push_at boundaries number x ge
+          ∙ ap not (inside_from boundaries x (All-weaker (λ t. t < number) (λ t. t ≤ x) (λ t l. omega (arith, l, ge))
+          boundaries below))
+          ∙ flip;
+    })
+    (All-push (λ t. IsBeforeRests first turn.next_i second turn.next_j t) boundaries number
+    (all_later first i second j number turn.next_i turn.next_j boundaries turn.boundary h.boundaries_before)
+    (number_before_rests operation first i second j boundaries turn))
 
 -- the set goes on as it was
 pub combining_same : (operation : Operation) (first : List ℕ) (i : ℕ) (second : List ℕ) (j : ℕ) (boundaries : List ℕ)
-    (number next_i next_j : ℕ) → AreAscending first → AreAscending second
-    → IsBoundary first i second j number next_i next_j → IsCombining operation first i second j boundaries
-    → is_odd (length boundaries) ≡ combined operation (is_odd next_i) (is_odd next_j)
-    → IsCombining operation first next_i second next_j boundaries
-combining_same operation first i second j boundaries number next_i next_j asc asc' boundary h same =
+    (turn : IsTurn operation first i second j boundaries)
+    → is_odd (length boundaries) ≡ combined operation (is_odd turn.next_i) (is_odd turn.next_j)
+    → IsCombining operation first turn.next_i second turn.next_j boundaries
+combining_same operation first i second j boundaries turn same =
+    let number = turn.number in
+    let h = turn.merged in
     let below : All (λ t. t < number) boundaries
-    = all_before first i second j number next_i next_j boundaries boundary h.boundaries_before in
-    combining_boundary operation first i second j boundaries number next_i next_j boundaries asc asc' boundary h
-    h.ascending
-    (omega (arith, h.no_more, boundary.on))
-    (all_later first i second j number next_i next_j boundaries boundary h.boundaries_before)
-    (λ x lt. refl)
-    (λ x ge. inside_from boundaries x (All-weaker (λ t. t < number) (λ t. t ≤ x) (λ t l. omega (arith, l, ge))
-    boundaries below)
-    ∙ same)
+    = all_before first i second j number turn.next_i turn.next_j boundaries turn.boundary h.boundaries_before in
+    combining_boundary operation first i second j boundaries turn boundaries
+    (record {
+      ascending = h.ascending;
+      one_more = omega arith;
+      below = λ x lt. refl;
+      from = λ x ge. inside_from boundaries x (All-weaker (λ t. t < number) (λ t. t ≤ x) (λ t l. omega (arith, l, ge))
+          boundaries below)
+          ∙ same;
+    })
+    (all_later first i second j number turn.next_i turn.next_j boundaries turn.boundary h.boundaries_before)
 
 -- the number at a boundary that the operation takes is in what it makes of the two whole sets
 pub combined_at : (operation : Operation) (first : List ℕ) (i : ℕ) (second : List ℕ) (j : ℕ) (boundaries : List ℕ)
-    (number next_i next_j : ℕ) → AreAscending first → AreAscending second
-    → IsBoundary first i second j number next_i next_j → IsCombining operation first i second j boundaries
-    → combined operation (is_odd next_i) (is_odd next_j)
-    ≡ combined operation (is_inside first number) (is_inside second number)
-combined_at operation first i second j boundaries number next_i next_j asc asc' boundary h =
-    ap₂ (combined operation) (at first i next_i h.first_within asc boundary.in_first h.first_before)
-    (at second j next_j h.second_within asc' boundary.in_second h.second_before)
+    (turn : IsTurn operation first i second j boundaries)
+    → combined operation (is_odd turn.next_i) (is_odd turn.next_j)
+    ≡ combined operation (is_inside first turn.number) (is_inside second turn.number)
+combined_at operation first i second j boundaries turn =
+    ap₂ (combined operation)
+    (at first i turn.next_i h.first_within turn.first_are.ascending turn.boundary.in_first h.first_before)
+    (at second j turn.next_j h.second_within turn.second_are.ascending turn.boundary.in_second h.second_before)
   where
-    at : (ts : List ℕ) (k next : ℕ) → k ≤ length ts → AreAscending ts → IsTurned ts k number next
-        → All (λ t. IsBeforeRests first i second j t) (take k ts) → is_odd next ≡ is_inside ts number
+    h : IsCombining operation first i second j boundaries
+    h = turn.merged
+
+    at : (ts : List ℕ) (k next : ℕ) → k ≤ length ts → AreAscending ts → IsTurned ts k turn.number next
+        → All (λ t. IsBeforeRests first i second j t) (take k ts) → is_odd next ≡ is_inside ts turn.number
     at ts k next le up turned before =
-        sym (inside_front ts next number (turned_rest ts k number next up turned)
-        ∙ front_from ts next number (turned_within ts k number next le turned)
-        (front_all (λ t. t ≤ number) ts k number next turned (omega arith)
-        (All-weaker (λ t. IsBeforeRests first i second j t) (λ t. t ≤ number)
-        (λ t p. omega (arith, before_number first i second j number next_i next_j t boundary p)) (take k ts) before)))
+        sym (inside_front ts next turn.number (turned_rest ts k turn.number next up turned)
+        ∙ front_from ts next turn.number (turned_within ts k turn.number next le turned)
+        (front_all (λ t. t ≤ turn.number) ts k turn.number next turned (omega arith)
+        (All-weaker (λ t. IsBeforeRests first i second j t) (λ t. t ≤ turn.number) (λ t p. omega (
+          arith,
+          before_number first i second j turn.number turn.next_i turn.next_j t turn.boundary p,
+        )) (take k ts) before)))
 
 -- the number is one of the boundaries
-pub boundary_fits : (family : Family) (first : List ℕ) (i : ℕ) (second : List ℕ) (j number next_i next_j : ℕ)
-    → AreBoundaries family first → AreBoundaries family second → IsBoundary first i second j number next_i next_j
-    → number ≤ greatest_number family
-boundary_fits family first i second j number next_i next_j a b boundary = go boundary.in_first boundary.in_second
+pub boundary_fits : (operation : Operation) (first : List ℕ) (i : ℕ) (second : List ℕ) (j : ℕ) (boundaries : List ℕ)
+    (turn : IsTurn operation first i second j boundaries) → turn.number ≤ greatest_number turn.family
+boundary_fits operation first i second j boundaries turn = go turn.boundary.in_first turn.boundary.in_second
   where
-    go : IsTurned first i number next_i → IsTurned second j number next_j → number ≤ greatest_number family
-    go (inl (e, l, at)) s = subst (λ z. z ≤ greatest_number family) (at 0) (a.fits i 0 l)
-    go (inr (e, later)) (inl (f, l, at)) = subst (λ z. z ≤ greatest_number family) (at 0) (b.fits j 0 l)
-    go (inr (e, later)) (inr (f, after)) = absurd (omega (arith, boundary.on, e, f))
+    most : ℕ
+    most = greatest_number turn.family
+
+    go : IsTurned first i turn.number turn.next_i → IsTurned second j turn.number turn.next_j → turn.number ≤ most
+    go (inl (e, l, at)) s = subst (λ z. z ≤ most) (at 0) (turn.first_are.fits i 0 l)
+    go (inr (e, later)) (inl (f, l, at)) = subst (λ z. z ≤ most) (at 0) (turn.second_are.fits j 0 l)
+    go (inr (e, later)) (inr (f, after)) = absurd (omega (arith, turn.boundary.on, e, f))
+
+pub fits_push : (operation : Operation) (first : List ℕ) (i : ℕ) (second : List ℕ) (j : ℕ) (boundaries : List ℕ)
+    (turn : IsTurn operation first i second j boundaries) → All (λ t. t ≤ greatest_number turn.family) boundaries
+    → All (λ t. t ≤ greatest_number turn.family) (boundaries ++ turn.number ∷ [])
+fits_push operation first i second j boundaries turn h =
+    All-push (λ t. t ≤ greatest_number turn.family) boundaries turn.number h
+    (boundary_fits operation first i second j boundaries turn)

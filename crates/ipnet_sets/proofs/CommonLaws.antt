@@ -9,18 +9,25 @@ use Rattle.ipnet_base.proofs.BlockLaws.{own, own_in}
 use Rattle.ipnet_base.proofs.NestingLaws.{nested, longer_from_subnet}
 use Rattle.ipnet_sets.specs.CommonSupernets.{IsCommonSupernet, AreSharedBits}
 
+-- `m` is `n` with the longest prefix that is at most as long as the shared bits and both prefixes.
+pub record IsCutTo (n k : Network) (bits : ℕ) (m : Network) : Type 0 where
+  pub same_family : m.family ≡ n.family
+  pub same_number : m.number ≡ n.number
+  pub in_bits : m.prefix_len ≤ bits
+  pub in_first : m.prefix_len ≤ n.prefix_len
+  pub in_second : m.prefix_len ≤ k.prefix_len
+  pub longest : (l : ℕ) → l ≤ bits → l ≤ n.prefix_len → l ≤ k.prefix_len → l ≤ m.prefix_len
+
 -- the common network, from how many bits two addresses share
 pub common_from_bits : (n k m s : Network) (bits : ℕ) → IsNetwork n → IsNetwork k
-    → AreSharedBits (own n) (own k) bits → m.family ≡ n.family → m.number ≡ n.number
-    → m.prefix_len ≤ bits → m.prefix_len ≤ n.prefix_len → m.prefix_len ≤ k.prefix_len
-    → ((l : ℕ) → l ≤ bits → l ≤ n.prefix_len → l ≤ k.prefix_len → l ≤ m.prefix_len)
-    → IsTruncationOf s m → IsCommonSupernet n k s
-common_from_bits n k m s bits valid_n valid_k shared family number in_bits in_n in_k most is = record {
+    → AreSharedBits (own n) (own k) bits → IsCutTo n k bits m → IsTruncationOf s m → IsCommonSupernet n k s
+common_from_bits n k m s bits valid_n valid_k shared cut is = record {
   network = is.network;
   truncated = is.truncated;
-  first = λ x a. is.same_block.1 x (nested n m (own n) (own_in n) n_in (omega (arith, in_n, ap width family)) x a);
+  first = λ x a. is.same_block.1 x (nested n m (own n) (own_in n) n_in
+      (omega (arith, cut.in_first, ap width cut.same_family)) x a);
   second = λ x a. is.same_block.1 x (nested k m (own k) (own_in k) k_in
-      (omega (arith, in_k, ap width family, ap width shared.same_family)) x a);
+      (omega (arith, cut.in_second, ap width cut.same_family, ap width shared.same_family)) x a);
   smallest = λ o valid_o n_sub k_sub x a.
       let n_at : InBlock o (own n) = n_sub (own n) (own_in n) in
       let k_at : InBlock o (own k) = k_sub (own k) (own_in k) in
@@ -32,20 +39,23 @@ common_from_bits n k m s bits valid_n valid_k shared family number in_bits in_n 
       let same : n.number / 2 ^ (width n.family - o.prefix_len) ≡ k.number / 2 ^ (width n.family - o.prefix_len)
       = subst (λ z. n.number / 2 ^ z ≡ k.number / 2 ^ z) b (n_at.same_prefix ∙ sym k_at.same_prefix) in
       let few : o.prefix_len ≤ bits = (shared.shared o.prefix_len fits).0 same in
-      let len : o.prefix_len ≤ m.prefix_len = most o.prefix_len few short_n short_k in
-      nested m o (own n) n_in n_at (omega (arith, len, w, ap width family)) x (is.same_block.0 x a);
+      let len : o.prefix_len ≤ m.prefix_len = cut.longest o.prefix_len few short_n short_k in
+      nested m o (own n) n_in n_at (omega (arith, len, w, ap width cut.same_family)) x (is.same_block.0 x a);
 }
   where
     n_in : InBlock m (own n)
-    n_in = record { same_family = sym family; same_prefix = ap (λ z. z / 2 ^ host_bits m) (sym number) }
+    n_in = record {
+      same_family = sym cut.same_family;
+      same_prefix = ap (λ z. z / 2 ^ host_bits m) (sym cut.same_number);
+    }
 
     k_in : InBlock m (own k)
     k_in =
-        let fits : m.prefix_len ≤ width n.family = omega (arith, in_n, valid_n.prefix_fits) in
-        let b : width n.family - m.prefix_len ≡ host_bits m = omega (arith, ap width family) in
+        let fits : m.prefix_len ≤ width n.family = omega (arith, cut.in_first, valid_n.prefix_fits) in
+        let b : width n.family - m.prefix_len ≡ host_bits m = omega (arith, ap width cut.same_family) in
         let same : n.number / 2 ^ host_bits m ≡ k.number / 2 ^ host_bits m
-        = subst (λ z. n.number / 2 ^ z ≡ k.number / 2 ^ z) b ((shared.shared m.prefix_len fits).1 in_bits) in
+        = subst (λ z. n.number / 2 ^ z ≡ k.number / 2 ^ z) b ((shared.shared m.prefix_len fits).1 cut.in_bits) in
         record {
-          same_family = sym shared.same_family ∙ sym family;
-          same_prefix = sym same ∙ ap (λ z. z / 2 ^ host_bits m) (sym number);
+          same_family = sym shared.same_family ∙ sym cut.same_family;
+          same_prefix = sym same ∙ ap (λ z. z / 2 ^ host_bits m) (sym cut.same_number);
         }

@@ -162,12 +162,12 @@ all_of_family s f boundaries e h = (
 )
 
 -- the count so far and the count of the ranges that are left
-pub counting_more : (f : Family) (total first last distance : ℕ) (left later : List AddressRange) (all : ℕ)
-    → left ≡ range_of f first last ∷ later → distance + first ≡ last → total + count_of left ≡ all
-    → total + (distance + 1) + count_of later ≡ all
-counting_more f total first last distance left rest all e d h =
-    let more : count_of left ≡ (last + 1 - first) + count_of rest = ap count_of e in
-    omega (arith, more, d, h)
+pub counting_more : (f : Family) (total first last distance : ℕ) (left later : List AddressRange)
+    → left ≡ range_of f first last ∷ later → distance + first ≡ last
+    → total + (distance + 1) + count_of later ≡ total + count_of left
+counting_more f total first last distance left later e d =
+    let more : count_of left ≡ (last + 1 - first) + count_of later = ap count_of e in
+    omega (arith, more, d)
 
 pub first_ordered : (f : Family) (ts : List ℕ) (r : AddressRange) (rest : List AddressRange) → AreBoundaries f ts
     → ranges_of f ts ≡ r ∷ rest → r.start ≤ r.end

@@ -24,11 +24,15 @@ one_count InSet m n h k = omega (
   )),
 )
 
--- the counts of two sets that share no address
-pub counts_of_parts : (First Second Whole : Address → Type 0) (m n k : ℕ)
-    → ((x : Address) → Whole x ↔ (First x ⊎ Second x)) → ((x : Address) → First x → Second x → ⊥)
+-- A set in two parts that share no address.
+pub record ArePartsOf (First Second Whole : Address → Type 0) : Type 0 where
+  pub members : (x : Address) → Whole x ↔ (First x ⊎ Second x)
+  pub apart : (x : Address) → First x → Second x → ⊥
+
+-- the counts of the two parts
+pub counts_of_parts : (First Second Whole : Address → Type 0) (m n k : ℕ) → ArePartsOf First Second Whole
     → IsCountOf First m → IsCountOf Second n → IsCountOf Whole k → k ≡ m + n
-counts_of_parts First Second Whole m n k parts apart a b w = omega (
+counts_of_parts First Second Whole m n k parts a b w = omega (
   arith,
   length-append a.addresses b.addresses,
   a.count,
@@ -36,13 +40,13 @@ counts_of_parts First Second Whole m n k parts apart a b w = omega (
   w.count,
   same_length (a.addresses ++ b.addresses) w.addresses
       (pairs_append (λ x y. x ≢ y) a.addresses b.addresses a.once b.once
-      (λ x y c d e. apart y (subst First e ((a.members x).0 c)) ((b.members y).0 d))) w.once
+      (λ x y c d e. parts.apart y (subst First e ((a.members x).0 c)) ((b.members y).0 d))) w.once
       (λ x. (
         λ c. elim (Contains-append_cases a.addresses b.addresses x c) [
-          | inl d ↦ (w.members x).1 ((parts x).1 (inl ((a.members x).0 d)))
-          | inr d ↦ (w.members x).1 ((parts x).1 (inr ((b.members x).0 d)))
+          | inl d ↦ (w.members x).1 ((parts.members x).1 (inl ((a.members x).0 d)))
+          | inr d ↦ (w.members x).1 ((parts.members x).1 (inr ((b.members x).0 d)))
         ],
-        λ c. elim ((parts x).0 ((w.members x).0 c)) [
+        λ c. elim ((parts.members x).0 ((w.members x).0 c)) [
           | inl first ↦ Contains-append_left a.addresses b.addresses x ((a.members x).1 first)
           | inr second ↦ Contains-append_right a.addresses b.addresses x ((b.members x).1 second)
         ],

@@ -2,7 +2,7 @@
 use Rattle.std.proofs.Common.{◌≡◌, ℕ, zero, suc, ◌+◌, ◌-◌, ◌*◌, ◌/◌, ◌%◌, ◌^◌, ◌<◌, ◌≤◌}
 use Rattle.std.proofs.Common.{List, [], ◌∷◌, ◌++◌, length, get_or, take, All}
 use Rattle.std.proofs.Common.{refl, sym, ap, ap₂, ◌∙◌, subst, arith, append_assoc}
-use Rattle.std.proofs.lemmas.List.{get_or_append_left, get_or-append_right, length-append}
+use Rattle.std.proofs.lemmas.List.{get_or_append_left, get_or-append_right, length-append, append-nil}
 use Rattle.std.proofs.lemmas.List.{take_more, take_all}
 use Rattle.std.specs.Int.{w32, w64, to_le_bytes, from_le_bytes}
 use Rattle.std.proofs.lemmas.Nat.{from_le_bytes-to_le_bytes_4, from_le_bytes-to_le_bytes_8}
@@ -71,6 +71,15 @@ numbers_push w zero xs ys at e =
 numbers_push w (suc m) xs ys at e =
     ap₂ (λ b r. b ∷ r) (number_front w xs ys at (omega (arith, e)))
     (numbers_push w m xs ys (at + w) (omega (arith, e)))
+
+-- no number yet
+pub appended_none : (w : ℕ) (bytes : List ℕ) → AreAppended w [] bytes bytes
+appended_none w bytes = record {
+  added = [];
+  width_is = omega arith;
+  numbers_are = refl;
+  bytes_are = sym (append-nil bytes);
+}
 
 -- one number more
 pub appended_more : (w : ℕ) (ns : List ℕ) (n : ℕ) (old mid new : List ℕ) → AreAppended w ns old mid

@@ -1,9 +1,10 @@
 -- Which numbers are inside a list of boundaries.
-use Rattle.std.proofs.Common.{◌≡◌, ℕ, zero, suc, ◌+◌, ◌-◌, ◌%◌, ◌<◌, ◌≤◌, Bool, true, false, not, eqb}
+use Rattle.std.proofs.Common.{◌≡◌, ℕ, zero, suc, ◌+◌, ◌-◌, ◌%◌, ◌<◌, ◌≤◌, ◌↔◌, Bool, IsTrue, true, false, not, eqb}
 use Rattle.std.proofs.Common.{List, [], ◌∷◌, ◌++◌, length, take, get_or, map, All, AllPairs}
 use Rattle.std.proofs.Common.{refl, sym, ap, ◌∙◌, subst₂, arith, inl, inr, le-leb, eq-eqb}
 use Rattle.std.proofs.lemmas.Bool.{cases_lt, cases_Bool, eqb-true, eqb-false, lt-leb, ne_eqb, false≢true}
 use Rattle.std.proofs.lemmas.List.{length-map, get_or-map, length_push, get_or_push, get_or_append_left}
+use Rattle.ipnet_base.proofs.ResultLaws.{false_gives}
 use Rattle.ipnet_sets.specs.Boundaries.{is_inside}
 use mathlib.Core.Bool.{beq}
 
@@ -20,6 +21,13 @@ pub last_at : {X : Type 0} (f : X → ℕ) (xs : List X) (x : X) (d : ℕ) → 0
     → get_or (map f xs) (length (map f xs) - 1) d ≡ f x
 last_at f xs x d some e =
     ap (λ n. get_or (map f xs) (n - 1) d) (length-map xs f) ∙ number_at f xs (length xs - 1) d x (omega (arith, some)) e
+
+-- a number that is not below another
+pub not_below : (m n : ℕ) (below : Bool) → IsTrue below ↔ (m < n) → below ≡ false → n ≤ m
+not_below m n below is out = elim (cases_lt m n) [
+  | inl lt ↦ absurd (false_gives below is out lt)
+  | inr ge ↦ ge
+]
 
 -- a list that is not empty
 pub some_from_empty : (n : ℕ) (empty : Bool) → empty ≡ eqb n 0 → empty ≡ false → 0 < n

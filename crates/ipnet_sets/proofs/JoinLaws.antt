@@ -299,41 +299,40 @@ pub record IsGathered {R : Type 0} (start end : R → ℕ) (family : Family) (ra
   pub members : (x : ℕ) → x ≤ greatest_number family
       → (is_inside kept x ≡ true) ↔ Any (λ r. (start r ≤ x) × (x ≤ end r)) (take i ranges)
 
-pub gathered_more : {R : Type 0} (start end : R → ℕ) (family : Family) (ranges : List R) (i : ℕ)
-    (boundaries new : List ℕ)
-    (r : R) → IsNonDecreasingBy start ranges → i < length ranges → r ≡ get_or ranges i r
-    → IsJoined family boundaries (start r) (end r) new → IsGathered start end family ranges i boundaries
-    → IsGathered start end family ranges (i + 1) new
-gathered_more start end family ranges i boundaries new r sorted l e joined h =
-    let more : take (i + 1) ranges ≡ take i ranges ++ r ∷ []
-    = take_more ranges i r l ∙ ap (λ z. take i ranges ++ z ∷ []) (sym e) in
-    record {
-      boundaries = joined.boundaries;
-      begins = λ k d le m. begins_later new (start r) (start (get_or ranges k d))
-          (omega (arith, sorted i k d (omega (arith, le)) m, ap start (at_place ranges i d r l ∙ sym e)))
-          joined.begins;
-      members = λ x fits. (
-        λ inside. subst (λ z. Any (λ q. (start q ≤ x) × (x ≤ end q)) z) (sym more)
-            ((any_push (λ q. (start q ≤ x) × (x ≤ end q)) (take i ranges) r).1
-            (elim ((joined.members x fits).0 inside) [
-              | inl old ↦ inl ((h.members x fits).0 old)
-              | inr b ↦ inr b
-            ])),
-        λ a. (joined.members x fits).1
-            (elim ((any_push (λ q. (start q ≤ x) × (x ≤ end q)) (take i ranges) r).0
-            (subst (λ z. Any (λ q. (start q ≤ x) × (x ≤ end q)) z) more a)) [
-              | inl old ↦ inl ((h.members x fits).1 old)
-              | inr b ↦ inr b
-            ]),
-      );
-    }
+module _ {R : Type 0} (start end : R → ℕ) (family : Family) (ranges : List R) where
+  pub gathered_more : (i : ℕ) (boundaries new : List ℕ) (r : R) → IsNonDecreasingBy start ranges → i < length ranges
+      → r ≡ get_or ranges i r → IsJoined family boundaries (start r) (end r) new
+      → IsGathered start end family ranges i boundaries → IsGathered start end family ranges (i + 1) new
+  gathered_more i boundaries new r sorted l e joined h =
+      let more : take (i + 1) ranges ≡ take i ranges ++ r ∷ []
+      = take_more ranges i r l ∙ ap (λ z. take i ranges ++ z ∷ []) (sym e) in
+      record {
+        boundaries = joined.boundaries;
+        begins = λ k d le m. begins_later new (start r) (start (get_or ranges k d))
+            (omega (arith, sorted i k d (omega (arith, le)) m, ap start (at_place ranges i d r l ∙ sym e)))
+            joined.begins;
+        members = λ x fits. (
+          λ inside. subst (λ z. Any (λ q. (start q ≤ x) × (x ≤ end q)) z) (sym more)
+              ((any_push (λ q. (start q ≤ x) × (x ≤ end q)) (take i ranges) r).1
+              (elim ((joined.members x fits).0 inside) [
+                | inl old ↦ inl ((h.members x fits).0 old)
+                | inr b ↦ inr b
+              ])),
+          λ a. (joined.members x fits).1
+              (elim ((any_push (λ q. (start q ≤ x) × (x ≤ end q)) (take i ranges) r).0
+              (subst (λ z. Any (λ q. (start q ≤ x) × (x ≤ end q)) z) more a)) [
+                | inl old ↦ inl ((h.members x fits).1 old)
+                | inr b ↦ inr b
+              ]),
+        );
+      }
 
-pub gathered_whole : {R : Type 0} (start end : R → ℕ) (family : Family) (ranges : List R) (i : ℕ) (boundaries : List ℕ)
-    → length ranges ≤ i → IsGathered start end family ranges i boundaries → (x : ℕ) → x ≤ greatest_number family
-    → (is_inside boundaries x ≡ true) ↔ Any (λ r. (start r ≤ x) × (x ≤ end r)) ranges
-gathered_whole start end family ranges i boundaries le h x fits =
-    subst (λ z. (is_inside boundaries x ≡ true) ↔ Any (λ r. (start r ≤ x) × (x ≤ end r)) z) (take_all i ranges le)
-    (h.members x fits)
+  pub gathered_whole : (i : ℕ) (boundaries : List ℕ) → length ranges ≤ i
+      → IsGathered start end family ranges i boundaries → (x : ℕ) → x ≤ greatest_number family
+      → (is_inside boundaries x ≡ true) ↔ Any (λ r. (start r ≤ x) × (x ≤ end r)) ranges
+  gathered_whole i boundaries le h x fits =
+      subst (λ z. (is_inside boundaries x ≡ true) ↔ Any (λ r. (start r ≤ x) × (x ≤ end r)) z) (take_all i ranges le)
+      (h.members x fits)
 
 -- one range more that waits
 pub held_push : {T : Type 0} (number : T → ℕ) (boundaries : List T) (waiting new : List (NumberRange T))
@@ -380,23 +379,20 @@ some_number_waits number family (t ∷ late) waiting some are h none =
     none (number t) least.fits ((h (number t) least.fits).0 least.inside)
 
 -- the union of the set in order and of the ranges that wait
-pub held_in_union : {T : Type 0} (number : T → ℕ) (family : Family) (boundaries late all : List T)
-    (waiting : List (NumberRange T))
-    → ((x : ℕ) → x ≤ greatest_number family → (is_inside (map number late) x ≡ true) ↔ IsInSomeRange number waiting x)
-    → ((x : ℕ) → is_inside (map number all) x
-    ≡ (is_inside (map number boundaries) x || is_inside (map number late) x))
-    → (x : ℕ) → x ≤ greatest_number family
+pub held_in_union : {T : Type 0} (number : T → ℕ) (boundaries late all : List T) (waiting : List (NumberRange T))
+    (x : ℕ) → (is_inside (map number late) x ≡ true) ↔ IsInSomeRange number waiting x
+    → is_inside (map number all) x ≡ (is_inside (map number boundaries) x || is_inside (map number late) x)
     → (is_inside (map number all) x ≡ true) ↔ IsHeld number boundaries waiting x
-held_in_union number family boundaries late all waiting h either x le =
+held_in_union number boundaries late all waiting x waits either =
     let first = is_inside (map number boundaries) x in
     let second = is_inside (map number late) x in (
-      λ inside. elim (or_cases first second (sym (either x) ∙ inside)) [
+      λ inside. elim (or_cases first second (sym either ∙ inside)) [
         | inl one ↦ inl one
-        | inr two ↦ inr ((h x le).0 two)
+        | inr two ↦ inr (waits.0 two)
       ],
       λ held.
           let in_one : (first || second) ≡ true = elim held [
             | inl one ↦ or_left first second one
-            | inr some ↦ or_right first second ((h x le).1 some)
-          ] in either x ∙ in_one,
+            | inr some ↦ or_right first second (waits.1 some)
+          ] in either ∙ in_one,
     )

@@ -21,32 +21,32 @@ pub first_none : {X : Type 0} (In : X → Address → Type 0) (list : List X) (H
     → ((x : Address) → ¬ (Has x)) → HasFirst In list 0 Has
 first_none In list Has none x = (λ m. absurd (none x m), λ a. absurd (omega (arith, a.2)))
 
-pub first_more : {X N : Type 0} (f : X → N) (In : N → Address → Type 0) (xs : List X) (i : ℕ) (y : X)
-    (Old New : Address → Type 0) → i < length xs → y ≡ get_or xs i y → HasFirst In (map f xs) i Old
-    → ((x : Address) → New x ↔ (Old x ⊎ In (f y) x)) → HasFirst In (map f xs) (i + 1) New
-first_more f In xs i y Old New within is h step x =
-    let size = length-map xs f in
-    let here : get_or (map f xs) i (f y) ≡ f y = get_or-map f xs i y (f y) within ∙ ap f (sym is) in
-    let more : take (i + 1) (map f xs) ≡ take i (map f xs) ++ f y ∷ []
-    = take_more (map f xs) i (f y) (omega (arith, within, size)) ∙ ap (λ z. take i (map f xs) ++ z ∷ []) here in
-    let one = any_push (λ n. In n x) (take i (map f xs)) (f y) in
-    subst (λ z. New x ↔ Any (λ n. In n x) z) (sym more) (
-      λ m. one.1 (elim ((step x).0 m) [ inl o ↦ inl ((h x).0 o) | inr b ↦ inr b ]),
-      λ a. (step x).1 (elim (one.0 a) [ inl o ↦ inl ((h x).1 o) | inr b ↦ inr b ]),
-    )
+-- one thing more, all of them, and none
+module _ {X N : Type 0} (f : X → N) (In : N → Address → Type 0) (xs : List X) (i : ℕ) where
+  pub first_more : (y : X) (Old New : Address → Type 0) → i < length xs → y ≡ get_or xs i y
+      → HasFirst In (map f xs) i Old → ((x : Address) → New x ↔ (Old x ⊎ In (f y) x))
+      → HasFirst In (map f xs) (i + 1) New
+  first_more y Old New within is h step x =
+      let size = length-map xs f in
+      let here : get_or (map f xs) i (f y) ≡ f y = get_or-map f xs i y (f y) within ∙ ap f (sym is) in
+      let more : take (i + 1) (map f xs) ≡ take i (map f xs) ++ f y ∷ []
+      = take_more (map f xs) i (f y) (omega (arith, within, size)) ∙ ap (λ z. take i (map f xs) ++ z ∷ []) here in
+      let one = any_push (λ n. In n x) (take i (map f xs)) (f y) in
+      subst (λ z. New x ↔ Any (λ n. In n x) z) (sym more) (
+        λ m. one.1 (elim ((step x).0 m) [ inl o ↦ inl ((h x).0 o) | inr b ↦ inr b ]),
+        λ a. (step x).1 (elim (one.0 a) [ inl o ↦ inl ((h x).1 o) | inr b ↦ inr b ]),
+      )
 
-pub first_whole : {X N : Type 0} (f : X → N) (In : N → Address → Type 0) (xs : List X) (i : ℕ)
-    (Has : Address → Type 0) → length xs ≤ i → HasFirst In (map f xs) i Has → (x : Address)
-    → Has x ↔ Any (λ n. In n x) (map f xs)
-first_whole f In xs i Has le h x =
-    subst (λ z. Has x ↔ Any (λ n. In n x) z) (take_all i (map f xs) (omega (arith, le, length-map xs f))) (h x)
+  pub first_whole : (Has : Address → Type 0) → length xs ≤ i → HasFirst In (map f xs) i Has → (x : Address)
+      → Has x ↔ Any (λ n. In n x) (map f xs)
+  first_whole Has le h x =
+      subst (λ z. Has x ↔ Any (λ n. In n x) z) (take_all i (map f xs) (omega (arith, le, length-map xs f))) (h x)
 
--- an empty list adds nothing
-pub first_of_none : {X N : Type 0} (f : X → N) (In : N → Address → Type 0) (xs : List X) (i : ℕ)
-    (Has : Address → Type 0) → xs ≡ [] → HasFirst In (map f xs) i Has → (x : Address) → ¬ (Has x)
-first_of_none f In xs i Has none h x p =
-    let a = (first_whole f In xs i Has (omega (arith, ap length none)) h x).0 p in
-    omega (arith, a.2, length-map xs f, ap length none)
+  -- an empty list adds nothing
+  pub first_of_none : (Has : Address → Type 0) → xs ≡ [] → HasFirst In (map f xs) i Has → (x : Address) → ¬ (Has x)
+  first_of_none Has none h x p =
+      let a = (first_whole Has (omega (arith, ap length none)) h x).0 p in
+      omega (arith, a.2, length-map xs f, ap length none)
 
 -- what two things have in common, one after the other
 pub both_ways : {A B C : Type 0} → (A ↔ B) → (B ↔ C) → A ↔ C

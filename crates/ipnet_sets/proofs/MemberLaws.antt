@@ -1,8 +1,8 @@
 -- Facts about the addresses of a set, from facts about the numbers of each family.
 use Rattle.std.proofs.Common.{◌+◌, ◌≡◌, ℕ, ◌^◌, ◌<◌, ◌≤◌, ◌↔◌, Bool, true, false, IsTrue, List, length, map}
-use Rattle.std.proofs.Common.{sym, ap, ◌∙◌, subst, subst₂, arith}
+use Rattle.std.proofs.Common.{refl, sym, ap, ◌∙◌, subst, subst₂, arith}
 use Rattle.std.proofs.lemmas.List.{length-map}
-use Rattle.ipnet_base.specs.Address.{Family, IPv4, IPv6, Address, IsAddress, width, greatest_number}
+use Rattle.ipnet_base.specs.Address.{Family, IPv4, IPv6, Address, IsAddress, width, greatest_number, address_at}
 use Rattle.ipnet_base.specs.Network.{Network, InBlock, IsLeastOf, IsGreatestOf}
 use Rattle.ipnet_base.proofs.BlockLaws.{block_is_between}
 use Rattle.ipnet_sets.specs.declared.set.IpSet.{IpSet}
@@ -60,27 +60,22 @@ some_from_greatest s f slice n e h none =
     none (record { family = f; number = n }) (member_at s f slice n e h.fits h.inside)
 
 -- the addresses from one to another are in the set if the numbers between are inside
-pub covers_from_to : (s : IpSet) (f : Family) (start end : Address) (slice : List ℕ) (first last : ℕ) (answer : Bool)
-    → start.family ≡ f → end.family ≡ f → last ≤ greatest_number f → first ≡ start.number → last ≡ end.number
-    → HasBoundaries s f slice
-    → (IsTrue answer ↔ ((x : ℕ) → first ≤ x → x ≤ last → is_inside (map (λ n. n) slice) x ≡ true))
-    → IsTrue answer ↔ ((x : Address) → IsFromTo start end x → IsMember s x)
-covers_from_to s f start end slice first last answer d e fits g h boundaries inside = (
+pub covers_from_to : (s : IpSet) (f : Family) (first last : ℕ) (answer : Bool) → last ≤ greatest_number f
+    → (IsTrue answer ↔ ((x : ℕ) → first ≤ x → x ≤ last → is_inside (boundaries_of s f) x ≡ true))
+    → IsTrue answer ↔ ((x : Address) → IsFromTo (address_at f first) (address_at f last) x → IsMember s x)
+covers_from_to s f first last answer fits inside = (
   λ t x a.
-      let same : x.family ≡ f = a.family_of_start ∙ d in
-      let here : is_inside (boundaries_of s f) x.number ≡ true
-      = subst (λ z. is_inside z x.number ≡ true) boundaries
-      (inside.0 t x.number (omega (arith, g, a.from_start)) (omega (arith, h, a.to_end))) in
+      let same : x.family ≡ f = a.family_of_start in
+      let here : is_inside (boundaries_of s f) x.number ≡ true = inside.0 t x.number a.from_start a.to_end in
       record {
-        fits = subst (λ k. x.number < 2 ^ width k) (sym same)
-            (fits_below f x.number (omega (arith, fits, h, a.to_end)));
+        fits = subst (λ k. x.number < 2 ^ width k) (sym same) (fits_below f x.number (omega (arith, fits, a.to_end)));
         inside = ap (λ k. is_inside (boundaries_of s k) x.number) same ∙ here;
       },
-  λ all. inside.1 (λ x le lf. ap (λ z. is_inside z x) boundaries ∙ (all (record { family = f; number = x }) (record {
-    family_of_start = sym d;
-    family_of_end = sym e;
-    from_start = omega (arith, g, le);
-    to_end = omega (arith, h, lf);
+  λ all. inside.1 (λ x le lf. (all (address_at f x) (record {
+    family_of_start = refl;
+    family_of_end = refl;
+    from_start = le;
+    to_end = lf;
   })).inside),
 )
 
@@ -124,28 +119,24 @@ nothing_in_slices operation s t f slice other answer e g h =
     subst₂ (λ a b. IsTrue answer ↔ ((x : ℕ) → x ≤ greatest_number f
     → combined operation (is_inside a x) (is_inside b x) ≡ false)) e g h
 
--- the boundaries of what is made of two sets, by the lists that hold them
-pub no_more_boundaries : (a b : IpSet) (ipv4 ipv6 first4 first6 second4 second6 : List ℕ) → first4 ≡ a.ipv4.items
-    → first6 ≡ a.ipv6.items → second4 ≡ b.ipv4.items → second6 ≡ b.ipv6.items
-    → length ipv4 ≤ length first4 + length second4 → length ipv6 ≤ length first6 + length second6
+-- the boundaries of what is made of two sets, from those of each family
+pub no_more_boundaries : (a b : IpSet) (ipv4 ipv6 : List ℕ)
+    → length ipv4 ≤ length a.ipv4.items + length b.ipv4.items
+    → length ipv6 ≤ length a.ipv6.items + length b.ipv6.items
     → (f : Family) → length (by_family (map (λ n. n) ipv4) (map (λ n. n) ipv6) f)
     ≤ length (boundaries_of a f) + length (boundaries_of b f)
-no_more_boundaries a b ipv4 ipv6 first4 first6 second4 second6 e4 e6 g4 g6 h k IPv4 =
+no_more_boundaries a b ipv4 ipv6 h k IPv4 =
     omega (
       arith,
       h,
-      ap length e4,
-      ap length g4,
       length-map ipv4 (λ n. n),
       length-map a.ipv4.items (λ n. n),
       length-map b.ipv4.items (λ n. n),
     )
-no_more_boundaries a b ipv4 ipv6 first4 first6 second4 second6 e4 e6 g4 g6 h k IPv6 =
+no_more_boundaries a b ipv4 ipv6 h k IPv6 =
     omega (
       arith,
       k,
-      ap length e6,
-      ap length g6,
       length-map ipv6 (λ n. n),
       length-map a.ipv6.items (λ n. n),
       length-map b.ipv6.items (λ n. n),

@@ -1,7 +1,7 @@
 -- The networks of the ranges of a set are the networks of the set, and a walk over the first range yields the first of
 -- them.
 use Rattle.std.proofs.Common.{◌≡◌, ℕ, ◌<◌, ◌≤◌, ◌^◌, List, [], ◌∷◌, ◌++◌, ◌+◌, All, AllPairs}
-use Rattle.std.proofs.Common.{◌⊎◌, inl, inr, refl, sym, ap, ap₂, ◌∙◌, subst, arith, map, Contains, ◌-◌}
+use Rattle.std.proofs.Common.{◌⊎◌, inl, inr, refl, sym, ap, ◌∙◌, subst, arith, map, Contains, ◌-◌}
 use Rattle.std.proofs.lemmas.Bool.{cases_lt}
 use Rattle.std.proofs.lemmas.List.Elements.{All-head, All-tail, Contains-append_cases}
 use Rattle.ipnet_base.specs.Address.{Address, Family, IPv4, IPv6, address_at, greatest_number}
@@ -146,10 +146,9 @@ first_range_valid s r others e =
     ]
 
 -- The walk over the first range yields the first network.
-pub first_network : (walk before : List Network) (n : Network) (left : List Network) (old new : List AddressRange)
-    (r : AddressRange) → before ≡ [] → old ≡ r ∷ new → Fits r → AreMaximalBlocks (IsInRange r) 0 walk → walk ≡ n ∷ left
-    → before ++ blocks_of old ≡ n ∷ (left ++ blocks_of new)
-first_network walk before n left old new r empty cut fits blocks first =
-    ap₂ (λ z w. z ++ blocks_of w) empty cut
-    ∙ ap (λ z. z ++ blocks_of new)
+pub first_network : (walk : List Network) (n : Network) (left : List Network) (r : AddressRange)
+    (later : List AddressRange) → Fits r → AreMaximalBlocks (IsInRange r) 0 walk → walk ≡ n ∷ left
+    → blocks_of (r ∷ later) ≡ n ∷ (left ++ blocks_of later)
+first_network walk n left r later fits blocks first =
+    ap (λ z. z ++ blocks_of later)
     (AreMaximalBlocks-unique (IsInRange r) 0 (range_blocks r) walk (range_blocks_are r fits) blocks ∙ first)

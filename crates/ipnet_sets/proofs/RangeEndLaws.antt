@@ -45,20 +45,20 @@ last_open f ts n s even size at =
     ap (ranges_of f) whole
     ∙ ranges_append f (take n ts) (s ∷ []) (omega (arith, even, length-take-le n ts (omega (arith, size))))
 
-pub last_closed : (f : Family) (ts : List ℕ) (n s u last : ℕ) → n % 2 ≡ 0 → length ts ≡ n + 2 → get_or ts n s ≡ s
-    → get_or ts (n + 1) u ≡ u → last + 1 ≡ u
+pub last_closed : (f : Family) (ts : List ℕ) (n s last : ℕ) → n % 2 ≡ 0 → length ts ≡ n + 2 → get_or ts n s ≡ s
+    → get_or ts (n + 1) (last + 1) ≡ last + 1
     → ranges_of f ts ≡ ranges_of f (take n ts) ++ range_of f s last ∷ []
-last_closed f ts n s u last even size at after ends =
+last_closed f ts n s last even size at after =
     let more : take (n + 1) ts ≡ take n ts ++ s ∷ []
     = take_more ts n s (omega (arith, size)) ∙ ap (λ z. take n ts ++ z ∷ []) at in
-    let all : take (n + 1 + 1) ts ≡ take (n + 1) ts ++ u ∷ []
-    = take_more ts (n + 1) u (omega (arith, size)) ∙ ap (λ z. take (n + 1) ts ++ z ∷ []) after in
-    let whole : ts ≡ take n ts ++ s ∷ u ∷ []
-    = sym (take_all (n + 1 + 1) ts (omega (arith, size))) ∙ all ∙ ap (λ z. z ++ u ∷ []) more
-    ∙ append_assoc (take n ts) (s ∷ []) (u ∷ []) in
-    let end : u - 1 ≡ last = omega (arith, ends) in
+    let all : take (n + 1 + 1) ts ≡ take (n + 1) ts ++ (last + 1) ∷ []
+    = take_more ts (n + 1) (last + 1) (omega (arith, size)) ∙ ap (λ z. take (n + 1) ts ++ z ∷ []) after in
+    let whole : ts ≡ take n ts ++ s ∷ (last + 1) ∷ []
+    = sym (take_all (n + 1 + 1) ts (omega (arith, size))) ∙ all ∙ ap (λ z. z ++ (last + 1) ∷ []) more
+    ∙ append_assoc (take n ts) (s ∷ []) ((last + 1) ∷ []) in
+    let end : last + 1 - 1 ≡ last = omega arith in
     ap (ranges_of f) whole
-    ∙ ranges_append f (take n ts) (s ∷ u ∷ []) (omega (arith, even, length-take-le n ts (omega (arith, size))))
+    ∙ ranges_append f (take n ts) (s ∷ (last + 1) ∷ []) (omega (arith, even, length-take-le n ts (omega (arith, size))))
     ∙ ap (λ z. ranges_of f (take n ts) ++ range_of f s z ∷ []) end
 
 -- how many ranges there are

@@ -55,14 +55,13 @@ shared w a b fits_a fits_b l le = (there, back)
         same_above a b (w - l) (omega (arith, more, top.2))
 
 pub shared_bits : (x y : Address) → x.family ≡ y.family → x.number < 2 ^ width x.family
-    → y.number < 2 ^ width x.family → (w a b : ℕ) → w ≡ width x.family → a ≡ x.number → b ≡ y.number
-    → AreSharedBits x y (count_leading_zeros w (bit_xor a b))
-shared_bits x y same fits_x fits_y w a b ew ea eb =
-    subst (λ z. AreSharedBits x y (count_leading_zeros z (bit_xor a b))) (sym ew)
-    (subst (λ z. AreSharedBits x y (count_leading_zeros (width x.family) (bit_xor z b))) (sym ea)
+    → y.number < 2 ^ width x.family → (a b : ℕ) → a ≡ x.number → b ≡ y.number
+    → AreSharedBits x y (count_leading_zeros (width x.family) (bit_xor a b))
+shared_bits x y same fits_x fits_y a b ea eb =
+    subst (λ z. AreSharedBits x y (count_leading_zeros (width x.family) (bit_xor z b))) (sym ea)
     (subst (λ z. AreSharedBits x y (count_leading_zeros (width x.family) (bit_xor x.number z))) (sym eb)
     (record {
       same_family = same;
       fits = leading_le (width x.family) (bit_xor x.number y.number);
       shared = shared (width x.family) x.number y.number fits_x fits_y;
-    })))
+    }))

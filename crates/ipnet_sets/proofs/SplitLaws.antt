@@ -2,7 +2,7 @@
 use Rattle.std.proofs.Common.{◌≡◌, ℕ, ◌+◌, ◌%◌, ◌<◌, ◌≤◌, List, length, map, take, get_or}
 use Rattle.std.proofs.Common.{sym, ap, ◌∙◌, subst, true, false, not, leb, arith, inl, inr, eq-eqb}
 use Rattle.std.proofs.lemmas.Bool.{cases_lt, eqb-true, leb-true, leb-false}
-use Rattle.std.proofs.lemmas.List.{get_or-map, get_or-take, length-map, length-take-le}
+use Rattle.std.proofs.lemmas.List.{get_or-map, get_or-take, get_or_default, length-map, length-take-le}
 use Rattle.std.specs.List.Sorted.{IsNonDecreasingBy, IsPartitionPoint}
 use Rattle.ipnet_sets.specs.Boundaries.{is_inside, IsSplitAt}
 use Rattle.ipnet_sets.proofs.InsideLaws.{AreAscending, is_odd, odd_more, inside_front, inside_from}
@@ -23,31 +23,31 @@ split_start boundaries number high e = record {
   above = λ k d l m. absurd (omega (arith, l, m, e));
 }
 
-pub split_up : (boundaries : List ℕ) → AreAscending boundaries → (number low high middle boundary : ℕ) → middle < high
-    → ((d : ℕ) → get_or boundaries middle d ≡ boundary) → boundary ≤ number
-    → IsSplitBetween boundaries number low high → IsSplitBetween boundaries number (middle + 1) high
-split_up boundaries asc number low high middle boundary l e le h = record {
+pub split_up : (boundaries : List ℕ) → AreAscending boundaries → (number low high middle : ℕ) → middle < high
+    → ((d : ℕ) → get_or boundaries middle d ≤ number) → IsSplitBetween boundaries number low high
+    → IsSplitBetween boundaries number (middle + 1) high
+split_up boundaries asc number low high middle l at_most h = record {
   ordered = omega (arith, l);
   within = h.within;
   up_to = λ k d m. elim (cases_lt k middle) [
-    | inl lt ↦ omega (arith, asc k middle d lt (omega (arith, l, h.within)), e d, le)
+    | inl lt ↦ omega (arith, asc k middle d lt (omega (arith, l, h.within)), at_most d)
     | inr ge ↦ let same : middle ≡ k = omega (arith, m, ge) in
-        subst (λ z. get_or boundaries z d ≤ number) same (omega (arith, e d, le))
+        subst (λ z. get_or boundaries z d ≤ number) same (at_most d)
   ];
   above = h.above;
 }
 
-pub split_down : (boundaries : List ℕ) → AreAscending boundaries → (number low high middle boundary : ℕ) → low ≤ middle
-    → middle < high → ((d : ℕ) → get_or boundaries middle d ≡ boundary) → number < boundary
-    → IsSplitBetween boundaries number low high → IsSplitBetween boundaries number low middle
-split_down boundaries asc number low high middle boundary g l e lt h = record {
+pub split_down : (boundaries : List ℕ) → AreAscending boundaries → (number low high middle : ℕ) → low ≤ middle
+    → middle < high → ((d : ℕ) → number < get_or boundaries middle d) → IsSplitBetween boundaries number low high
+    → IsSplitBetween boundaries number low middle
+split_down boundaries asc number low high middle g l above h = record {
   ordered = g;
   within = omega (arith, l, h.within);
   up_to = h.up_to;
   above = λ k d m n. elim (cases_lt middle k) [
-    | inl more ↦ omega (arith, asc middle k d more n, e d, lt)
+    | inl more ↦ omega (arith, asc middle k d more n, above d)
     | inr le ↦ let same : middle ≡ k = omega (arith, m, le) in
-        subst (λ z. number < get_or boundaries z d) same (omega (arith, e d, lt))
+        subst (λ z. number < get_or boundaries z d) same (above d)
   ];
 }
 
@@ -149,20 +149,21 @@ inside_to_the_end boundaries first last place h asc odd before x le l =
     (split_until boundaries first place x h le (λ m d. omega (arith, l, before m d)) asc)
     ∙ eq-eqb (place % 2) 1 odd
 
-pub inside_before_boundary : (boundaries : List ℕ) (first last place boundary : ℕ) → IsSplitAt boundaries first place
-    → AreAscending boundaries → place % 2 ≡ 1 → place < length boundaries
-    → ((d : ℕ) → get_or boundaries place d ≡ boundary)
-    → AreInside boundaries first last → last < boundary
-inside_before_boundary boundaries first last place boundary h asc odd l e inside = elim (cases_lt last boundary) [
-  | inl lt ↦ lt
-  | inr ge ↦
-      let out : is_inside boundaries boundary ≡ not (is_odd place) =
-      split_after boundaries first place boundary h asc l e in
-      let even : not (is_odd place) ≡ false = ap not (eq-eqb (place % 2) 1 odd) in
-      let here : is_inside boundaries boundary ≡ true
-      = inside boundary (omega (arith, h.above place 0 (omega arith) l, e 0)) ge in
-      absurd (cc)
-]
+pub inside_before_boundary : (boundaries : List ℕ) (first last place : ℕ) → IsSplitAt boundaries first place
+    → AreAscending boundaries → place % 2 ≡ 1 → place < length boundaries → AreInside boundaries first last
+    → (d : ℕ) → last < get_or boundaries place d
+inside_before_boundary boundaries first last place h asc odd l inside d =
+    let boundary = get_or boundaries place d in
+    elim (cases_lt last boundary) [
+      | inl lt ↦ lt
+      | inr ge ↦
+          let out : is_inside boundaries boundary ≡ not (is_odd place) =
+          split_after boundaries first place boundary h asc l (λ other. get_or_default boundaries place other d l) in
+          let even : not (is_odd place) ≡ false = ap not (eq-eqb (place % 2) 1 odd) in
+          let here : is_inside boundaries boundary ≡ true
+          = inside boundary (omega (arith, h.above place d (omega arith) l)) ge in
+          absurd (cc)
+    ]
 
 pub first_inside_is_odd : (boundaries : List ℕ) (first last place : ℕ) → IsSplitAt boundaries first place → first ≤ last
     → AreInside boundaries first last → place % 2 ≡ 1

@@ -1,9 +1,9 @@
 -- Eight searches in step: each lane has its own number, and the place that its search has reached.
-use Rattle.std.proofs.Common.{◌≡◌, ℕ, ◌+◌, ◌-◌, ◌^◌, ◌<◌, ◌≤◌, ◌⊎◌, ◌↔◌, Bool, false, IsTrue, List, length, get_or}
+use Rattle.std.proofs.Common.{◌≡◌, ℕ, ◌+◌, ◌-◌, ◌/◌, ◌^◌, ◌<◌, ◌≤◌, ◌⊎◌, ◌↔◌, Bool, false, IsTrue, List, length, get_or}
 use Rattle.std.proofs.Common.{slice_set, sym, ap, ◌∙◌, subst, arith, inl, inr}
 use Rattle.std.proofs.lemmas.Bool.{cases_lt}
 use Rattle.std.proofs.lemmas.Grind.{get_or-set_at}
-use Rattle.std.proofs.lemmas.List.{get_or-set_other}
+use Rattle.std.proofs.lemmas.List.{get_or-set_other, length-set}
 use Rattle.ipnet_base.specs.Address.{IPv4, address_at}
 use Rattle.ipnet_sets.specs.Boundaries.{AreBoundaries, IsSplitAt, is_inside}
 use Rattle.ipnet_sets.specs.Members.{IsMember, boundaries_of}
@@ -15,25 +15,46 @@ use Rattle.ipnet_sets.proofs.SplitLaws.{inside_from_split}
 
 -- Each lane from `first` up to `end` looks for the place of its number among the `left` boundaries from its low on.
 pub record AreBetween (boundaries numbers low : List ℕ) (first end left : ℕ) : Type 0 where
+  pub eight : length low ≡ 8
   pub within : (lane : ℕ) → first ≤ lane → lane < end → get_or low lane 0 + left ≤ length boundaries
   pub split : AreBoundaries IPv4 boundaries → (lane : ℕ) → first ≤ lane → lane < end
       → IsSplitBetween boundaries (get_or numbers lane 0) (get_or low lane 0) (get_or low lane 0 + left)
 
-pub between_start : (boundaries numbers low : List ℕ) (left : ℕ) → left ≡ length boundaries
+pub between_start : (boundaries numbers low : List ℕ) (left : ℕ) → length low ≡ 8 → left ≡ length boundaries
     → ((lane : ℕ) → lane < 8 → get_or low lane 0 ≡ 0) → AreBetween boundaries numbers low 0 8 left
-between_start boundaries numbers low left e zeros = record {
+between_start boundaries numbers low left eight e zeros = record {
+  eight = eight;
   within = λ lane a b. omega (arith, zeros lane b, e);
   split = λ h lane a b. subst (λ z. IsSplitBetween boundaries (get_or numbers lane 0) z (z + left))
       (sym (zeros lane b)) (split_start boundaries (get_or numbers lane 0) (0 + left) (omega (arith, e)));
 }
 
--- no lane
-pub between_none : (boundaries numbers low : List ℕ) (place left : ℕ)
-    → AreBetween boundaries numbers low place place left
-between_none boundaries numbers low place left = record {
-  within = λ lane a b. absurd (omega (arith, a, b));
-  split = λ h lane a b. absurd (omega (arith, a, b));
+-- Half of what is left, rounded up.
+abbrev pub half_of : ℕ → ℕ
+half_of left = left - left / 2
+
+-- The lanes before `lane` have made the step that halves what is left, and the others have not.
+pub record IsRound (boundaries numbers low : List ℕ) (lane left : ℕ) : Type 0 where
+  pub done : AreBetween boundaries numbers low 0 lane (left - half_of left)
+  pub others : AreBetween boundaries numbers low lane 8 left
+
+-- no lane has made it
+pub round_start : (boundaries numbers low : List ℕ) (left : ℕ) → AreBetween boundaries numbers low 0 8 left
+    → IsRound boundaries numbers low 0 left
+round_start boundaries numbers low left h = record {
+  done = record {
+    eight = h.eight;
+    within = λ lane a b. absurd (omega (arith, a, b));
+    split = λ are lane a b. absurd (omega (arith, a, b));
+  };
+  others = h;
 }
+
+-- The place goes on behind the last boundary of the half if that is at most the number, and stays if it is above.
+abbrev pub IsStep : List ℕ → ℕ → ℕ → ℕ → ℕ → Type 0
+IsStep boundaries number low half place =
+    ((place ≡ low + half) × ((d : ℕ) → get_or boundaries (low + half - 1) d ≤ number))
+    ⊎ ((place ≡ low) × ((d : ℕ) → number < get_or boundaries (low + half - 1) d))
 
 split_wider : (boundaries : List ℕ) (number low high wider : ℕ) → high ≤ wider → wider ≤ length boundaries
     → IsSplitBetween boundaries number low high → IsSplitBetween boundaries number low wider
@@ -45,76 +66,79 @@ split_wider boundaries number low high wider le fits h = record {
 }
 
 -- the step of one lane
-split_stepped : (boundaries : List ℕ) → AreAscending boundaries → (number low left half place boundary : ℕ) → 0 < half
-    → half ≤ left → half ≤ left - half + 1 → low + left ≤ length boundaries
-    → ((d : ℕ) → get_or boundaries (low + half - 1) d ≡ boundary)
-    → ((place ≡ low + half) × (boundary ≤ number)) ⊎ ((place ≡ low) × (number < boundary))
-    → IsSplitBetween boundaries number low (low + left)
-    → IsSplitBetween boundaries number place (place + (left - half))
-split_stepped boundaries asc number low left half place boundary some fits enough within at (inl (is, le)) h =
-    let up =
-    split_up boundaries asc number low (low + left) (low + half - 1) boundary (omega (arith, some, fits)) at le h in
+split_stepped : (boundaries : List ℕ) → AreAscending boundaries → (number low left place : ℕ) → 0 < left
+    → IsStep boundaries number low (half_of left) place → IsSplitBetween boundaries number low (low + left)
+    → IsSplitBetween boundaries number place (place + (left - half_of left))
+split_stepped boundaries asc number low left place some (inl (is, at_most)) h =
+    let half = half_of left in
+    let up = split_up boundaries asc number low (low + left) (low + half - 1) (omega (arith, some)) at_most h in
     let low_is : low + half - 1 + 1 ≡ place = omega (arith, some, is) in
-    let high_is : low + left ≡ place + (left - half) = omega (arith, some, fits, is) in
+    let high_is : low + left ≡ place + (left - half) = omega (arith, some, is) in
     subst (λ z. IsSplitBetween boundaries number place z) high_is
     (subst (λ z. IsSplitBetween boundaries number z (low + left)) low_is up)
-split_stepped boundaries asc number low left half place boundary some fits enough within at (inr (is, lt)) h =
-    let down = split_down boundaries asc number low (low + left) (low + half - 1) boundary (omega (arith, some))
-    (omega (arith, some, fits)) at lt h in
+split_stepped boundaries asc number low left place some (inr (is, above)) h =
+    let half = half_of left in
+    let down = split_down boundaries asc number low (low + left) (low + half - 1) (omega (arith, some))
+    (omega (arith, some)) above h in
     subst (λ z. IsSplitBetween boundaries number z (z + (left - half))) (sym is)
-    (split_wider boundaries number low (low + half - 1) (low + (left - half)) (omega (arith, some, enough))
-    (omega (arith, within, fits)) down)
+    (split_wider boundaries number low (low + half - 1) (low + (left - half)) (omega (arith, some))
+    (omega (arith, h.within)) down)
 
-place_within : (low left half place size : ℕ) (A B : Type 0) → half ≤ left → low + left ≤ size
-    → ((place ≡ low + half) × A) ⊎ ((place ≡ low) × B) → place + (left - half) ≤ size
-place_within low left half place size A B fits within (inl (is, a)) = omega (arith, fits, within, is)
-place_within low left half place size A B fits within (inr (is, b)) = omega (arith, fits, within, is)
+place_within : (boundaries : List ℕ) (number low left place : ℕ) → low + left ≤ length boundaries
+    → IsStep boundaries number low (half_of left) place → place + (left - half_of left) ≤ length boundaries
+place_within boundaries number low left place within (inl (is, at_most)) = omega (arith, within, is)
+place_within boundaries number low left place within (inr (is, above)) = omega (arith, within, is)
 
 -- one lane more has made its step
-pub lane_stepped : (boundaries numbers low : List ℕ) (lane left half place boundary : ℕ) → lane < length low → lane < 8
-    → 0 < half → half ≤ left → half ≤ left - half + 1
-    → ((d : ℕ) → get_or boundaries (get_or low lane 0 + half - 1) d ≡ boundary)
-    → ((place ≡ get_or low lane 0 + half) × (boundary ≤ get_or numbers lane 0))
-    ⊎ ((place ≡ get_or low lane 0) × (get_or numbers lane 0 < boundary))
-    → AreBetween boundaries numbers low 0 lane (left - half) → AreBetween boundaries numbers low lane 8 left
-    → AreBetween boundaries numbers (slice_set low lane place) 0 (lane + 1) (left - half)
-lane_stepped boundaries numbers low lane left half place boundary room eight some fits enough at step done h = record {
-  within = λ i a b. elim (cases_lt i lane) [
-    | inl before ↦ subst (λ z. z + (left - half) ≤ length boundaries) (sym (other i before)) (done.within i a before)
-    | inr not ↦ subst (λ z. z + (left - half) ≤ length boundaries) (sym (here i (omega (arith, b, not))))
-        (place_within (get_or low lane 0) left half place (length boundaries) (boundary ≤ get_or numbers lane 0)
-        (get_or numbers lane 0 < boundary) fits (h.within lane (omega arith) eight) step)
-  ];
-  split = λ are i a b. elim (cases_lt i lane) [
-    | inl before ↦ subst (λ z. IsSplitBetween boundaries (get_or numbers i 0) z (z + (left - half)))
-        (sym (other i before)) (done.split are i a before)
-    | inr not ↦ let same : i ≡ lane = omega (arith, b, not) in
-        subst (λ z. IsSplitBetween boundaries (get_or numbers i 0) z (z + (left - half))) (sym (here i same))
-        (subst (λ j. IsSplitBetween boundaries (get_or numbers j 0) place (place + (left - half))) (sym same)
-        (split_stepped boundaries are.ascending (get_or numbers lane 0) (get_or low lane 0) left half place boundary
-        some fits enough (h.within lane (omega arith) eight) at step (h.split are lane (omega arith) eight)))
-  ];
+pub round_more : (boundaries numbers low : List ℕ) (lane left place : ℕ) → lane < 8 → 0 < left
+    → IsStep boundaries (get_or numbers lane 0) (get_or low lane 0) (half_of left) place
+    → IsRound boundaries numbers low lane left → IsRound boundaries numbers (slice_set low lane place) (lane + 1) left
+round_more boundaries numbers low lane left place less some step h = record {
+  done = record {
+    eight = size;
+    within = λ i a b. elim (cases_lt i lane) [
+      | inl before ↦ subst (λ z. z + rest ≤ length boundaries)
+          (sym (other i (λ same. omega (arith, same, before)))) (h.done.within i a before)
+      | inr not ↦ subst (λ z. z + rest ≤ length boundaries) (sym (here i (omega (arith, b, not))))
+          (place_within boundaries (get_or numbers lane 0) (get_or low lane 0) left place
+          (h.others.within lane (omega arith) less) step)
+    ];
+    split = λ are i a b. elim (cases_lt i lane) [
+      | inl before ↦ subst (λ z. IsSplitBetween boundaries (get_or numbers i 0) z (z + rest))
+          (sym (other i (λ same. omega (arith, same, before)))) (h.done.split are i a before)
+      | inr not ↦ let same : i ≡ lane = omega (arith, b, not) in
+          subst (λ z. IsSplitBetween boundaries (get_or numbers i 0) z (z + rest)) (sym (here i same))
+          (subst (λ j. IsSplitBetween boundaries (get_or numbers j 0) place (place + rest)) (sym same)
+          (split_stepped boundaries are.ascending (get_or numbers lane 0) (get_or low lane 0) left place some step
+          (h.others.split are lane (omega arith) less)))
+    ];
+  };
+  others = record {
+    eight = size;
+    within = λ i a b. subst (λ z. z + left ≤ length boundaries) (sym (other i (λ same. omega (arith, same, a))))
+        (h.others.within i (omega (arith, a)) b);
+    split = λ are i a b. subst (λ z. IsSplitBetween boundaries (get_or numbers i 0) z (z + left))
+        (sym (other i (λ same. omega (arith, same, a)))) (h.others.split are i (omega (arith, a)) b);
+  };
 }
   where
-    other : (i : ℕ) → i < lane → get_or (slice_set low lane place) i 0 ≡ get_or low i 0
-    other i before = get_or-set_other low lane i place 0
-        (λ same. let wrong : ⊥ = omega (arith, same, before) in wrong)
+    rest : ℕ
+    rest = left - half_of left
+
+    size : length (slice_set low lane place) ≡ 8
+    size = length-set low lane place ∙ h.others.eight
+
+    other : (i : ℕ) → (i ≡ lane → ⊥) → get_or (slice_set low lane place) i 0 ≡ get_or low i 0
+    other i not = get_or-set_other low lane i place 0 not
 
     here : (i : ℕ) → i ≡ lane → get_or (slice_set low lane place) i 0 ≡ place
-    here i same = get_or-set_at low lane i place 0 same room
+    here i same = get_or-set_at low lane i place 0 same (omega (arith, less, h.others.eight))
 
--- and the others wait
-pub lanes_left : (boundaries numbers low : List ℕ) (lane left place : ℕ)
-    → AreBetween boundaries numbers low lane 8 left
-    → AreBetween boundaries numbers (slice_set low lane place) (lane + 1) 8 left
-lanes_left boundaries numbers low lane left place h = record {
-  within = λ i a b. subst (λ z. z + left ≤ length boundaries) (sym (other i a)) (h.within i (omega (arith, a)) b);
-  split = λ are i a b. subst (λ z. IsSplitBetween boundaries (get_or numbers i 0) z (z + left)) (sym (other i a))
-      (h.split are i (omega (arith, a)) b);
-}
-  where
-    other : (i : ℕ) → lane + 1 ≤ i → get_or (slice_set low lane place) i 0 ≡ get_or low i 0
-    other i a = get_or-set_other low lane i place 0 (λ same. let wrong : ⊥ = omega (arith, same, a) in wrong)
+-- all lanes have made it
+pub round_end : (boundaries numbers low : List ℕ) (lane left : ℕ) → lane ≡ 8
+    → IsRound boundaries numbers low lane left → AreBetween boundaries numbers low 0 8 (left - half_of left)
+round_end boundaries numbers low lane left end h =
+    subst (λ z. AreBetween boundaries numbers low 0 z (left - half_of left)) end h.done
 
 -- no boundary is left
 pub lanes_end : (boundaries numbers low : List ℕ) (left lane : ℕ) → left ≤ 0 → lane < 8 → AreBoundaries IPv4 boundaries

@@ -7,7 +7,7 @@ use Rattle.std.proofs.lemmas.List.{get_or-take, get_or-drop, length-take-le, len
 use Rattle.std.proofs.lemmas.List.{drop-map, take-map}
 use Rattle.std.proofs.lemmas.List.Elements.{All-push, All-weaker}
 use Rattle.ipnet_base.specs.Address.{Family, IPv4, IPv6, Address, width, greatest_number, family_index}
-use Rattle.ipnet_base.specs.Network.{Network, IsNetwork, IsLeastOf, IsGreatestOf, InBlock}
+use Rattle.ipnet_base.specs.Network.{Network, IsLeastOf, IsGreatestOf, InBlock}
 use Rattle.ipnet_base.proofs.BlockLaws.{between_from_block, block_from_between}
 use Rattle.ipnet_base.proofs.FamilyLaws.{cases_family}
 use Rattle.ipnet_sets.specs.declared.set.IpSet.{IpSet}
@@ -16,7 +16,7 @@ use Rattle.ipnet_sets.specs.Members.{boundaries_of, is_member, IsMember, HasOneM
 use Rattle.ipnet_sets.specs.Parts.{IsInPart, IsPartBetween}
 use Rattle.ipnet_sets.proofs.InsideLaws.{AreAscending, is_odd, odd_more, not_twice, ascending_push}
 use Rattle.ipnet_sets.proofs.InsideLaws.{inside_front, inside_before, inside_from, inside_push_before}
-use Rattle.ipnet_sets.proofs.MemberLaws.{HasBoundaries, block_from_to, fits_to}
+use Rattle.ipnet_sets.proofs.MemberLaws.{block_from_to, fits_to}
 use Rattle.ipnet_sets.proofs.RangeCountLaws.{one_more_range}
 
 -- ---- numbers
@@ -41,16 +41,23 @@ inside_past (suc p) (t ∷ ts) x within h =
     ∙ turned_again (is_odd p) (is_inside (drop p ts) x)
     ∙ ap (λ odd. turned odd (is_inside (drop p ts) x)) (sym (odd_more p) ∙ ap is_odd more))
 
+-- A first and a last number in this order, and the place of each among the ascending boundaries.
+pub record ArePlaced (ts : List ℕ) (first last before after : ℕ) : Type 0 where
+  pub ascending : AreAscending ts
+  pub first_place : IsSplitAt ts first before
+  pub last_place : IsSplitAt ts last after
+  pub ordered : first ≤ last
+
 -- the places of the first and of the last number are in order
-pub places_ordered : (ts : List ℕ) (first last before after : ℕ) → IsSplitAt ts first before → IsSplitAt ts last after
-    → first ≤ last → before ≤ after
-places_ordered ts first last before after h k le = elim (cases_lt after before) [
+pub places_ordered : (ts : List ℕ) (first last before after : ℕ) → ArePlaced ts first last before after
+    → before ≤ after
+places_ordered ts first last before after placed = elim (cases_lt after before) [
   | inr ge ↦ ge
   | inl lt ↦ absurd (omega (
     arith,
-    le,
-    h.up_to after 0 lt,
-    k.above after 0 (omega arith) (omega (arith, lt, h.within)),
+    placed.ordered,
+    placed.first_place.up_to after 0 lt,
+    placed.last_place.above after 0 (omega arith) (omega (arith, lt, placed.first_place.within)),
   ))
 ]
 
@@ -64,16 +71,16 @@ record AreBetween (ts : List ℕ) (first last before after : ℕ) (middle : List
   pub within : after ≤ length ts
   pub members : (x : ℕ) → first ≤ x → x ≤ last → is_inside ts x ≡ turned (is_odd before) (is_inside middle x)
 
-between_places : (ts : List ℕ) (first last before after : ℕ) → AreAscending ts → IsSplitAt ts first before
-    → IsSplitAt ts last after → first ≤ last → AreBetween ts first last before after (drop before (take after ts))
-between_places ts first last before after asc h k le = record {
+between_places : (ts : List ℕ) (first last before after : ℕ) → ArePlaced ts first last before after
+    → AreBetween ts first last before after (drop before (take after ts))
+between_places ts first last before after placed = record {
   ascending = λ i j d l m.
       let inner : before + j < after = in_front j m in
       omega (
         arith,
         at i d (omega (arith, l, m)),
         at j d m,
-        asc (before + i) (before + j) d (omega (arith, l)) (omega (arith, inner, k.within)),
+        placed.ascending (before + i) (before + j) d (omega (arith, l)) (omega (arith, inner, k.within)),
       );
   above = λ i d l. omega (
     arith,
@@ -90,11 +97,17 @@ between_places ts first last before after asc h k le = record {
       omega (arith, get_or-take after ts i d (omega (arith, l, ordered)), h.up_to i d l, from));
 }
   where
+    h : IsSplitAt ts first before
+    h = placed.first_place
+
+    k : IsSplitAt ts last after
+    k = placed.last_place
+
     size : length (take after ts) ≡ after
     size = length-take-le after ts k.within
 
     ordered : before ≤ after
-    ordered = places_ordered ts first last before after h k le
+    ordered = places_ordered ts first last before after placed
 
     in_front : (i : ℕ) → i < length (drop before (take after ts)) → before + i < after
     in_front i l = omega (arith, l, length-drop before (take after ts), size)
@@ -112,11 +125,10 @@ pub record IsBegun (ts : List ℕ) (first last after : ℕ) (front : List ℕ) :
   pub size : length front ≤ length ts + 1
   pub members : (x : ℕ) → first ≤ x → x ≤ last → is_inside front x ≡ is_inside ts x
 
-begun_outside : (ts : List ℕ) (first last before after : ℕ) (front : List ℕ) → AreAscending ts
-    → IsSplitAt ts first before → IsSplitAt ts last after → first ≤ last → (before % 2 ≡ 1 → ⊥)
-    → front ≡ drop before (take after ts) → IsBegun ts first last after front
-begun_outside ts first last before after front asc h k le even e = subst (IsBegun ts first last after) (sym e) (
-    let b = between_places ts first last before after asc h k le in
+begun_outside : (ts : List ℕ) (first last before after : ℕ) (front : List ℕ) → ArePlaced ts first last before after
+    → (before % 2 ≡ 1 → ⊥) → front ≡ drop before (take after ts) → IsBegun ts first last after front
+begun_outside ts first last before after front placed even e = subst (IsBegun ts first last after) (sym e) (
+    let b = between_places ts first last before after placed in
     record {
       ascending = b.ascending;
       from = All-weaker (λ t. first < t) (λ t. first ≤ t) (λ t l. omega (arith, l))
@@ -146,17 +158,16 @@ all_cons : (P : ℕ → Type 0) (t : ℕ) (ts : List ℕ) → P t → All P ts �
 all_cons P t ts p h zero d l = p
 all_cons P t ts p h (suc k) d l = h k d (omega (arith, l))
 
-begun_inside : (ts : List ℕ) (first last before after : ℕ) (front : List ℕ) → AreAscending ts
-    → IsSplitAt ts first before → IsSplitAt ts last after → first ≤ last → before % 2 ≡ 1
-    → front ≡ first ∷ drop before (take after ts) → IsBegun ts first last after front
-begun_inside ts first last before after front asc h k le odd e = subst (IsBegun ts first last after) (sym e) (
-    let b = between_places ts first last before after asc h k le in
+begun_inside : (ts : List ℕ) (first last before after : ℕ) (front : List ℕ) → ArePlaced ts first last before after
+    → before % 2 ≡ 1 → front ≡ first ∷ drop before (take after ts) → IsBegun ts first last after front
+begun_inside ts first last before after front placed odd e = subst (IsBegun ts first last after) (sym e) (
+    let b = between_places ts first last before after placed in
     let middle : List ℕ = drop before (take after ts) in
     record {
       ascending = ascending_cons first middle b.ascending b.above;
       from = all_cons (λ t. first ≤ t) first middle (omega arith)
           (All-weaker (λ t. first < t) (λ t. first ≤ t) (λ t l. omega (arith, l)) middle b.above);
-      up_to = all_cons (λ t. t ≤ last) first middle le b.up_to;
+      up_to = all_cons (λ t. t ≤ last) first middle placed.ordered b.up_to;
       parity = omega (arith, b.size, b.ordered, odd);
       size = omega (arith, b.size, b.within);
       members = λ x from to. rw (le-leb first x from) (sym (b.members x from to
@@ -164,28 +175,24 @@ begun_inside ts first last before after front asc h k le odd e = subst (IsBegun 
     }
     )
 
--- the words of these boundaries
-pub begun_words : {X : Type 0} (number : X → ℕ) (words part : List X) (word : X) (first last before after : ℕ)
-    → AreAscending (map number words) → IsSplitAt (map number words) first before
-    → IsSplitAt (map number words) last after → first ≤ last → number word ≡ first
-    → (before % 2 ≡ 1 → part ≡ word ∷ drop before (take after words))
-    → ((before % 2 ≡ 1 → ⊥) → part ≡ drop before (take after words))
-    → IsBegun (map number words) first last after (map number part)
-begun_words number words part word first last before after asc h k le e inside outside =
-    elim (cases_lt (before % 2) 1) [
-      | inl lt ↦
-          let even : before % 2 ≡ 1 → ⊥ = λ o. omega (arith, o, lt) in
-          begun_outside (map number words) first last before after (map number part) asc h k le even
-          (ap (map number) (outside even) ∙ middle)
-      | inr ge ↦
-          let odd : before % 2 ≡ 1 = omega (arith, ge) in
-          begun_inside (map number words) first last before after (map number part) asc h k le odd
-          (ap (map number) (inside odd) ∙ ap (λ z. z ∷ map number (drop before (take after words))) e
-          ∙ ap (λ zs. first ∷ zs) middle)
-    ]
-  where
-    middle : map number (drop before (take after words)) ≡ drop before (take after (map number words))
-    middle = sym (drop-map number before (take after words)) ∙ ap (drop before) (sym (take-map number after words))
+-- in either case
+pub begun : (ts : List ℕ) (first last before after : ℕ) (front : List ℕ) → ArePlaced ts first last before after
+    → (before % 2 ≡ 1 → front ≡ first ∷ drop before (take after ts))
+    → ((before % 2 ≡ 1 → ⊥) → front ≡ drop before (take after ts)) → IsBegun ts first last after front
+begun ts first last before after front placed inside outside = elim (cases_lt (before % 2) 1) [
+  | inl lt ↦
+      let even : before % 2 ≡ 1 → ⊥ = λ o. omega (arith, o, lt) in
+      begun_outside ts first last before after front placed even (outside even)
+  | inr ge ↦
+      let odd : before % 2 ≡ 1 = omega (arith, ge) in
+      begun_inside ts first last before after front placed odd (inside odd)
+]
+
+-- the numbers of the words between two places
+pub words_between : {X : Type 0} (number : X → ℕ) (words : List X) (before after : ℕ)
+    → map number (drop before (take after words)) ≡ drop before (take after (map number words))
+words_between number words before after =
+    sym (drop-map number before (take after words)) ∙ ap (drop before) (sym (take-map number after words))
 
 -- and with the end after the last number, if that is inside
 finished : (f : Family) (ts part : List ℕ) (first last : ℕ) → AreBoundaries f part → All (λ t. first ≤ t) part
@@ -209,33 +216,31 @@ finished f ts part first last are from inner beyond few = record {
   no_more = few;
 }
 
-pub finished_closed : (f : Family) (ts front part : List ℕ) (first last after next : ℕ)
-    → IsBegun ts first last after front → first ≤ last → after % 2 ≡ 1 → next ≡ last + 1 → last < greatest_number f
-    → part ≡ front ++ next ∷ [] → IsPartBetween f ts first last part
-finished_closed f ts front part first last after next b le odd e fits g =
-    subst (IsPartBetween f ts first last) (sym g) (
-    finished f ts (front ++ next ∷ []) first last
+pub finished_closed : (f : Family) (ts front : List ℕ) (first last after : ℕ) → IsBegun ts first last after front
+    → first ≤ last → after % 2 ≡ 1 → last < greatest_number f
+    → IsPartBetween f ts first last (front ++ (last + 1) ∷ [])
+finished_closed f ts front first last after b le odd fits =
+    finished f ts (front ++ (last + 1) ∷ []) first last
     (record {
-      ascending = ascending_push front next b.ascending below;
-      fits = All-push (λ t. t ≤ greatest_number f) front next
+      ascending = ascending_push front (last + 1) b.ascending below;
+      fits = All-push (λ t. t ≤ greatest_number f) front (last + 1)
           (All-weaker (λ t. t ≤ last) (λ t. t ≤ greatest_number f) (λ t l. omega (arith, l, fits)) front b.up_to)
-          (omega (arith, e, fits));
+          (omega (arith, fits));
     })
-    (All-push (λ t. first ≤ t) front next b.from (omega (arith, e, le)))
-    (λ x from to. inside_push_before front next x (omega (arith, to, e)) ∙ b.members x from to)
+    (All-push (λ t. first ≤ t) front (last + 1) b.from (omega (arith, le)))
+    (λ x from to. inside_push_before front (last + 1) x (omega (arith, to)) ∙ b.members x from to)
     (λ x over fit.
-    inside_from (front ++ next ∷ []) x (All-push (λ t. t ≤ x) front next
+    inside_from (front ++ (last + 1) ∷ []) x (All-push (λ t. t ≤ x) front (last + 1)
     (All-weaker (λ t. t ≤ last) (λ t. t ≤ x) (λ t l. omega (arith, l, over)) front b.up_to)
-    (omega (arith, e, over)))
-    ∙ ne_eqb (length (front ++ next ∷ []) % 2) 1 (λ o. omega (arith, o, size, b.parity, odd)))
+    (omega (arith, over)))
+    ∙ ne_eqb (length (front ++ (last + 1) ∷ []) % 2) 1 (λ o. omega (arith, o, size, b.parity, odd)))
     (omega (arith, size, b.size))
-    )
   where
-    size : length (front ++ next ∷ []) ≡ length front + 1
-    size = length_push front next
+    size : length (front ++ (last + 1) ∷ []) ≡ length front + 1
+    size = length_push front (last + 1)
 
-    below : All (λ t. t < next) front
-    below = All-weaker (λ t. t ≤ last) (λ t. t < next) (λ t l. omega (arith, l, e)) front b.up_to
+    below : All (λ t. t < last + 1) front
+    below = All-weaker (λ t. t ≤ last) (λ t. t < last + 1) (λ t l. omega (arith, l)) front b.up_to
 
 pub finished_open : (f : Family) (ts front : List ℕ) (first last after : ℕ) → IsBegun ts first last after front
     → last ≤ greatest_number f → (after % 2 ≡ 1 → greatest_number f ≤ last) → IsPartBetween f ts first last front
@@ -265,65 +270,60 @@ pub no_ipv4 : (ipv4 ipv6 : List ℕ) → ipv4 ≡ [] → (f : Family) → (f ≡
 no_ipv4 ipv4 ipv6 e IPv4 other = ap (map (λ n. n)) e
 no_ipv4 ipv4 ipv6 e IPv6 other = absurd (other refl)
 
--- the part in a block has the boundaries of one family
-pub within_block : (s part : IpSet) (n : Network) (low high : Address) (slice items : List ℕ) (first last : ℕ)
-    → IsNetwork n → IsLeastOf n low → IsGreatestOf n high → first ≡ low.number → last ≡ high.number
-    → HasBoundaries s n.family slice → IsPartBetween n.family (map (λ n. n) slice) first last (map (λ n. n) items)
-    → HasBoundaries part n.family items → ((f : Family) → (f ≡ n.family → ⊥) → boundaries_of part f ≡ [])
-    → (x : Address) → IsMember part x ↔ IsInPart (IsMember s) n x
-within_block s part n low high slice items first last valid least greatest e g of_s between of_part none x =
-    elim (cases_family x.family n.family) [
-      | inr other ↦
-          let out : is_member part x ≡ false = ap (λ z. is_inside z x.number) (none x.family other) in (
-            λ m. let inside = m.inside in absurd (cc),
-            λ i. absurd (other i.in_block.same_family),
-          )
-      | inl same ↦ (
-        λ m.
-            let found = (members (fits_to n.family x.number (subst (λ f. x.number < 2 ^ width f) same m.fits))).0
-            (in_family part items of_part same ∙ m.inside) in
-            record {
-              in_block = (block_from_to n low high least greatest x).1 (record {
-                family_of_start = same ∙ sym least.inside.same_family;
-                family_of_end = same ∙ sym greatest.inside.same_family;
-                from_start = omega (arith, e, found.1);
-                to_end = omega (arith, g, found.2);
-              });
-              in_set = record { fits = m.fits; inside = sym (in_family s slice of_s same) ∙ found.0 };
-            },
-        λ i.
-            let to = (block_from_to n low high least greatest x).0 i.in_block in
-            record {
-              fits = i.in_set.fits;
-              inside = sym (in_family part items of_part same)
-                  ∙ (members (fits_to n.family x.number (subst (λ f. x.number < 2 ^ width f) same i.in_set.fits))).1 (
-                    in_family s slice of_s same ∙ i.in_set.inside,
-                    omega (arith, e, to.from_start),
-                    omega (arith, g, to.to_end),
-                  );
-            },
+-- The addresses of the set from one number to another of one family: the part has none of the other family.
+pub record IsPartOf (s part : IpSet) (f : Family) (first last : ℕ) : Type 0 where
+  pub between : IsPartBetween f (boundaries_of s f) first last (boundaries_of part f)
+  pub none : (g : Family) → (g ≡ f → ⊥) → boundaries_of part g ≡ []
+
+-- the part from the least to the greatest address of a block is the part in the block
+pub within_block : (s part : IpSet) (n : Network) (low high : Address) → IsLeastOf n low → IsGreatestOf n high
+    → IsPartOf s part n.family low.number high.number → (x : Address) → IsMember part x ↔ IsInPart (IsMember s) n x
+within_block s part n low high least greatest part_is x = elim (cases_family x.family n.family) [
+  | inr other ↦
+      let out : is_member part x ≡ false = ap (λ z. is_inside z x.number) (part_is.none x.family other) in (
+        λ m. let inside = m.inside in absurd (cc),
+        λ i. absurd (other i.in_block.same_family),
       )
-    ]
+  | inl same ↦ (
+    λ m.
+        let found = (members (fits_to n.family x.number (subst (λ f. x.number < 2 ^ width f) same m.fits))).0
+        (in_family part same ∙ m.inside) in
+        record {
+          in_block = (block_from_to n low high least greatest x).1 (record {
+            family_of_start = same ∙ sym least.inside.same_family;
+            family_of_end = same ∙ sym greatest.inside.same_family;
+            from_start = found.1;
+            to_end = found.2;
+          });
+          in_set = record { fits = m.fits; inside = sym (in_family s same) ∙ found.0 };
+        },
+    λ i.
+        let to = (block_from_to n low high least greatest x).0 i.in_block in
+        record {
+          fits = i.in_set.fits;
+          inside = sym (in_family part same)
+              ∙ (members (fits_to n.family x.number (subst (λ f. x.number < 2 ^ width f) same i.in_set.fits))).1
+              (in_family s same ∙ i.in_set.inside, to.from_start, to.to_end);
+        },
+  )
+]
   where
-    members : x.number ≤ greatest_number n.family → (is_inside (map (λ n. n) items) x.number ≡ true)
-        ↔ ((is_inside (map (λ n. n) slice) x.number ≡ true) × (first ≤ x.number) × (x.number ≤ last))
-    members fits = between.members x.number fits
+    members : x.number ≤ greatest_number n.family → (is_inside (boundaries_of part n.family) x.number ≡ true)
+        ↔ ((is_inside (boundaries_of s n.family) x.number ≡ true) × (low.number ≤ x.number)
+        × (x.number ≤ high.number))
+    members fits = part_is.between.members x.number fits
 
-    in_family : (t : IpSet) (numbers : List ℕ) → HasBoundaries t n.family numbers → x.family ≡ n.family
-        → is_inside (map (λ n. n) numbers) x.number ≡ is_member t x
-    in_family t numbers h same =
-        ap (λ z. is_inside z x.number) h ∙ ap (λ f. is_inside (boundaries_of t f) x.number) (sym same)
+    in_family : (t : IpSet) → x.family ≡ n.family → is_inside (boundaries_of t n.family) x.number ≡ is_member t x
+    in_family t same = ap (λ f. is_inside (boundaries_of t f) x.number) (sym same)
 
--- and at most one range more than the set
-pub within_ranges : (s part : IpSet) (f : Family) (slice items : List ℕ) (first last : ℕ) → HasBoundaries s f slice
-    → IsPartBetween f (map (λ n. n) slice) first last (map (λ n. n) items) → HasBoundaries part f items
-    → ((g : Family) → (g ≡ f → ⊥) → boundaries_of part g ≡ []) → HasOneMoreRange part s
-within_ranges s part f slice items first last of_s between of_part none = one_more_range part s (λ g.
-    elim (cases_family g f) [
-      | inl same ↦ subst (λ h. length (boundaries_of part h) ≤ length (boundaries_of s h) + 2) (sym same)
-          (omega (arith, between.no_more, ap length of_s, ap length of_part))
-      | inr other ↦ let empty = ap length (none g other) in omega (arith, empty)
-    ])
+-- and it has at most one range more than the set
+pub within_ranges : (s part : IpSet) (f : Family) (first last : ℕ) → IsPartOf s part f first last
+    → HasOneMoreRange part s
+within_ranges s part f first last part_is = one_more_range part s (λ g. elim (cases_family g f) [
+  | inl same ↦ subst (λ h. length (boundaries_of part h) ≤ length (boundaries_of s h) + 2) (sym same)
+      part_is.between.no_more
+  | inr other ↦ let empty = ap length (part_is.none g other) in omega (arith, empty)
+])
 
 -- a set is within a block if its first and its last address are
 pub between_ends : (InSet : Address → Type 0) (n : Network) (first last : Address) → IsFirstOf InSet first

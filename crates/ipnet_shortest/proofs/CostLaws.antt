@@ -82,15 +82,15 @@ module _ (First Second S May : Address → Type 0) (l r b : Network) (limit c f 
     (first : IsSolved First May limit l c f p lists) (second : IsSolved Second May limit r d g q others) where
   -- an index of a part is enough for a share of the cover
   adds_first : (i : ℕ) (networks : List Network) → i < length p → IsAllowedCover First May networks
-      → length networks ≤ limit → (length networks ≤ f + i) ⊎ (i + 1 ≡ length p)
+      → length networks ≤ limit → (length networks - f ≤ i) ⊎ (i + 1 ≡ length p)
       → AddsAtLeast First l (get_or p i 0) networks
-  adds_first i networks lt cover few (inl short) = first.are_costs.least i lt networks cover short
+  adds_first i networks lt cover few (inl short) = first.are_costs.least i lt networks cover (omega (arith, short))
   adds_first i networks lt cover few (inr last) = first.are_costs.last i last networks cover few
 
   adds_second : (i : ℕ) (networks : List Network) → i < length q → IsAllowedCover Second May networks
-      → length networks ≤ limit → (length networks ≤ g + i) ⊎ (i + 1 ≡ length q)
+      → length networks ≤ limit → (length networks - g ≤ i) ⊎ (i + 1 ≡ length q)
       → AddsAtLeast Second r (get_or q i 0) networks
-  adds_second i networks lt cover few (inl short) = second.are_costs.least i lt networks cover short
+  adds_second i networks lt cover few (inl short) = second.are_costs.least i lt networks cover (omega (arith, short))
   adds_second i networks lt cover few (inr last) = second.are_costs.last i last networks cover few
 
   -- the best share costs no more than the shares of a cover
@@ -106,9 +106,11 @@ module _ (First Second S May : Address → Type 0) (l r b : Network) (limit c f 
       let in_two : IsAllowedCover Second May two =
       second_cover First Second S May l r b h first.holds second.holds first_decided second_decided networks one two
       shared cover in
-      let at : IsPlace f g (length p) (length q) e (length one) (length two) =
-      place f g (length p) (length q) e (length one) (length two) k first.are_costs.some second.are_costs.some
-      (first.are_costs.none one in_one) (second.are_costs.none two in_two) few lt exact in
+      let more_one = first.are_costs.none one in_one in
+      let more_two = second.are_costs.none two in_two in
+      let at : IsPlace (length p) (length q) e (length one - f) (length two - g) =
+      place (length p) (length q) e (length one - f) (length two - g) first.are_costs.some second.are_costs.some lt
+      (elim exact [ inl is ↦ inl (omega (arith, is, few, more_one, more_two)) | inr last ↦ inr last ]) in
       omega (
         arith,
         best.least at.i at.j at.in_first at.in_second at.both,

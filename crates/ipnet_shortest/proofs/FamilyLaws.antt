@@ -1,5 +1,5 @@
 -- The blocks of the addresses of one family of a set.
-use Rattle.std.proofs.Common.{◌==◌, true, false, map, vec_len, eq-eqb, eqb-true, sym, arith}
+use Rattle.std.proofs.Common.{◌==◌, true, false, map, vec_len, eq-eqb, eqb-true, arith}
 use Rattle.std.proofs.lemmas.Bool.{cases_lt}
 use Rattle.std.proofs.lemmas.List.{length-map}
 use Rattle.std.specs.Global.{Vec}

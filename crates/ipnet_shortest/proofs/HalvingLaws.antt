@@ -12,6 +12,7 @@ use Rattle.std.proofs.lemmas.List.Elements.{Contains-append_left, Contains-appen
 use Rattle.ipnet_base.specs.Address.{width}
 use Rattle.ipnet_base.specs.Network.{Network, IsNetwork, IsSubnetOf, host_bits}
 use Rattle.ipnet_base.proofs.BlockLaws.{own, own_in}
+use Rattle.ipnet_base.proofs.CoverLaws.{cover_append}
 use Rattle.ipnet_base.proofs.ListLaws.{all_at, all_from_members, All-read, pair_at}
 use Rattle.ipnet.specs.declared.net.IpNet.{IpNet}
 use Rattle.ipnet.specs.NetLaws.{ip_valid}
@@ -21,7 +22,7 @@ use Rattle.ipnet_shortest.specs.declared.part.Terms.{Terms}
 use Rattle.ipnet_shortest.specs.Halves.{IsHalfWith, AreLeading, AreBlocksIn}
 use Rattle.ipnet_shortest.specs.Parts.{IsPartOf, AreJoined}
 use Rattle.ipnet_shortest.proofs.PartLaws.{each_smaller, halves_disjoint, around_halves}
-use Rattle.ipnet_shortest.proofs.RoomLaws.{parts_of_lists}
+use Rattle.ipnet_shortest.proofs.RoomLaws.{parts_within}
 use Rattle.ipnet_shortest.proofs.SplitLaws.{AreHalved, halved, all_leading}
 
 zero_of : (n : ℕ) → n ≤ 0 → n ≡ 0
@@ -148,12 +149,16 @@ module _ (around : IpNet) (blocks : List IpNet) (h : AreBlocksIn (map ip_network
         → IsSubnetOf (ip_network two_part.around) (ip_network r)
         → AreJoined front back terms one two_part (ip_network around)
     are_joined terms one two_part front back p q in_l in_r = record {
-      parts = parts_of_lists front back (ip_network one.around) (ip_network two_part.around) (ip_network around)
-          (ip_network l) (ip_network r) in_l in_r
-          (halves_disjoint (ip_network around) (ip_network l) (ip_network r) (ip_network a) (ip_network k)
-          (ip_valid around) (ip_valid l) (ip_valid r) h.truncated of_a of_k out) of_a.within of_k.within
-          (around_halves (ip_network around) (ip_network l) (ip_network r) (ip_network a) (ip_network k)
-          (ip_valid around) (ip_valid l) (ip_valid r) h.truncated of_a of_k out);
+      parts = parts_within front back (ip_network one.around) (ip_network two_part.around) (ip_network around)
+          (ip_network l) (ip_network r) (record {
+            disjoint = halves_disjoint (ip_network around) (ip_network l) (ip_network r) (ip_network a) (ip_network k)
+                (ip_valid around) (ip_valid l) (ip_valid r) h.truncated of_a of_k out;
+            around = around_halves (ip_network around) (ip_network l) (ip_network r) (ip_network a) (ip_network k)
+                (ip_valid around) (ip_valid l) (ip_valid r) h.truncated of_a of_k out;
+            first_within = of_a.within;
+            second_within = of_k.within;
+            parts = λ x. cover_append front back x;
+          }) in_l in_r;
       of_front = p;
       of_back = q;
     }

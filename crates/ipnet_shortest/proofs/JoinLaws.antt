@@ -18,19 +18,19 @@ use Rattle.ipnet_shortest.proofs.SharedLaws.{IsShared}
 
 -- ---- numbers
 
--- How two lists of networks fit two lists of costs: each is short enough for its index, or the index is the last.
-pub record IsPlace (fewest other size_first size_second index first second : ℕ) : Type 0 where
+-- How two lists of networks fit two lists of costs, if they have `first` and `second` networks more than the fewest:
+-- each is short enough for its index, or the index is the last.
+pub record IsPlace (size_first size_second index first second : ℕ) : Type 0 where
   pub i : ℕ
   pub j : ℕ
   pub in_first : i < size_first
   pub in_second : j < size_second
   pub both : i + j ≡ index
-  pub fits_first : (first ≤ fewest + i) ⊎ (i + 1 ≡ size_first)
-  pub fits_second : (second ≤ other + j) ⊎ (j + 1 ≡ size_second)
+  pub fits_first : (first ≤ i) ⊎ (i + 1 ≡ size_first)
+  pub fits_second : (second ≤ j) ⊎ (j + 1 ≡ size_second)
 
-pub place : (f g p q e a b k : ℕ) → 0 < p → 0 < q → f ≤ a → g ≤ b → a + b ≤ k → e + 1 < p + q
-    → (k ≡ f + g + e) ⊎ (e + 2 ≡ p + q) → IsPlace f g p q e a b
-place f g p q e a b k some_p some_q fa gb all lt (inr last) = record {
+pub place : (p q e a b : ℕ) → 0 < p → 0 < q → e + 1 < p + q → (a + b ≤ e) ⊎ (e + 2 ≡ p + q) → IsPlace p q e a b
+place p q e a b some_p some_q lt (inr last) = record {
   i = p - 1;
   j = q - 1;
   in_first = omega (arith, some_p);
@@ -39,25 +39,25 @@ place f g p q e a b k some_p some_q fa gb all lt (inr last) = record {
   fits_first = inr (omega (arith, some_p));
   fits_second = inr (omega (arith, some_q));
 }
-place f g p q e a b k some_p some_q fa gb all lt (inl exact) = elim (cases_lt (a - f) (p - 1)) [
+place p q e a b some_p some_q lt (inl enough) = elim (cases_lt a (p - 1)) [
   | inr most ↦ record {
     i = p - 1;
     j = e - (p - 1);
     in_first = omega (arith, some_p);
     in_second = omega (arith, some_p, some_q, lt);
-    both = omega (arith, most, fa, gb, all, exact);
+    both = omega (arith, most, enough);
     fits_first = inr (omega (arith, some_p));
-    fits_second = inl (omega (arith, most, fa, gb, all, exact));
+    fits_second = inl (omega (arith, most, enough));
   }
-  | inl less ↦ elim (cases_lt (e - (a - f)) q) [
+  | inl less ↦ elim (cases_lt (e - a) q) [
     | inl in_q ↦ record {
-      i = a - f;
-      j = e - (a - f);
+      i = a;
+      j = e - a;
       in_first = omega (arith, less);
       in_second = in_q;
-      both = omega (arith, fa, gb, all, exact);
-      fits_first = inl (omega (arith, fa));
-      fits_second = inl (omega (arith, fa, gb, all, exact));
+      both = omega (arith, enough);
+      fits_first = inl (omega arith);
+      fits_second = inl (omega (arith, enough));
     }
     | inr over ↦ record {
       i = e - (q - 1);
@@ -65,7 +65,7 @@ place f g p q e a b k some_p some_q fa gb all lt (inl exact) = elim (cases_lt (a
       in_first = omega (arith, some_p, some_q, lt);
       in_second = omega (arith, some_q);
       both = omega (arith, some_q, over);
-      fits_first = inl (omega (arith, some_q, over, fa));
+      fits_first = inl (omega (arith, some_q, over));
       fits_second = inr (omega (arith, some_q));
     }
   ]

@@ -1,7 +1,7 @@
 -- The networks of a plan are in order.
-use Rattle.std.proofs.Common.{◌≡◌, ◌≢◌, ℕ, zero, suc, ◌-◌, ◌/◌, ◌^◌, ◌<◌, ◌≤◌, ◌⊎◌, inl, inr}
-use Rattle.std.proofs.Common.{List, [], ◌∷◌, ◌++◌, length, get_or, All, AllPairs, Contains}
-use Rattle.std.proofs.Common.{refl, sym, ap, ◌∙◌, subst, arith}
+use Rattle.std.proofs.Common.{◌≡◌, ℕ, zero, suc, ◌-◌, ◌/◌, ◌^◌, ◌<◌, ◌≤◌, inl, inr}
+use Rattle.std.proofs.Common.{List, [], ◌∷◌, get_or, All, AllPairs}
+use Rattle.std.proofs.Common.{sym, ◌∙◌, subst, arith}
 use Rattle.std.proofs.lemmas.Bool.{cases_lt}
 use Rattle.std.proofs.lemmas.List.Elements.{All-append, All-cons, All-nil}
 use Rattle.std.proofs.lemmas.Nat.{le-div, pow_pos}
@@ -9,7 +9,7 @@ use Rattle.std.proofs.Math.Nat.{div-mul-le_self}
 use Rattle.ipnet_base.specs.Address.{Address}
 use Rattle.ipnet_base.specs.Network.{Network, IsNetwork, InBlock, IsSubnetOf, IsTruncated, IsBefore, AreDisjoint}
 use Rattle.ipnet_base.specs.Network.{host_bits}
-use Rattle.ipnet_base.specs.Blocks.{ArePairwiseDisjoint, AreMaximalBlocks}
+use Rattle.ipnet_base.specs.Blocks.{AreMaximalBlocks}
 use Rattle.ipnet_base.proofs.BlockLaws.{own, own_in}
 use Rattle.ipnet_base.proofs.ListLaws.{all_at, all_from_members, pairs_append, pairs_weaker}
 use Rattle.ipnet_base.proofs.UniqueLaws.{maximal_blocks_apart}

@@ -16,7 +16,7 @@ use Rattle.ipnet_shortest.specs.PartCovers.{AreBestShares, costs_from, IsSolved}
 use Rattle.ipnet_shortest.specs.Parts.{HasNoCover, AreJoined, IsCostCount, CanBeJoined}
 use Rattle.ipnet_shortest.specs.Plans.{size_of, networks_of, AreShares}
 use Rattle.ipnet_shortest.proofs.CostLaws.{fewest_or_whole, whole_allowed, solved_both, solved_whole}
-use Rattle.ipnet_shortest.proofs.RoomLaws.{sizes_fit, room_fits}
+use Rattle.ipnet_shortest.proofs.RoomLaws.{sizes_fit, cost_fits, room_fits}
 
 -- the numbers of two parts can be added
 pub can_be_joined : (front back : List Network) (terms : Terms) (first second : Part) (around : Network)
@@ -35,9 +35,11 @@ can_be_joined front back terms first second around j =
       second_some = two.are_costs.some;
       first_few = one.are_costs.short;
       second_few = two.are_costs.short;
-      room = room_fits (IsCoveredBy front) (IsCoveredBy back) (IsMember terms.allowed) l r around terms.limit
-          first.lacking first.fewest second.lacking second.fewest first.costs.items second.costs.items
-          (networks_of first.plan) (networks_of second.plan) one two sizes;
+      room = room_fits l r around first.costs.items second.costs.items
+          (cost_fits (IsCoveredBy front) (IsMember terms.allowed) terms.limit first.lacking first.fewest l
+          first.costs.items (networks_of first.plan) one)
+          (cost_fits (IsCoveredBy back) (IsMember terms.allowed) terms.limit second.lacking second.fewest r
+          second.costs.items (networks_of second.plan) two) sizes;
     }
 
 -- no cover of a part, no cover of both

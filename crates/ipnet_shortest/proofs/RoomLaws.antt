@@ -6,13 +6,12 @@ use Rattle.std.proofs.Math.Nat.{pow-le-pow_right}
 use Rattle.ipnet_base.specs.Address.{Family, IPv4, IPv6, Address, width}
 use Rattle.ipnet_base.specs.Network.{Network, InBlock, IsSubnetOf, AreDisjoint, host_bits}
 use Rattle.ipnet_base.specs.Blocks.{IsCoveredBy}
-use Rattle.ipnet_base.proofs.CoverLaws.{cover_append}
 use Rattle.ipnet_base.proofs.DecidedLaws.{IsDecided}
 use Rattle.ipnet_sets.specs.Members.{IsCountOf}
 use Rattle.ipnet_shortest.specs.Covers.{IsAdded}
 use Rattle.ipnet_shortest.specs.Halves.{IsFirstWithin}
 use Rattle.ipnet_shortest.specs.PartCovers.{IsLacking, IsAddedIn, AddsAtLeast, IsPartCover}
-use Rattle.ipnet_shortest.specs.PartCovers.{AreParts, IsSolved, HaveRoom, IsAroundBoth, IsBestOf}
+use Rattle.ipnet_shortest.specs.PartCovers.{AreParts, IsSolved, HaveRoom, IsBestOf}
 use Rattle.ipnet_shortest.proofs.CountLaws.{no_more, joined_count, block_counted, part_counted}
 use Rattle.ipnet_shortest.proofs.JoinLaws.{added_decided}
 
@@ -34,39 +33,33 @@ sizes_fit l r b apart l_in r_in =
     (joined_count (InBlock l) (InBlock r) (λ x. InBlock l x ⊎ InBlock r x) (2 ^ host_bits l) (2 ^ host_bits r)
     (λ x. (λ a. a, λ a. a)) apart (block_counted l) (block_counted r)) (block_counted b)
 
--- no cost is above what the block lacks
-cost_fits : (S May : Address → Type 0) (limit lacking fewest : ℕ) (b : Network) (costs : List ℕ)
-    (lists : ℕ → List Network) → IsSolved S May limit b lacking fewest costs lists → (i : ℕ) → i < length costs
-    → get_or costs i 0 ≤ lacking
-cost_fits S May limit lacking fewest b costs lists h i lt =
-    let c = h.are_costs.covers i lt in
-    no_more (IsAdded S (lists i)) (IsLacking S b) (get_or costs i 0) lacking (λ x a. (c.within x a.0, a.1)) c.are_added
-    h.is_lacking
+-- no cost is above what the block lacks, and that is less than the block
+module _ (S May : Address → Type 0) (limit lacking fewest : ℕ) (b : Network) (costs : List ℕ)
+    (lists : ℕ → List Network) (h : IsSolved S May limit b lacking fewest costs lists) where
+  pub cost_fits : (i : ℕ) → i < length costs → get_or costs i 0 < 2 ^ host_bits b
+  cost_fits i lt =
+      let c = h.are_costs.covers i lt in
+      let most = no_more (IsAdded S (lists i)) (IsLacking S b) (get_or costs i 0) lacking
+      (λ x a. (c.within x a.0, a.1)) c.are_added h.is_lacking in
+      omega (arith, most, h.lacks_less)
 
-pub room_fits : (First Second May : Address → Type 0) (l r b : Network) (limit c f d g : ℕ) (p q : List ℕ)
-    (lists others : ℕ → List Network) → IsSolved First May limit l c f p lists
-    → IsSolved Second May limit r d g q others
+pub room_fits : (l r b : Network) (p q : List ℕ) → ((i : ℕ) → i < length p → get_or p i 0 < 2 ^ host_bits l)
+    → ((j : ℕ) → j < length q → get_or q j 0 < 2 ^ host_bits r)
     → 2 ^ host_bits l + 2 ^ host_bits r ≤ 2 ^ host_bits b → HaveRoom p q
-room_fits First Second May l r b limit c f d g p q lists others one two sizes i j in_p in_q = omega (
-  arith,
-  sizes,
-  most_addresses b,
-  cost_fits First May limit c f l p lists one i in_p,
-  cost_fits Second May limit d g r q others two j in_q,
-  one.lacks_less,
-  two.lacks_less,
-)
+room_fits l r b p q first second sizes i j in_p in_q =
+    omega (arith, sizes, most_addresses b, first i in_p, second j in_q)
 
--- covers of lists, one after the other
-pub parts_of_lists : (front back : List Network) (l r b halfl halfr : Network) → IsSubnetOf l halfl → IsSubnetOf r halfr
-    → AreDisjoint halfl halfr → IsSubnetOf halfl b → IsSubnetOf halfr b → IsAroundBoth b halfl halfr
+-- parts of lists in blocks, and in smaller blocks
+pub parts_within : (front back : List Network) (l r b halfl halfr : Network)
+    → AreParts (IsCoveredBy front) (IsCoveredBy back) (IsCoveredBy (front ++ back)) halfl halfr b
+    → IsSubnetOf l halfl → IsSubnetOf r halfr
     → AreParts (IsCoveredBy front) (IsCoveredBy back) (IsCoveredBy (front ++ back)) l r b
-parts_of_lists front back l r b halfl halfr in_l in_r apart l_in r_in around = record {
-  disjoint = λ x a c. apart x (in_l x a) (in_r x c);
-  around = λ n x y nx lx ny ry. around n x y nx (in_l x lx) ny (in_r y ry);
-  first_within = λ x a. l_in x (in_l x a);
-  second_within = λ x a. r_in x (in_r x a);
-  parts = λ x. cover_append front back x;
+parts_within front back l r b halfl halfr h in_l in_r = record {
+  disjoint = λ x a c. h.disjoint x (in_l x a) (in_r x c);
+  around = λ n x y nx lx ny ry. h.around n x y nx (in_l x lx) ny (in_r y ry);
+  first_within = λ x a. h.first_within x (in_l x a);
+  second_within = λ x a. h.second_within x (in_r x a);
+  parts = h.parts;
 }
 
 -- ---- the answer

@@ -29,7 +29,7 @@ loop-place-preserved g c =
     let size = length-map list (λ r. ip_network r.0) in
     let at : Contains (ip_networks list) e = value_at (λ r. ip_network r.0) list (place - 1) d
     (omega (arith, c.loop-place.invariant.within, c.requires.within, c.requires.links.within)) in
-    searched_on (ip_networks list) c.requires.table (ip_network c.args.network.now) c.args.limit place
+    searched_on (ip_networks list) (ip_network c.args.network.now) c.args.limit c.requires.table place
     (get_or c.args.enclosing.now (place - 1) 0) e at (omega arith) c.requires.up_to
     (false_gives c.contains.result c.contains.ensures c.if-contains.false)
     (c.requires.links.nearest e at 0 (omega (arith, c.loop-place.invariant.within, c.requires.within)))

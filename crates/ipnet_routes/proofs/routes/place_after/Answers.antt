@@ -27,7 +27,7 @@ loop-low-preserved-then-lt g c =
       c.probe-middle.ensures.below,
       c.loop-low.invariant.within,
     )))
-    c.probe-middle.ensures.from c.probe-middle.ensures.below
+    c.probe-middle.ensures.from
     (less_gives c.args.network.now e (c.ip_nets_compare_by_network.ensures.compare c.args.network.now e)
     (sym c.lt.ensures ∙ c.if-lt.true)) c.loop-low.invariant
 

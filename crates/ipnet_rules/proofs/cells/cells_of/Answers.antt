@@ -18,8 +18,14 @@ loop-place-preserved c =
       c.paint_all.ensures.skips,
       painted.cells ∙ h.1,
       painted.of_free ∙ h.2,
-      owners_next f c.args.rules.now cuts place _ c.in_ok-pieces.pieces.items old new c.loop-place-test.true h.1 h.2
-          c.in_ok-pieces.ensures painted h.3,
+      owners_next f c.args.rules.now cuts place old new h.1 h.2 (record {
+        within = c.loop-place-test.true;
+        default = _;
+        pieces = c.in_ok-pieces.pieces.items;
+        pieces_are = c.in_ok-pieces.ensures;
+        skips = c.paint_all.ensures.skips;
+        painted = painted;
+      }) h.3,
     )
 
 pub returns : goal.returns

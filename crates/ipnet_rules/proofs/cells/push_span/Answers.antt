@@ -1,7 +1,7 @@
 -- The cells up to the next owner more, until the span ends.
-use Rattle.std.proofs.Common.{◌≡◌, ◌<◌, [], ◌∷◌, ◌++◌, length, slice_index, arith, ap, sym, ◌∙◌}
+use Rattle.std.proofs.Common.{◌≡◌, ◌<◌, [], ◌∷◌, ◌++◌, length, slice_index, arith, ap, sym, subst₂, ◌∙◌}
 use Rattle.ipnet_base.proofs.ListLaws.{at_place}
-use Rattle.ipnet_rules.proofs.CellLaws.{added_none, added_next, added_all}
+use Rattle.ipnet_rules.proofs.CellLaws.{AreAddedTo, added_none, added_next, added_all}
 use Rattle.ipnet_rules.proofs.cells.push_span.Goals as goal
 
 pub loop-cell-init : goal.loop-cell-init
@@ -26,8 +26,9 @@ loop-cell-preserved c = (
       sym (at_place owners cell 0 c.index.result.now inside ∙ sym c.index.ensures) in
       let pushed : c.push.new.self.items ≡ c.loop-cell.found.items ++ slice_index owners cell ∷ [] =
       c.in_ok-push.ensures.items ∙ ap (λ z. c.loop-cell.found.items ++ z ∷ []) owner in
-      added_next owners cells.nexts.items c.args.span cell _ c.args.found.now.items c.loop-cell.found.items _
-      nexts inside h.0 (omega (arith, c.loop-cell-test.true)) next (h.1 nexts) pushed,
+      subst₂ (λ n l. AreAddedTo owners c.args.span n c.args.found.now.items l) (sym next) (sym pushed)
+      (added_next owners cells.nexts.items c.args.span cell c.args.found.now.items c.loop-cell.found.items nexts inside
+      (h.0, omega (arith, c.loop-cell-test.true)) (h.1 nexts)),
 )
 
 pub returns : goal.returns

@@ -76,16 +76,26 @@ loop-place-preserved-then-is_free c =
     let here : c.loop-place.place ≡ i + 1 = omega (arith, c.loop-place-test.true) in
     let owned = c.if-owner-rules.true in record {
       within = omega (arith, h.within);
-      ipv4 = painted_next Ipv4 rules four kept _ _ c.in_ok-pieces.pieces.items c.loop-place.ipv4_painting
-          c.paint_all.new.self (omega (arith, owned, h.from.flags)) owned h.ipv4 c.in_ok-pieces.ensures
-          c.paint_all.ensures.skips
-          (painted_as _ _ _ _ _ _ _ c.as_slice.ensures.value c.as_slice-then-is_free.ensures.value
-          c.paint_all.ensures.painted);
-      ipv6 = painted_next Ipv6 rules six kept _ _ c.in_ok-pieces-2.pieces.items c.loop-place.ipv6_painting
-          c.paint_all-then-is_free.new.self (omega (arith, owned, h.from.flags)) owned h.ipv6 c.in_ok-pieces-2.ensures
-          c.paint_all-then-is_free.ensures.skips
-          (painted_as _ _ _ _ _ _ _ c.as_slice-then-is_free-2.ensures.value c.as_slice-then-is_free-3.ensures.value
-          c.paint_all-then-is_free.ensures.painted);
+      ipv4 = painted_next Ipv4 rules four kept _ c.loop-place.ipv4_painting c.paint_all.new.self
+          (omega (arith, owned, h.from.flags)) h.ipv4 (record {
+            within = owned;
+            default = _;
+            pieces = c.in_ok-pieces.pieces.items;
+            pieces_are = c.in_ok-pieces.ensures;
+            skips = c.paint_all.ensures.skips;
+            painted = painted_as _ _ _ _ _ _ _ c.as_slice.ensures.value c.as_slice-then-is_free.ensures.value
+                c.paint_all.ensures.painted;
+          });
+      ipv6 = painted_next Ipv6 rules six kept _ c.loop-place.ipv6_painting c.paint_all-then-is_free.new.self
+          (omega (arith, owned, h.from.flags)) h.ipv6 (record {
+            within = owned;
+            default = _;
+            pieces = c.in_ok-pieces-2.pieces.items;
+            pieces_are = c.in_ok-pieces-2.ensures;
+            skips = c.paint_all-then-is_free.ensures.skips;
+            painted = painted_as _ _ _ _ _ _ _ c.as_slice-then-is_free-2.ensures.value
+                c.as_slice-then-is_free-3.ensures.value c.paint_all-then-is_free.ensures.painted;
+          });
       from = kept_more rules four six c.requires.ipv4 c.requires.ipv6 list c.requires.list i _ kept _
           (is_at list i _ less)
           (painted_for _ rules four six kept c.loop-place.ipv4_painting c.loop-place.ipv6_painting h.ipv4 h.ipv6)

@@ -1,7 +1,7 @@
 -- Each boundary counts the first range that is left, and the rest stays to be counted.
 use Rattle.std.proofs.Common.{◌≡◌, ◌∷◌, map, sym, ap, ◌∙◌}
 use Rattle.ipnet_sets.specs.SetRanges.{range_of}
-use Rattle.ipnet_sets.specs.BoundaryRanges.{ranges_of, count_of}
+use Rattle.ipnet_sets.specs.BoundaryRanges.{ranges_of}
 use Rattle.ipnet_sets.proofs.SetRangeLaws.{boundaries_after}
 use Rattle.ipnet_sets.proofs.CountLaws.{first_ordered, counting_more}
 use Rattle.ipnet_sets.proofs.boundaries.count.Goals as goal
@@ -28,7 +28,7 @@ loop-range-preserved g c =
       boundaries =
           boundaries_after number family xs left c.after_first_range-left.ensures c.loop-range.invariant.boundaries;
       counted = counting_more family c.loop-range.total (number c.in-Some.range.first) (number c.in-Some.range.last)
-          c.distance_to.result (ranges_of family (map number xs)) (ranges_of family (map number left))
-          (count_of (ranges_of family (map number c.args.boundaries.now))) split c.distance_to.ensures
-          c.loop-range.invariant.counted;
+          c.distance_to.result (ranges_of family (map number xs)) (ranges_of family (map number left)) split
+          c.distance_to.ensures
+          ∙ c.loop-range.invariant.counted;
     }

@@ -31,9 +31,13 @@ returns-else-place-boundaries g c =
           c.boundaries_up_to-place.ensures
           c.requires.boundaries.ascending (omega arith)
           (λ m d. omega (arith, at d, true_gives c.is_below.result c.is_below.ensures t)),
-      λ h. c.is_below.ensures.1 (inside_before_boundary boundaries (number c.args.first) (number c.args.last) place
-          (number boundary)
-          c.boundaries_up_to-place.ensures c.requires.boundaries.ascending (omega arith) (omega (arith, size)) at h),
+      λ h. c.is_below.ensures.1 (omega (
+        arith,
+        at 0,
+        inside_before_boundary boundaries (number c.args.first)
+            (number c.args.last) place c.boundaries_up_to-place.ensures c.requires.boundaries.ascending (omega arith)
+            (omega (arith, size)) h 0,
+      )),
     )
 
 pub returns-else-place-eq1 : goal.returns-else-place-eq1

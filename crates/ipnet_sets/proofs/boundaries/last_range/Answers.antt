@@ -1,6 +1,7 @@
 -- The last range begins at the last boundary, and runs to the family's end, or it begins at the boundary before the
 -- last one.
-use Rattle.std.proofs.Common.{◌≡◌, ◌+◌, ◌-◌, ◌%◌, ◌<◌, ◌∷◌, [], ◌++◌, get_or, length, map, take, sym, ap, ◌∙◌, arith}
+use Rattle.std.proofs.Common.{◌≡◌, ◌+◌, ◌-◌, ◌%◌, ◌<◌, ◌∷◌, [], ◌++◌, get_or, length, map, take, sym, ap, ◌∙◌}
+use Rattle.std.proofs.Common.{subst, arith}
 use Rattle.std.proofs.lemmas.List.{length-map, take-map}
 use Rattle.ipnet_sets.specs.SetRanges.{range_of}
 use Rattle.ipnet_sets.specs.BoundaryRanges.{ranges_of, before_last}
@@ -56,11 +57,12 @@ returns-clause-some g c =
     let place : before_last words ≡ length words - 1 - 1 = omega (arith, two, odd) in
     let after = number_at number words (length words - 1) u c.index-boundaries-last-3.result (omega (arith, some))
     c.index-boundaries-last-3.is in
-    last_closed f (map number words) (length words - 1 - 1) s u (number c.previous.result) even
+    last_closed f (map number words) (length words - 1 - 1) s (number c.previous.result) even
     (omega (arith, size, two))
     (number_at number words (length words - 1 - 1) s c.index-boundaries-last-2.result (omega (arith, two))
     c.index-boundaries-last-2.is)
-    (ap (λ k. get_or (map number words) k u) next ∙ after) c.previous.ensures
+    (subst (λ z. get_or (map number words) (length words - 1 - 1 + 1) z ≡ z) (sym c.previous.ensures)
+    (ap (λ k. get_or (map number words) k u) next ∙ after))
     ∙ ap (λ z. ranges_of f z ++ range_of f s (number c.previous.result) ∷ [])
     (take-map number (length words - 1 - 1) words)
     ∙ ap (λ k. ranges_of f (map number (take k words)) ++ range_of f s (number c.previous.result) ∷ []) (sym place)

@@ -16,8 +16,12 @@ returns-clause-some c =
     (ip_valid c.args.other.now)
     (subst₂ (λ x y. AreSharedBits x y c.in_ok-shared.shared) c.addr-ip.ensures c.addr.ensures
     c.in_ok-shared.ensures.some)
-    (ap (λ z. z.family) made ∙ ap (λ z. z.family) c.addr-ip.ensures)
-    (ap (λ z. z.number) made ∙ ap (λ z. z.number) c.addr-ip.ensures)
-    (omega (arith, ap (λ z. z.prefix_len) made)) (omega (arith, ap (λ z. z.prefix_len) made))
-    (omega (arith, ap (λ z. z.prefix_len) made)) (λ l a b d. omega (arith, ap (λ z. z.prefix_len) made, a, b, d))
+    (record {
+      same_family = ap (λ z. z.family) made ∙ ap (λ z. z.family) c.addr-ip.ensures;
+      same_number = ap (λ z. z.number) made ∙ ap (λ z. z.number) c.addr-ip.ensures;
+      in_bits = omega (arith, ap (λ z. z.prefix_len) made);
+      in_first = omega (arith, ap (λ z. z.prefix_len) made);
+      in_second = omega (arith, ap (λ z. z.prefix_len) made);
+      longest = λ l a b d. omega (arith, ap (λ z. z.prefix_len) made, a, b, d);
+    })
     c.trunc.ensures

@@ -8,5 +8,5 @@ pub returns : goal.returns
 returns c =
     shared_bits (ipv6_address c.args.ip) (ipv6_address c.args.other) refl
     (subst (λ z. z < 2 ^ 128) c.to_bits.ensures (omega (arith, c.to_bits.type_inv)))
-    (subst (λ z. z < 2 ^ 128) c.to_bits-2.ensures (omega (arith, c.to_bits-2.type_inv))) 128
-    c.to_bits.result c.to_bits-2.result refl c.to_bits.ensures c.to_bits-2.ensures
+    (subst (λ z. z < 2 ^ 128) c.to_bits-2.ensures (omega (arith, c.to_bits-2.type_inv)))
+    c.to_bits.result c.to_bits-2.result c.to_bits.ensures c.to_bits-2.ensures

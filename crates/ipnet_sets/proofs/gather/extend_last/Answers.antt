@@ -1,5 +1,5 @@
 -- The last boundary stays, moves, or goes.
-use Rattle.std.proofs.Common.{◌≡◌, ◌+◌, ◌-◌, ◌%◌, ◌<◌, ◌≤◌, ◌++◌, ◌∷◌, [], ℕ, List, get_or, take, length, map, ap, ◌∙◌}
+use Rattle.std.proofs.Common.{◌≡◌, ◌+◌, ◌-◌, ◌%◌, ◌<◌, ◌≤◌, ◌++◌, ◌∷◌, [], ℕ, get_or, take, length, map, ap, ◌∙◌}
 use Rattle.std.proofs.Common.{sym, subst}
 use Rattle.std.proofs.Common.{arith, inl, inr}
 use Rattle.std.proofs.Math.ListN.{set}
@@ -7,24 +7,9 @@ use Rattle.std.proofs.lemmas.Bool.{cases_lt}
 use Rattle.std.proofs.lemmas.List.{length-map, map-set, take-map}
 use Rattle.ipnet_base.proofs.ResultLaws.{true_gives, false_gives}
 use Rattle.ipnet_sets.specs.Gather.{IsJoined}
-use Rattle.ipnet_sets.proofs.InsideLaws.{number_at}
+use Rattle.ipnet_sets.proofs.InsideLaws.{last_at, not_below}
 use Rattle.ipnet_sets.proofs.JoinLaws.{end_inside, end_open, end_longer, set_last}
 use Rattle.ipnet_sets.proofs.gather.extend_last.Goals as goal
-
--- the number of the last word
-last_number : {X : Type 0} (number : X → ℕ) (words slice : List X) (boundary : X) → slice ≡ words → 0 < length words
-    → boundary ≡ get_or slice (length slice - 1) boundary → (d : ℕ)
-    → get_or (map number words) (length (map number words) - 1) d ≡ number boundary
-last_number number words slice boundary e some is d =
-    ap (λ k. get_or (map number words) (k - 1) d) (length-map words number)
-    ∙ number_at number words (length words - 1) d boundary (omega (arith, some))
-    (is ∙ ap (λ z. get_or z (length z - 1) boundary) e)
-
--- the number from which the range begins is not above it
-touches_last : (number_of words_size d : ℕ) (ts : List ℕ) (first : ℕ) → length ts ≡ words_size
-    → ((d : ℕ) → first ≤ get_or ts (words_size - 1) d) → get_or ts (length ts - 1) d ≡ number_of → first ≤ number_of
-touches_last n size d ts first e h at =
-    omega (arith, h d, ap (λ k. get_or ts (k - 1) d) e, at)
 
 pub returns-then-is_below : goal.returns-then-is_below
 returns-then-is_below g c =
@@ -34,11 +19,11 @@ returns-then-is_below g c =
     let end = number c.index-slice-end.result in
     let size = length-map words number in
     let at : (d : ℕ) → get_or old (length old - 1) d ≡ end
-    = last_number number words c.as_slice-slice.result.now c.index-slice-end.result c.as_slice-slice.ensures.value
-    c.requires.some c.index-slice-end.is in
+    = λ d. last_at number words c.index-slice-end.result d c.requires.some (c.index-slice-end.is
+    ∙ ap (λ z. get_or z (length z - 1) c.index-slice-end.result) c.as_slice-slice.ensures.value) in
     end_inside g.T.Number.family old end (number c.args.first) (number c.args.last) c.requires.boundaries
     (ap (λ n. n % 2) size ∙ c.requires.even) c.requires.begins (omega (arith, size, c.requires.some)) at
-    (touches_last end (length words) 0 old (number c.args.first) size c.requires.touches (at 0))
+    (omega (arith, c.requires.touches 0, at 0, ap (λ k. get_or old (k - 1) 0) size))
     (true_gives c.is_below.result c.is_below.ensures c.if-is_below.true)
 
 pub returns-then-is_below-2 : goal.returns-then-is_below-2
@@ -53,12 +38,9 @@ returns-then-is_below-2 g c =
     let size = length-map words number in
     let some : 0 < length old = omega (arith, size, c.requires.some) in
     let at : (d : ℕ) → get_or old (length old - 1) d ≡ end
-    = last_number number words slice c.index-slice-end.result c.as_slice-slice.ensures.value
-    c.requires.some c.index-slice-end.is in
-    let longer : end ≤ last = elim (cases_lt last end) [
-      | inl lt ↦ absurd (false_gives c.is_below.result c.is_below.ensures c.if-is_below.false lt)
-      | inr ge ↦ ge
-    ] in
+    = λ d. last_at number words c.index-slice-end.result d c.requires.some (c.index-slice-end.is
+    ∙ ap (λ z. get_or z (length z - 1) c.index-slice-end.result) c.as_slice-slice.ensures.value) in
+    let longer : end ≤ last = not_below last end c.is_below.result c.is_below.ensures c.if-is_below.false in
     let moved : map number (set words (length slice - 1) c.next.result) ≡ take (length old - 1) old ++ (last + 1) ∷ []
     = map-set number words (length slice - 1) c.next.result
     ∙ ap (λ k. set old (k - 1) (number c.next.result)) (ap length c.as_slice-slice.ensures.value ∙ sym size)
@@ -66,7 +48,7 @@ returns-then-is_below-2 g c =
     subst (IsJoined g.T.Number.family old first last) (sym moved)
     (end_longer g.T.Number.family old end first last c.requires.boundaries
     (ap (λ n. n % 2) size ∙ c.requires.even) c.requires.begins some at
-    (touches_last end (length words) 0 old first size c.requires.touches (at 0)) longer
+    (omega (arith, c.requires.touches 0, at 0, ap (λ k. get_or old (k - 1) 0) size)) longer
     (omega (arith, true_gives c.is_below-2.result c.is_below-2.ensures c.if-is_below-2.true, c.last.ensures)))
 
 pub returns-else-is_below-2 : goal.returns-else-is_below-2
@@ -79,14 +61,14 @@ returns-else-is_below-2 g c =
     let end = number c.index-slice-end.result in
     let size = length-map words number in
     let at : (d : ℕ) → get_or old (length old - 1) d ≡ end
-    = last_number number words c.as_slice-slice.result.now c.index-slice-end.result c.as_slice-slice.ensures.value
-    c.requires.some c.index-slice-end.is in
+    = λ d. last_at number words c.index-slice-end.result d c.requires.some (c.index-slice-end.is
+    ∙ ap (λ z. get_or z (length z - 1) c.index-slice-end.result) c.as_slice-slice.ensures.value) in
     let popped : map number c.pop.new.self.items ≡ take (length old - 1) old
     = ap (map number) c.pop.ensures.rest ∙ sym (take-map number _ words) ∙ ap (λ k. take k old) (omega (arith, size)) in
     subst (IsJoined g.T.Number.family old first last) (sym popped)
     (end_open g.T.Number.family old end first last c.requires.boundaries
     (ap (λ n. n % 2) size ∙ c.requires.even) c.requires.begins (omega (arith, size, c.requires.some)) at
-    (touches_last end (length words) 0 old first size c.requires.touches (at 0))
+    (omega (arith, c.requires.touches 0, at 0, ap (λ k. get_or old (k - 1) 0) size))
     (elim (cases_lt last (number c.last.result)) [
       | inl lt ↦ absurd (false_gives c.is_below-2.result c.is_below-2.ensures c.if-is_below-2.false lt)
       | inr ge ↦ omega (arith, ge, c.last.ensures, c.requires.fits)

@@ -40,8 +40,8 @@ returns-clause-members g c =
     ≡ (is_inside (map number in_order) x || is_inside (map number late) x))
     (λ all. (x : ℕ) → x ≤ greatest_number g.T.Number.family → (is_inside (map number all.items) x ≡ true)
     ↔ IsHeld number in_order c.args.waiting.items x)
-    (λ all h. held_in_union number g.T.Number.family in_order late all.items c.args.waiting.items
-    c.in_ok-late.ensures.members h)
+    (λ all h x le. held_in_union number in_order late all.items c.args.waiting.items x
+    (c.in_ok-late.ensures.members x le) (h x))
     (subst₂ (λ one two. IfOk c.combine.result (λ all. (x : ℕ) → is_inside (map number all.items) x
     ≡ (is_inside (map number one) x || is_inside (map number two) x)))
     c.as_slice-2.ensures.value c.as_slice-3.ensures.value c.combine.ensures.members)

@@ -1,6 +1,6 @@
 -- Only the value of the route before the place is lent: the networks of the chunk, and so of all, stay as they are.
-use Rattle.std.proofs.Common.{◌≡◌, ◌<◌, ◌≤◌, length, Contains, true, refl, sym, ap, ◌∙◌, subst, arith}
-use Rattle.std.proofs.Common.{set, suc, get_or, false}
+use Rattle.std.proofs.Common.{◌≡◌, ◌≤◌, length, Contains, true, refl, sym, ap, ◌∙◌, subst, arith}
+use Rattle.std.proofs.Common.{set, suc, false}
 use Rattle.std.specs.Vec.{with_item}
 use Rattle.std.proofs.lemmas.List.{length-set, get_or_default}
 use Rattle.std.proofs.lemmas.List.Elements.{All-set}
@@ -12,8 +12,8 @@ use Rattle.ipnet_routes.specs.Routes.{ip_networks, ip_routes}
 use Rattle.ipnet_routes.specs.RouteSteps.{IsPlaceAfter}
 use Rattle.ipnet_routes.specs.RouteMaps.{IsWithRoute}
 use Rattle.ipnet_routes.specs.RouteMapSteps.{all_of, chunk_at, position_of}
-use Rattle.ipnet_routes.proofs.ChunkLaws.{chunk_only, read_in_chunk}
-use Rattle.ipnet_routes.proofs.RouteMapLaws.{items, chunk_inside}
+use Rattle.ipnet_routes.proofs.ChunkLaws.{read_in_chunk}
+use Rattle.ipnet_routes.proofs.RouteMapLaws.{items, IsHeldAt, held_at}
 use Rattle.ipnet_routes.proofs.KnownLengthLaws.{known_put}
 use Rattle.ipnet_routes.proofs.RouteMapChanges.{has_cut, out_cut, exchanged, value_of, value_set, Filled}
 use Rattle.ipnet_routes.proofs.route_map.RouteMap.get_mut.Goals as goal
@@ -45,18 +45,16 @@ invariant_of-self-lent g c w =
     let chunk = c.index_mut.result.now in
     let route = c.index_mut-2.result.now in
     let value : c.as_slice-chunks.result.now ≡ cs = c.as_slice-chunks.ensures.value in
-    let at : get_or cs before.chunk chunk ≡ chunk = sym c.index_mut.ensures.value in
     let some : place.index ≤ length (chunk_at cs place.chunk)
     = subst (λ z. place.index ≤ length (chunk_at z place.chunk)) value c.place_after_all-place.ensures.index in
-    let within : before.chunk < length cs = subst (λ z. z < length cs) (sym c.before-place.ensures.chunk)
-    (chunk_inside cs place.chunk (omega (arith, some, c.before-place.ensures.index))) in
-    let inside : before.index < length chunk.items = omega (
+    let held : IsHeldAt cs before.chunk before.index chunk route
+    = held_at cs before.chunk before.index chunk route (sym c.index_mut.ensures.value) c.index_mut-2.ensures.value
+    (omega (
       arith,
       some,
       c.before-place.ensures.index,
       ap (λ z. length (chunk_at cs z)) c.before-place.ensures.chunk,
-      ap length (chunk_only items cs before.chunk chunk within at),
-    ) in
+    )) in
     let made = exchanged (all_of cs) c.args.self.now.table t (position_of cs place.chunk place.index)
     (position_of cs before.chunk before.index)
     (subst (λ z. IsPlaceAfter (ip_networks (all_of z)) t (position_of z place.chunk place.index)) value
@@ -65,11 +63,11 @@ invariant_of-self-lent g c w =
     (true_gives c.is_behind.result c.is_behind.ensures.has c.if-not-is_behind.false))
     (omega (arith, ap (λ z. position_of cs z before.index) c.before-place.ensures.chunk, c.before-place.ensures.index))
     (all_of (set cs before.chunk (with_item chunk before.index (route.0, w)))) w
-    (value_set cs before.chunk before.index chunk route w within at inside c.index_mut-2.ensures.value) in (
+    (value_set cs before.chunk before.index chunk route held w) in (
       made.0,
       (
         All-set Filled cs before.chunk (with_item chunk before.index (route.0, w))
-            (omega (arith, inside, length-set chunk.items before.index (route.0, w))) c.args.self.now.filled,
+            (omega (arith, held.within, length-set chunk.items before.index (route.0, w))) c.args.self.now.filled,
         (
           known_put c.args.self.now.lengths.masks.items c.args.self.now.lengths.width (all_of cs)
               (all_of (set cs before.chunk (with_item chunk before.index (route.0, w)))) t w made.1
@@ -91,18 +89,16 @@ returns g c =
     let chunk = c.index_mut.result.now in
     let route = c.index_mut-2.result.now in
     let value : c.as_slice-chunks.result.now ≡ cs = c.as_slice-chunks.ensures.value in
-    let at : get_or cs before.chunk chunk ≡ chunk = sym c.index_mut.ensures.value in
     let some : place.index ≤ length (chunk_at cs place.chunk)
     = subst (λ z. place.index ≤ length (chunk_at z place.chunk)) value c.place_after_all-place.ensures.index in
-    let within : before.chunk < length cs = subst (λ z. z < length cs) (sym c.before-place.ensures.chunk)
-    (chunk_inside cs place.chunk (omega (arith, some, c.before-place.ensures.index))) in
-    let inside : before.index < length chunk.items = omega (
+    let held : IsHeldAt cs before.chunk before.index chunk route
+    = held_at cs before.chunk before.index chunk route (sym c.index_mut.ensures.value) c.index_mut-2.ensures.value
+    (omega (
       arith,
       some,
       c.before-place.ensures.index,
       ap (λ z. length (chunk_at cs z)) c.before-place.ensures.chunk,
-      ap length (chunk_only items cs before.chunk chunk within at),
-    ) in
+    )) in
     let after : IsPlaceAfter (ip_networks (all_of cs)) t (position_of cs place.chunk place.index)
     = subst (λ z. IsPlaceAfter (ip_networks (all_of z)) t (position_of z place.chunk place.index)) value
     c.place_after_all-place.ensures.place in
@@ -122,7 +118,7 @@ returns g c =
             (exchanged (all_of cs) c.args.self.now.table t (position_of cs place.chunk place.index)
             (position_of cs before.chunk before.index) after has next
             (all_of (set cs before.chunk (with_item chunk before.index (route.0, w)))) w
-            (value_set cs before.chunk before.index chunk route w within at inside c.index_mut-2.ensures.value)).1,
+            (value_set cs before.chunk before.index chunk route held w)).1,
         refl,
       ),
       record {
@@ -134,7 +130,8 @@ returns g c =
         some = subst (λ z. Contains (ip_routes (all_of cs)) (z, route.1)) same (value_of (all_of cs)
             c.args.self.now.table t (position_of cs place.chunk place.index) (position_of cs before.chunk before.index)
             after has next route.1 (λ d. ap (λ z. z.1) (c.index_mut-2.ensures.value
-            ∙ get_or_default chunk.items before.index route d inside
-            ∙ sym (read_in_chunk items cs before.chunk chunk within at before.index d inside))));
+            ∙ get_or_default chunk.items before.index route d held.within
+            ∙ sym (read_in_chunk items cs before.chunk chunk held.chunk_within held.chunk_is before.index d
+            held.within))));
       },
     )

@@ -25,7 +25,7 @@ loop-low-preserved-then-lt g c =
     place_down (firsts_of cs) (firsts_table cs c.requires.table c.requires.filled) n c.loop-low.low c.loop-low.high
     (first_network chunk.items)
     (chunk_first cs c.requires.table c.requires.filled middle chunk inside (sym c.index-chunks-middle.is))
-    c.probe-middle.ensures.from c.probe-middle.ensures.below
+    c.probe-middle.ensures.from
     (subst (IsBefore n)
     (sym (first_is chunk.items route
     (subst (λ z. 0 < length z.items) (sym c.index-chunks-middle.is) (c.requires.filled middle chunk inside))

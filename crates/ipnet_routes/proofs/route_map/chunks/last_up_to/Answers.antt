@@ -1,5 +1,5 @@
 -- The last route up to the network is the one before the place after it.
-use Rattle.std.proofs.Common.{◌≡◌, ◌<◌, ◌≤◌, length, arith, sym, subst}
+use Rattle.std.proofs.Common.{◌<◌, ◌≤◌, length, arith, sym, subst}
 use Rattle.ipnet.specs.NetworkOf.{ip_network}
 use Rattle.ipnet_routes.proofs.ChunkLaws.{chunk_only}
 use Rattle.ipnet_routes.proofs.RouteMapLaws.{items, chunk_inside, last_behind}

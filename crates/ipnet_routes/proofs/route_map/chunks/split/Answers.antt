@@ -19,7 +19,7 @@ returns-clause-filled g c =
     let read : c.index.result.now ≡ chunk
     = c.index.ensures ∙ get_or_default rs i c.index.result.now chunk inside ∙ sym c.index_mut.ensures.value in
     let size = ap (λ z. length z.items) read in
-    filled_with rs c.insert.new.self.items i (i + 1) kept others c.in-Ok.ensures.items
+    subst AreFilled (sym c.in-Ok.ensures.items) (filled_with rs i (i + 1) kept others
     (subst (λ z. AreFilled z) (sym same) c.requires.filled)
     (omega (
       arith,
@@ -34,7 +34,7 @@ returns-clause-filled g c =
       length-drop c.kept_of-kept.result chunk.items,
       size,
       c.kept_of-kept.ensures.not_all,
-    ))
+    )))
 
 pub returns-clause-unchanged : goal.returns-clause-unchanged
 returns-clause-unchanged g c =

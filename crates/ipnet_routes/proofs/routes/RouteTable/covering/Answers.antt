@@ -5,9 +5,8 @@ use Rattle.std.proofs.lemmas.List.{length-map}
 use Rattle.ipnet.specs.NetworkOf.{ip_network}
 use Rattle.ipnet.specs.NetLaws.{ip_valid}
 use Rattle.ipnet_routes.specs.Routes.{ip_networks, ip_routes}
-use Rattle.ipnet_routes.specs.RouteSteps.{IsPlaceAfter, IsNearest}
 use Rattle.ipnet_routes.proofs.RouteLaws.{network_of_route, all_valid, same_networks, read_at}
-use Rattle.ipnet_routes.proofs.CoveringLaws.{none_contains, longest_found}
+use Rattle.ipnet_routes.proofs.CoveringLaws.{IsSearched, none_contains, longest_found}
 use Rattle.ipnet_routes.proofs.routes.RouteTable.covering.Goals as goal
 
 pub nearest-place-requires-clause-up_to : goal.nearest-place-requires-clause-up_to
@@ -20,12 +19,16 @@ returns-then-place-eq0-clause-none g c =
     let n = ip_network c.args.network.now in
     let limit = c.place_after-limit.result in
     let place = c.nearest-place.result in
-    let after : IsPlaceAfter (ip_networks list) n limit
-    = subst (λ z. IsPlaceAfter (ip_networks z) n limit) c.as_slice-routes.ensures.value c.place_after-limit.ensures in
-    let found : IsNearest (ip_networks list) n limit place
-    = subst (λ z. IsNearest (ip_networks z) n limit place) c.as_slice-routes.ensures.value c.nearest-place.ensures in (
-      λ e k has sub. none_contains (ip_networks list) (all_valid list) table.table n (ip_valid c.args.network.now) limit
-          place c.if-place-eq0.true after found k (subst (λ z. Contains z k) (same_networks list) has) sub,
+    let searched : IsSearched (ip_networks list) n place = record {
+      valid = all_valid list;
+      table = table.table;
+      network = ip_valid c.args.network.now;
+      limit = limit;
+      after = rw (sym c.as_slice-routes.ensures.value) c.place_after-limit.ensures;
+      nearest = rw (sym c.as_slice-routes.ensures.value) c.nearest-place.ensures;
+    } in (
+      λ e k has sub. none_contains (ip_networks list) n place searched c.if-place-eq0.true k
+          (subst (λ z. Contains z k) (same_networks list) has) sub,
       λ h. refl,
     )
 
@@ -37,20 +40,23 @@ returns-clause-some g c =
     let limit = c.place_after-limit.result in
     let place = c.nearest-place.result in
     let route = c.index.result.now in
-    let after : IsPlaceAfter (ip_networks list) n limit
-    = subst (λ z. IsPlaceAfter (ip_networks z) n limit) c.as_slice-routes.ensures.value c.place_after-limit.ensures in
-    let found : IsNearest (ip_networks list) n limit place
-    = subst (λ z. IsNearest (ip_networks z) n limit place) c.as_slice-routes.ensures.value c.nearest-place.ensures in
+    let searched : IsSearched (ip_networks list) n place = record {
+      valid = all_valid list;
+      table = table.table;
+      network = ip_valid c.args.network.now;
+      limit = limit;
+      after = rw (sym c.as_slice-routes.ensures.value) c.place_after-limit.ensures;
+      nearest = rw (sym c.as_slice-routes.ensures.value) c.nearest-place.ensures;
+    } in
     let some : place - 1 < length list
-    = omega (arith, found.within, after.within, length-map list (λ r. ip_network r.0)) in
+    = omega (arith, searched.nearest.within, searched.after.within, length-map list (λ r. ip_network r.0)) in
     let at : Contains (ip_networks list) (ip_network route.0)
     = read_at (λ r. ip_network r.0) list (place - 1) route some c.index.ensures in
     record {
       member = read_at (λ r. (ip_network r.0, r.1)) list (place - 1) route some c.index.ensures;
-      holds = found.holds (ip_network route.0) at (omega arith);
-      longest = λ other has sub. longest_found (ip_networks list) (all_valid list) table.table n
-          (ip_valid c.args.network.now) limit place (ip_network route.0) at (omega arith) after found other.0
-          (network_of_route list other has) sub;
+      holds = searched.nearest.holds (ip_network route.0) at (omega arith);
+      longest = λ other has sub. longest_found (ip_networks list) n place searched (ip_network route.0) at (omega arith)
+          other.0 (network_of_route list other has) sub;
     }
 
 pub returns-clause-none : goal.returns-clause-none

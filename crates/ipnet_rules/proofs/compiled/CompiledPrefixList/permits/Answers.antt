@@ -15,7 +15,9 @@ returns-in-V4 c =
     c.from-number.ensures ∙ c.to_bits.ensures ∙ ap (λ x. x.number) c.addr.ensures in
     subst (λ n. IsTrue c.permits.result ↔ IsRoutePermitted rules (ip_network n)) (sym c.in-V4.is)
     (permits_network rules c.args.self.now.ipv4 k c.from-number.result c.prefix_len.result c.permits.result
-    (ipv4_valid c.in-V4.network) number c.prefix_len.ensures c.args.self.now.of_ipv4 c.permits.ensures)
+    (ipv4_valid c.in-V4.network)
+    (λ i. record { family = k.family; number = number i; prefix_len = c.prefix_len.ensures i })
+    c.args.self.now.of_ipv4 c.permits.ensures)
 
 pub returns-in-V6 : goal.returns-in-V6
 returns-in-V6 c =
@@ -25,5 +27,6 @@ returns-in-V6 c =
     c.to_bits-number.ensures ∙ ap (λ x. x.number) c.addr-in-V6.ensures in
     subst (λ n. IsTrue c.permits-in-V6.result ↔ IsRoutePermitted rules (ip_network n)) (sym c.in-V6.is)
     (permits_network rules c.args.self.now.ipv6 k c.to_bits-number.result c.prefix_len-in-V6.result
-    c.permits-in-V6.result (ipv6_valid c.in-V6.network) number c.prefix_len-in-V6.ensures c.args.self.now.of_ipv6
-    c.permits-in-V6.ensures)
+    c.permits-in-V6.result (ipv6_valid c.in-V6.network)
+    (λ i. record { family = k.family; number = number i; prefix_len = c.prefix_len-in-V6.ensures i })
+    c.args.self.now.of_ipv6 c.permits-in-V6.ensures)

@@ -41,7 +41,7 @@ returns-in-Some c = λ f list h fits le.
     let flags_are : get_or v.permitted.items len flags ≡ flags = search rules in
     let b = c.index-in-Some.result.now in
     let flag_is : get_or flags.items cell b ≡ b = search rules in
-    permits_at f list v cell c.args.number len flags b h inside fits le flags_are flag_is
+    permits_at f list v c.args.number len h fits le cell flags b inside flags_are flag_is
 
 pub returns-in-None : goal.returns-in-None
 returns-in-None c = λ f list h fits le.
@@ -49,5 +49,5 @@ returns-in-None c = λ f list h fits le.
     let none = subst (λ cuts. (cell : ℕ) → IsInCell cuts cell c.args.number → ⊥) c.as_slice.ensures.value
     (c.in-None.ensures.none refl) in (
       λ e. absurd (cc),
-      λ p. absurd (permits_nothing f list v c.args.number c.args.prefix_len h none fits le p),
+      λ p. absurd (permits_nothing f list v c.args.number c.args.prefix_len h fits le none p),
     )

@@ -1,18 +1,18 @@
-use Rattle.std.proofs.Common.{◌≡◌, ℕ, ◌+◌, ◌-◌, ◌<◌, ◌≤◌, get_or, length, sym, ap, ◌∙◌, refl, arith, rules, inl, inr}
-use Rattle.std.proofs.lemmas.Bool.{cases_lt, false≢true}
+use Rattle.std.proofs.Common.{◌≡◌, ℕ, ◌+◌, ◌-◌, ◌<◌, ◌≤◌, get_or, length, sym, ap, ◌∙◌, refl, arith, rules}
+use Rattle.std.proofs.lemmas.Bool.{false≢true}
 use Rattle.ipnet_base.specs.Address.{greatest_number}
-use Rattle.ipnet_base.proofs.ResultLaws.{true_gives, false_gives}
+use Rattle.ipnet_base.proofs.ResultLaws.{true_gives}
 use Rattle.ipnet_sets.specs.Images.{numbers_from}
+use Rattle.ipnet_sets.proofs.InsideLaws.{not_below}
 use Rattle.ipnet_sets.proofs.ImageLaws.{length-numbers_from, at_numbers, rising_first, rising_more, rising_all}
 use Rattle.ipnet_sets.proofs.ImageLaws.{no_boundaries, not_rising}
 use Rattle.ipnet_sets.proofs.image.stored.are_boundaries.Goals as goal
 
 pub returns-then-place-eq0 : goal.returns-then-place-eq0
 returns-then-place-eq0 g c =
-    let w = g.T.StoredNumber.width in
-    let size = length-numbers_from w c.args.place.count c.args.bytes.now c.args.place.start in (
-      λ t. no_boundaries g.T.Number.family (numbers_from w c.args.place.count c.args.bytes.now c.args.place.start)
-          (omega (arith, size)),
+    let place = c.args.place in
+    let size = length-numbers_from g.T.StoredNumber.width place.count c.args.bytes.now place.start in (
+      λ t. no_boundaries g.T.Number.family _ (omega (arith, size)),
       λ h. refl,
     )
 
@@ -40,10 +40,8 @@ returns-then-not-is_below g c =
     let size = length-numbers_from w c.args.place.count c.args.bytes.now c.args.place.start in
     let l : c.loop-index.index < length ns = omega (arith, size) in
     let le : number c.read-number.result ≤ number c.loop-index.previous
-    = elim (cases_lt (number c.loop-index.previous) (number c.read-number.result)) [
-      | inl lt ↦ absurd (false_gives c.is_below.result c.is_below.ensures (search rules) lt)
-      | inr ge ↦ ge
-    ] in (
+    = not_below (number c.loop-index.previous) (number c.read-number.result) c.is_below.result
+    c.is_below.ensures (search rules) in (
       λ t. absurd (false≢true t),
       λ h. absurd (not_rising g.T.Number.family ns c.loop-index.index (number c.loop-index.previous)
           (number c.read-number.result) c.loop-index.invariant.some l c.loop-index.invariant.last
@@ -72,10 +70,10 @@ loop-index-preserved g c =
 
 pub returns : goal.returns
 returns g c =
-    let w = g.T.StoredNumber.width in
-    let ns = numbers_from w c.args.place.count c.args.bytes.now c.args.place.start in
-    let size = length-numbers_from w c.args.place.count c.args.bytes.now c.args.place.start in (
-      λ t. rising_all g.T.Number.family ns c.loop-index.index (g.T.Number.number c.loop-index.previous)
-          (omega (arith, size)) c.loop-index.invariant.rising,
+    let place = c.args.place in
+    let size = length-numbers_from g.T.StoredNumber.width place.count c.args.bytes.now place.start in (
+      λ t. rising_all g.T.Number.family (numbers_from g.T.StoredNumber.width place.count c.args.bytes.now place.start)
+          c.loop-index.index (g.T.Number.number c.loop-index.previous) (omega (arith, size))
+          c.loop-index.invariant.rising,
       λ h. refl,
     )

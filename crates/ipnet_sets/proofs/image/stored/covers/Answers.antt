@@ -1,8 +1,9 @@
 -- All the numbers are inside if and only if the first is, and the set has no boundary up to the last.
-use Rattle.std.proofs.Common.{◌≡◌, ◌%◌, ◌<◌, ◌≤◌, ℕ, get_or, length, sym, ◌∙◌, refl, arith, inl, inr}
-use Rattle.std.proofs.lemmas.Bool.{cases_lt, false≢true}
-use Rattle.ipnet_base.proofs.ResultLaws.{true_gives, false_gives}
+use Rattle.std.proofs.Common.{◌≡◌, ◌%◌, ◌<◌, ◌≤◌, ℕ, get_or, length, sym, ◌∙◌, refl, arith}
+use Rattle.std.proofs.lemmas.Bool.{false≢true}
+use Rattle.ipnet_base.proofs.ResultLaws.{true_gives}
 use Rattle.ipnet_sets.specs.Images.{numbers_from}
+use Rattle.ipnet_sets.proofs.InsideLaws.{not_below}
 use Rattle.ipnet_sets.proofs.SplitLaws.{inside_to_the_end, inside_before_boundary, first_inside_is_odd}
 use Rattle.ipnet_sets.proofs.ImageLaws.{length-numbers_from, at_numbers}
 use Rattle.ipnet_sets.proofs.image.stored.covers.Goals as goal
@@ -12,10 +13,7 @@ returns-then-turned-eq0 g c =
     let number = g.T.Number.number in
     let boundaries = numbers_from g.T.StoredNumber.width c.args.place.count c.args.bytes.now c.args.place.start in
     let le : number c.args.first ≤ number c.args.last
-    = elim (cases_lt (number c.args.last) (number c.args.first)) [
-      | inl lt ↦ absurd (false_gives c.is_below.result c.is_below.ensures c.if-is_below.false lt)
-      | inr ge ↦ ge
-    ] in
+    = not_below (number c.args.last) (number c.args.first) c.is_below.result c.is_below.ensures c.if-is_below.false in
     λ h. (
       λ t. absurd (false≢true t),
       λ all. absurd (omega (
@@ -56,7 +54,10 @@ returns g c =
       λ t. inside_to_the_end boundaries (number c.args.first) (number c.args.last) turned
           (c.boundaries_up_to-turned.ensures.split h) h.ascending odd
           (λ m d. omega (arith, at d, true_gives c.is_below-2.result c.is_below-2.ensures t)),
-      λ all. c.is_below-2.ensures.1 (inside_before_boundary boundaries (number c.args.first) (number c.args.last) turned
-          boundary
-          (c.boundaries_up_to-turned.ensures.split h) h.ascending odd l at all),
+      λ all. c.is_below-2.ensures.1 (omega (
+        arith,
+        at 0,
+        inside_before_boundary boundaries (number c.args.first)
+            (number c.args.last) turned (c.boundaries_up_to-turned.ensures.split h) h.ascending odd l all 0,
+      )),
     )

@@ -40,6 +40,5 @@ returns-clause-members c = same c.args.operation _ c.args.self.now c.args.other.
 pub returns-clause-ranges : goal.returns-clause-ranges
 returns-clause-ranges c = no_more_ranges _ c.args.self.now c.args.other.now
     (no_more_boundaries c.args.self.now c.args.other.now c.in_ok-ipv4.ipv4.items c.in_ok-ipv6.ipv6.items
-    c.as_slice.result.now c.as_slice-3.result.now c.as_slice-2.result.now c.as_slice-4.result.now
-    c.as_slice.ensures.value c.as_slice-3.ensures.value c.as_slice-2.ensures.value c.as_slice-4.ensures.value
-    c.in_ok-ipv4.ensures.no_more c.in_ok-ipv6.ensures.no_more)
+    (rw (sym c.as_slice.ensures.value, sym c.as_slice-2.ensures.value) c.in_ok-ipv4.ensures.no_more)
+    (rw (sym c.as_slice-3.ensures.value, sym c.as_slice-4.ensures.value) c.in_ok-ipv6.ensures.no_more))

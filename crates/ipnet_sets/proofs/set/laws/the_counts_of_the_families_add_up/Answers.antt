@@ -14,7 +14,11 @@ apart e = absurd (cc)
 pub returns : goal.returns
 returns c s m n k h i j =
     counts_of_parts (IsMemberOf IPv4 s) (IsMemberOf IPv6 s) (IsMember s) m n k
-    (λ x. (
-      λ w. elim (one_family x.family) [ inl e ↦ inl (e, w) | inr e ↦ inr (e, w) ],
-      elim [ inl one ↦ one.1 | inr two ↦ two.1 ],
-    )) (λ x one two. apart (sym one.0 ∙ two.0)) h i j
+    (record {
+      members = λ x. (
+        λ w. elim (one_family x.family) [ inl e ↦ inl (e, w) | inr e ↦ inr (e, w) ],
+        elim [ inl one ↦ one.1 | inr two ↦ two.1 ],
+      );
+      apart = λ x one two. apart (sym one.0 ∙ two.0);
+    })
+    h i j

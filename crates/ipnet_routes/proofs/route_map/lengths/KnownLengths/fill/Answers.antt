@@ -4,7 +4,7 @@ use Rattle.std.proofs.lemmas.List.{take_all}
 use Rattle.ipnet_routes.specs.Routes.{ip_networks}
 use Rattle.ipnet_routes.specs.RouteMapSteps.{all_of}
 use Rattle.ipnet_routes.specs.RouteLengths.{AreKnown}
-use Rattle.ipnet_routes.proofs.KnownLengthLaws.{known_nothing, chunks_more}
+use Rattle.ipnet_routes.proofs.KnownLengthLaws.{chunks_more}
 use Rattle.ipnet_routes.proofs.route_map.lengths.KnownLengths.fill.Goals as goal
 
 pub loop-index-preserved : goal.loop-index-preserved

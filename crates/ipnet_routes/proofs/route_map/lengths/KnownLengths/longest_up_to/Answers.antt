@@ -12,9 +12,9 @@ returns-clause-some c =
     (λ longest is. (
       is.0,
       λ k known in_k le. is.1 k.prefix_len
-          (has_known s.masks.items s.width k (ip_address c.args.ip) c.region.result c.region.ensures known in_k
-          (omega (arith, c.if-region-len.false)) (omega (arith, le, c.if-limit-ge128.false)) c.index.result.now
-          c.index.ensures) le,
+          (has_known s.masks.items s.width (ip_address c.args.ip) c.region.result c.region.ensures k.prefix_len
+          (known.masked (ip_address c.args.ip) in_k (omega (arith, le, c.if-limit-ge128.false)))
+          (omega (arith, c.if-region-len.false)) c.index.result.now c.index.ensures) le,
     ))
 
 pub returns-clause-none : goal.returns-clause-none
@@ -22,6 +22,6 @@ returns-clause-none c =
     let s = c.args.self.now in
     none_known c.longest_of.result c.longest_of.ensures.none
     (λ out k known in_k le. out k.prefix_len
-    (has_known s.masks.items s.width k (ip_address c.args.ip) c.region.result c.region.ensures known in_k
-    (omega (arith, c.if-region-len.false)) (omega (arith, le, c.if-limit-ge128.false)) c.index.result.now
-    c.index.ensures) le)
+    (has_known s.masks.items s.width (ip_address c.args.ip) c.region.result c.region.ensures k.prefix_len
+    (known.masked (ip_address c.args.ip) in_k (omega (arith, le, c.if-limit-ge128.false)))
+    (omega (arith, c.if-region-len.false)) c.index.result.now c.index.ensures) le)

@@ -1,7 +1,6 @@
 -- The rest of the first chunk, the chunks between, and the first routes of the last chunk.
-use Rattle.std.proofs.Common.{◌≡◌, ◌<◌, ◌≤◌, ◌-◌, ◌+◌, ◌++◌, length, take, drop, sym, ap, ap₂, ◌∙◌}
-use Rattle.std.proofs.Common.{subst}
-use Rattle.std.proofs.Common.{append-nil, add-one, arith}
+use Rattle.std.proofs.Common.{◌≡◌, ◌<◌, ◌≤◌, ◌-◌, ◌+◌, ◌++◌, length, take, drop}
+use Rattle.std.proofs.Common.{sym, ap, ap₂, ◌∙◌, subst, append-nil, add-one, arith}
 use Rattle.std.proofs.lemmas.List.{take_rest}
 use Rattle.std.proofs.lemmas.List.Elements.{All-take, All-drop}
 use Rattle.ipnet_routes.specs.Routes.{ip_routes}
@@ -17,14 +16,12 @@ returns-then-start-end g c =
     let cs = c.args.chunks.now in
     let a = c.args.start.chunk in
     let b = c.args.end.chunk in
-    let ps = position_of cs a c.args.start.index in
     let some : 0 < length cs = omega (arith, c.if-chunks-eq0.false) in
     let inside : b < length cs = c.requires.end_chunk some in
     let last = element_at cs b inside in
-    let from : a < length cs = c.requires.start_chunk some in
-    sym (ap (λ z. ip_routes (take z (drop ps (all_of cs))))
+    sym (ap (λ z. ip_routes (take z (drop (position_of cs a c.args.start.index) (all_of cs))))
     (part_none items cs a c.args.start.index b c.args.end.index last.0 (omega (arith, c.if-start-end.true))
-    (omega (arith, from)) (last.1 last.0)
+    (omega (arith, c.requires.start_chunk some)) (last.1 last.0)
     (subst (λ z. c.args.end.index ≤ length z) (chunk_only items cs b last.0 inside (last.1 last.0))
     c.requires.end_index)))
 
@@ -36,8 +33,7 @@ returns-then-start-end-2 g c =
     let i = c.args.start.index in
     let j = c.args.end.index in
     let chunk = c.index-chunks-start.result in
-    let some : 0 < length cs = omega (arith, c.if-chunks-eq0.false) in
-    let inside : a < length cs = c.requires.start_chunk some in
+    let inside : a < length cs = c.requires.start_chunk (omega (arith, c.if-chunks-eq0.false)) in
     let same : b ≡ a = omega (arith, c.if-start-end-2.true) in
     let order : position_of cs a i ≤ position_of cs a j
     = subst (λ z. position_of cs a i ≤ position_of cs z j) same c.requires.order in
@@ -52,12 +48,11 @@ returns-then-start-end-2 g c =
 pub invariant_of-result-2 : goal.invariant_of-result-2
 invariant_of-result-2 g c =
     let cs = c.args.chunks.now in
-    let a = c.args.start.chunk in
-    let b = c.args.end.chunk in
+    let next = c.args.start.chunk + 1 in
     record {
       filled = subst AreFilled (sym c.cut-middle.ensures)
-          (All-take (λ z. 0 < length z.items) (b - (a + 1)) (drop (a + 1) cs)
-          (All-drop (λ z. 0 < length z.items) (a + 1) cs c.requires.filled));
+          (All-take (λ z. 0 < length z.items) (c.args.end.chunk - next) (drop next cs)
+          (All-drop (λ z. 0 < length z.items) next cs c.requires.filled));
     }
 
 pub returns : goal.returns
@@ -70,11 +65,9 @@ returns g c =
     let first = c.index-chunks-start.result in
     let last = c.index-chunks-end.result in
     let some : 0 < length cs = omega (arith, c.if-chunks-eq0.false) in
-    let from : a < length cs = c.requires.start_chunk some in
     let to : b < length cs = c.requires.end_chunk some in
-    let small_i : i ≤ length first.items
-    = subst (λ z. i ≤ length z) (chunk_only items cs a first from (sym c.index-chunks-start.is))
-    c.requires.start_index in
+    let small_i : i ≤ length first.items = subst (λ z. i ≤ length z) (chunk_only items cs a first
+    (c.requires.start_chunk some) (sym c.index-chunks-start.is)) c.requires.start_index in
     let small_j : j ≤ length last.items
     = subst (λ z. j ≤ length z) (chunk_only items cs b last to (sym c.index-chunks-end.is)) c.requires.end_index in
     let whole : j - 0 ≡ j = omega arith in

@@ -1,9 +1,9 @@
 -- Each turn copies one route of the table with its link, and after the last the routes are the table's.
-use Rattle.std.proofs.Common.{◌≡◌, arith, sym, subst}
-use Rattle.std.proofs.Common.{◌<◌}
+use Rattle.std.proofs.Common.{◌≡◌, ◌<◌, ◌+◌, arith, sym, subst, subst₂}
 use Rattle.ipnet_routes.specs.TableImages.{route_count, AreRoutesIn}
 use Rattle.ipnet_routes.proofs.TableImageLaws.{found_at, none_read}
-use Rattle.ipnet_routes.proofs.TableRestoredLaws.{restored_none, restored_more, restored_routes, restored_networks}
+use Rattle.ipnet_routes.proofs.TableRestoredLaws.{AreRestoredTo, restored_none, restored_more}
+use Rattle.ipnet_routes.proofs.TableRestoredLaws.{restored_routes, restored_networks}
 use Rattle.ipnet_routes.proofs.TableRestoredLaws.{restored_links, restored_count}
 use Rattle.ipnet_routes.proofs.routes.image.restored.restored_table.Goals as goal
 
@@ -22,10 +22,10 @@ loop-index-preserved c t h =
     let bytes = c.args.stored.now.bytes.now in
     let index = c.loop-index.index in
     let inside : index < route_count bytes = omega (arith, c.loop-index-test.true, c.len-index-end.ensures) in
-    restored_more t index c.loop-index.routes.items c.push.new.self.items c.loop-index.enclosing.items
-    c.push-in-loop-index.new.self.items c.in-Some.route (omega (arith, inside, h.as_many))
+    subst₂ (AreRestoredTo t (index + 1)) (sym c.in_ok-push.ensures.items) (sym c.in_ok-push-2.ensures.items)
+    (restored_more t index c.loop-index.routes.items c.loop-index.enclosing.items c.in-Some.route
     (found_at bytes t h index c.in-Some.route c.route.result inside c.route.ensures.read c.in-Some.is)
-    c.in_ok-push.ensures.items c.in_ok-push-2.ensures.items (c.loop-index.invariant t h)
+    (c.loop-index.invariant t h))
 
 pub invariant_of-result : goal.invariant_of-result
 invariant_of-result c =

@@ -1,17 +1,13 @@
 -- A route that passes is one more of the table; a route that does not is in no table.
-use Rattle.std.proofs.Common.{◌≡◌, ◌<◌, [], ◌∷◌, ◌++◌, Contains, true, false, refl, subst}
-use Rattle.std.proofs.Common.{arith, inr}
-use Rattle.ipnet_base.specs.Network.{Network, IsTruncated, IsBefore}
-use Rattle.ipnet_base.specs.Stack.{IsBeforeOrEqual}
-use Rattle.ipnet_base.proofs.ListLaws.{all_at, pair_at}
+use Rattle.std.proofs.Common.{◌≡◌, ◌<◌, [], ◌∷◌, ◌++◌, true, false, refl, subst, arith, inr}
 use Rattle.ipnet_base.proofs.ResultLaws.{true_gives, false_gives}
 use Rattle.ipnet.specs.NetworkOf.{ip_network}
 use Rattle.ipnet_routes.specs.Routes.{networks_of}
 use Rattle.ipnet_routes.specs.RouteSteps.{IsNearest}
 use Rattle.ipnet_routes.specs.TableImages.{route_count, AreRoutesIn}
-use Rattle.ipnet_routes.proofs.TableImageLaws.{as_networks, found_at, none_read}
-use Rattle.ipnet_routes.proofs.TableCheckLaws.{nearest_once, routes_more, routes_none, last_none, last_more, all_before}
-use Rattle.ipnet_routes.proofs.TableCheckLaws.{comes_before}
+use Rattle.ipnet_routes.proofs.TableImageLaws.{found_at, none_read}
+use Rattle.ipnet_routes.proofs.TableCheckLaws.{link_once, routes_more, routes_none, last_none, last_more, all_before}
+use Rattle.ipnet_routes.proofs.TableCheckLaws.{follows_in}
 use Rattle.ipnet_routes.proofs.routes.image.stored_table.StoredTable.has_routes.Goals as goal
 
 pub loop-index-init : goal.loop-index-init
@@ -49,14 +45,11 @@ returns-then-not-follows c =
     let route = c.in-Some.route in (
       λ e. let apart : false ≡ true = e in absurd (cc),
       λ image.
-          let u = image.0 in
-          let g = image.1 in
-          let found = found_at bytes u g index route c.route.result inside c.route.ensures.read c.in-Some.is in
-          absurd (false_gives c.follows.result c.follows.ensures c.if-not-follows.true (
-            all_at IsTruncated (networks_of u) g.truncated (ip_network route.network) found.at,
-            comes_before bytes c.loop-index.invariant.0 u c.loop-index.invariant.1 g inside c.loop-index.previous
-                c.loop-index.invariant.2 route found,
-          )),
+          let found = found_at bytes image.0 image.1 index route c.route.result inside c.route.ensures.read
+          c.in-Some.is in
+          absurd (false_gives c.follows.result c.follows.ensures c.if-not-follows.true
+          (follows_in bytes c.loop-index.invariant.0 image.0 c.loop-index.invariant.1 image.1 c.loop-index.previous
+          c.loop-index.invariant.2 route found)),
     )
 
 pub returns-then-link-route : goal.returns-then-link-route
@@ -64,33 +57,21 @@ returns-then-link-route c =
     let bytes = c.args.self.now.bytes.now in
     let index = c.loop-index.index in
     let inside : index < route_count bytes = omega (arith, c.loop-index-test.true, c.len-index-end.ensures) in
-    let route = c.in-Some.route in
-    let n = ip_network route.network in (
+    let route = c.in-Some.route in (
       λ e. let apart : false ≡ true = e in absurd (cc),
       λ image.
-          let u = image.0 in
-          let g = image.1 in
-          let found = found_at bytes u g index route c.route.result inside c.route.ensures.read c.in-Some.is in
-          let up : (k : Network) (b : Contains (networks_of u) k) → b.0 < index → IsBeforeOrEqual k n
-          =
-          λ k b l. inr (pair_at IsBefore (networks_of u) g.ascending k n b found.at
-          (omega (arith, l, found.at_is))) in
-          let a = c.nearest-link.ensures.nearest (route_count bytes) u g (omega (arith, inside)) up in
-          let once = nearest_once (networks_of u) n index c.nearest-link.result route.link
-          (omega (arith, inside, as_networks bytes u g)) a found.linked in
-          absurd (c.if-link-route.true once),
+          let found = found_at bytes image.0 image.1 index route c.route.result inside c.route.ensures.read
+          c.in-Some.is in
+          absurd (c.if-link-route.true (link_once bytes image.0 image.1 index route found c.nearest-link.result
+          (c.nearest-link.ensures.nearest (route_count bytes) image.0 image.1 (omega (arith, inside))))),
     )
 
 pub returns : goal.returns
 returns c =
     let bytes = c.args.self.now.bytes.now in
     let t = c.loop-index.invariant.0 in
-    let all : c.loop-index.index ≡ route_count bytes = omega (
-      arith,
-      c.loop-index-test.false,
-      c.loop-index.auto.index-end,
-      c.len-index-end.ensures,
-    ) in (
+    let all : c.loop-index.index ≡ route_count bytes
+    = omega (arith, c.loop-index-test.false, c.loop-index.auto.index-end, c.len-index-end.ensures) in (
       λ e. (t, subst (λ k. AreRoutesIn bytes k t) all c.loop-index.invariant.1),
       λ image. refl,
     )
