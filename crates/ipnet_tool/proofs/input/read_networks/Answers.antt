@@ -45,7 +45,8 @@ returns-then-more-2-clause-bad_line g c = λ number e.
     let refused : c.push_lines-result.result ≡ Err (ToolErrors.Line c.in-Line.bad) =
     c.in-Err.is ∙ ap Err c.in-Line.is in
     let (later, sum, first) = c.push_lines-result.ensures.bad_line c.in-Line.bad refused in
-    bad_then_text so_far (rest c.after_bad_line.new.input) (held c.take.new.self) later number count is_text closed (subst (λ z. IsFirstBadLine grammar (lines_of z) later) piece first)
+    bad_then_text so_far (rest c.after_bad_line.new.input) (held c.take.new.self) later number count is_text closed
+    (subst (λ z. IsFirstBadLine grammar (lines_of z) later) piece first)
     c.take.ensures (is ∙ sum) left
 
 pub returns-in-Err-clause-bad_line : goal.returns-in-Err-clause-bad_line
@@ -122,7 +123,8 @@ returns-then-held-eq-SIZE-clause-bad_line g c = λ number e.
     (c.lines_len-count.ensures.last c.if-not-more.false) in
     let full : length after ≡ 65536 = sym (ap length c.held.ensures.value) ∙ c.if-held-eq-SIZE.true in
     subst (IsBadLineFrom grammar (rest c.args.input.now) (rest c.after_bad_line-then-held-eq-SIZE.new.input)) (sym is)
-    (long_then_text taken (rest c.after_bad_line-then-held-eq-SIZE.new.input) (omega (arith, full)) (none_after now after count c.take.ensures none) left)
+    (long_then_text taken (rest c.after_bad_line-then-held-eq-SIZE.new.input) (omega (arith, full))
+    (none_after now after count c.take.ensures none) left)
 
 pub loop-preserved : goal.loop-preserved
 loop-preserved g c =
@@ -201,7 +203,8 @@ returns-then-more-2-clause-not_utf8 g c = λ e.
     let so_far = read_more c.loop.invariant.taken (rest c.fill.new.input) given now grown read in
     let value = c.held-held.ensures.value in
     let is_text : IsUtf8 (take count now) = subst IsUtf8 (ap (take count) value) c.in-Ok.ensures.cases.1 in
-    rest_no_text so_far (rest c.after_bad_line.new.input) (held c.take.new.self) count is_text c.take.ensures (c.after_bad_line.ensures.not_utf8 cc)
+    rest_no_text so_far (rest c.after_bad_line.new.input) (held c.take.new.self) count is_text c.take.ensures
+    (c.after_bad_line.ensures.not_utf8 cc)
 
 pub returns-then-held-eq-SIZE-clause-not_utf8 : goal.returns-then-held-eq-SIZE-clause-not_utf8
 returns-then-held-eq-SIZE-clause-not_utf8 g c = λ e.
