@@ -1,4 +1,4 @@
-use Rattle.std.proofs.Common.{◌≤◌, ◌<◌, ◌≢◌, ◌↔◌, ◌∷◌, None, IfOk, sym, subst, arith}
+use Rattle.std.proofs.Common.{◌<◌, ◌≢◌, ◌↔◌, IfOk, sym, ap, arith}
 use Rattle.std.proofs.lemmas.Bool.Decides.{nat_tests}
 use Rattle.std.proofs.lemmas.Result.{IfOk-weaker}
 use Rattle.ipnet_base.specs.Address.{Address}
@@ -14,25 +14,21 @@ use Rattle.ipnet_maps.specs.declared.levels.LevelCells.{LevelCells}
 use Rattle.ipnet_maps.specs.Levels.{IsLevelOf}
 use Rattle.ipnet_maps.specs.Cells.{IsInCell}
 use Rattle.ipnet_maps.specs.LevelSteps.{IsPushedAs}
-use Rattle.ipnet_maps.proofs.LevelWalkLaws.{IsWalk, walk_begin, walk_large, joined_fits, walk_joined, none_in_open}
+use Rattle.ipnet_maps.proofs.LevelWalkLaws.{walk_begin, walk_large, joined_fits, walk_joined, none_in_open}
 use Rattle.ipnet_maps.proofs.LevelWalkLaws.{walk_left, walk_opened, walk_end, open_fits, closed_to}
 use Rattle.ipnet_maps.proofs.levels.level_cells.Goals as goal
 
 pub loop-network-init : goal.loop-network-init
 loop-network-init c =
-    subst
-    (λ it. IsWalk (IsMember c.args.set.now) c.args.cell_len (networks_left it) None (IsPushedAs c.new-known.result))
-    (sym c.into_iter-network-iterator.ensures.into_iter_gives)
-    (walk_begin (IsMember c.args.set.now) c.args.cell_len (networks_left c.iter_networks-network-items.result)
-    (IsPushedAs c.new-known.result) (member_or_not c.args.set.now) (λ x m. m.fits)
+    walk_left (ap networks_left (sym c.into_iter-network-iterator.ensures.into_iter_gives))
+    (walk_begin (IsMember c.args.set.now) c.args.cell_len _ _ (member_or_not c.args.set.now) (λ x m. m.fits)
     c.iter_networks-network-items.ensures c.new-known.ensures)
 
 pub loop-network-preserved-then-prefix_len-cell_len : goal.loop-network-preserved-then-prefix_len-cell_len
 loop-network-preserved-then-prefix_len-cell_len c =
-    let large : (ip_network c.in-Some.network).prefix_len ≤ c.args.cell_len
-    = grind (arith, nat_tests, c.if-prefix_len-cell_len.true, c.prefix_len.ensures) in
     let walk = walk_left c.in-Some.ensures.steps c.loop-network.invariant in
-    walk_large (λ x m. m.fits) walk large (IsPushedAs c.push.new.self) c.in_ok-push.ensures
+    walk_large (λ x m. m.fits) walk (grind (arith, nat_tests, c.if-prefix_len-cell_len.true, c.prefix_len.ensures))
+    (IsPushedAs c.push.new.self) c.in_ok-push.ensures
 
 pub joined-requires : goal.joined-requires
 joined-requires c =
@@ -51,13 +47,11 @@ pub loop-network-preserved : goal.loop-network-preserved
 loop-network-preserved c =
     let small : c.args.cell_len < (ip_network c.in-Some.network).prefix_len
     = grind (arith, nat_tests, c.if-prefix_len-cell_len.false, c.prefix_len.ensures) in
-    let other = c.in_default.ensures.other in
     let walk = walk_left c.in-Some.ensures.steps c.loop-network.invariant in
-    walk_opened (λ x m. m.fits) walk small other (IsPushedAs c.close.new.self)
-    (closed_to (IsMember c.args.set.now) c.args.cell_len (λ x m. m.fits)
-    (ip_network c.in-Some.network ∷ networks_left c.next.new.self) c.loop-network.known c.close.new.self
-    c.loop-network.current walk.opened (none_in_open (λ x m. m.fits) walk small other) walk.sound
-    c.in_ok-close.ensures) c.opened.result c.opened.ensures.cell c.opened.ensures.count
+    walk_opened (λ x m. m.fits) walk small c.in_default.ensures.other (IsPushedAs c.close.new.self)
+    (closed_to _ _ (λ x m. m.fits) _ c.loop-network.known c.close.new.self c.loop-network.current walk.opened
+    (none_in_open (λ x m. m.fits) walk small c.in_default.ensures.other) walk.sound c.in_ok-close.ensures)
+    c.opened.result c.opened.ensures.cell c.opened.ensures.count
 
 pub close-requires-2 : goal.close-requires-2
 close-requires-2 c = open_fits c.loop-network.current c.loop-network.invariant
@@ -67,13 +61,9 @@ as_level : (c : goal.After-into_cells) (l : Level) → l ≢ Nothing → (set_of
     → IfOk c.into_cells.result (λ r. (x : Address) → IsMember (set_of r) x ↔ IsPushedAs c.close-2.new.self l x)
     → IfOk c.into_cells.result (λ r. (x : Address)
     → IsMember (set_of r) x ↔ IsInCell c.args.cell_len (λ n. IsLevelOf (IsMember c.args.set.now) n l) x)
-as_level c l ne set_of =
-    let set = c.args.set.now in
-    let len = c.args.cell_len in
-    IfOk-weaker c.into_cells.result
-    (λ r. (x : Address) → IsMember (set_of r) x ↔ IsPushedAs c.close-2.new.self l x)
-    (λ r. (x : Address) → IsMember (set_of r) x ↔ IsInCell len (λ n. IsLevelOf (IsMember set) n l) x)
-    (λ r h x. both_ways (h x) (walk_end set len c.loop-network.known c.close-2.new.self c.loop-network.current
+as_level c l ne set_of = IfOk-weaker c.into_cells.result
+    (λ r. (x : Address) → IsMember (set_of r) x ↔ IsPushedAs c.close-2.new.self l x) _
+    (λ r h x. both_ways (h x) (walk_end c.args.set.now c.args.cell_len c.loop-network.known c.close-2.new.self _
     (walk_left c.in-None.ensures.steps.0 c.loop-network.invariant) c.in_ok-close-2.ensures l ne x))
 
 pub returns-clause-some : goal.returns-clause-some
