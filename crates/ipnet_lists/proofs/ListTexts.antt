@@ -8,24 +8,19 @@ use Rattle.ipnet_sets.specs.declared.set.builder.IpSetBuilder.{IpSetBuilder}
 use Rattle.ipnet_sets.specs.Members.{IsMember}
 use Rattle.ipnet_sets.specs.Pushed.{IsPushed}
 use Rattle.ipnet_lists.specs.declared.reader.LineReader.{LineReader}
-use Rattle.ipnet_lists.specs.Lists.{ListEntry, AreRead, HaveAddresses, after_mark}
+use Rattle.ipnet_lists.specs.Lists.{ListEntry, AreRead, AreContents, HaveAddresses, after_mark}
 use Rattle.ipnet_lists.specs.ListTexts.{IsReadList, IsMadeList}
 use Rattle.ipnet_lists.specs.Reading.{ReadsLines}
 use Rattle.ipnet_lists.specs.RefusedLines.{AreRefused}
+use Rattle.ipnet_lists.proofs.RangeCovers.{has_none}
 use Rattle.ipnet_lists.proofs.RefusalLaws.{more_refused}
 
--- The reader has read no line of the first list, and reads by this grammar.
-pub record IsAtStart (grammar : Grammar) (lines : LineReader) : Type 0 where
-  pub by : lines.grammar ≡ grammar
-  pub first : lines.list ≡ 0
-  pub line : lines.line ≡ 0
-  pub none : AreRefused lines.refused []
-
 -- what was made of the entries of a list
-pub made_list : (grammar : Grammar) (bytes : List ℕ) (old new : LineReader) (IsMade IsMadeNow : List ListEntry → Type 0)
-    → IsAtStart grammar old → ReadsLines old new (lines_of (after_mark bytes)) IsMade IsMadeNow → IsMade []
-    → IsMadeList grammar bytes IsMadeNow new.refused
-made_list grammar bytes old new IsMade IsMadeNow at (texts, are, lines) start =
+pub made_list : (grammar : Grammar) (bytes rest : List ℕ) (old new : LineReader)
+    (IsMade IsMadeNow : List ListEntry → Type 0) → old.grammar ≡ grammar → old.list ≡ 0 → old.line ≡ 0
+    → AreRefused old.refused [] → rest ≡ after_mark bytes → ReadsLines old new (lines_of rest) IsMade IsMadeNow
+    → IsMade [] → IsMadeList grammar bytes IsMadeNow new.refused
+made_list grammar bytes rest old new IsMade IsMadeNow same list line none is (texts, are, lines) start =
     let whole : AreRead old.grammar old.list (old.line + 1) (texts ++ []) (lines.entries ++ [])
     (lines.refusals ++ []) = lines.read [] [] [] (refl, refl) in
     record {
@@ -33,10 +28,10 @@ made_list grammar bytes old new IsMade IsMadeNow at (texts, are, lines) start =
       refusals = lines.refusals;
       read = (
         texts,
-        are,
-        subst (λ g. AreRead g 0 1 texts lines.entries lines.refusals) at.by
-            (subst (λ n. AreRead old.grammar n 1 texts lines.entries lines.refusals) at.first
-            (subst (λ n. AreRead old.grammar old.list (n + 1) texts lines.entries lines.refusals) at.line
+        subst (λ b. AreContents (lines_of b) texts) is are,
+        subst (λ g. AreRead g 0 1 texts lines.entries lines.refusals) same
+            (subst (λ n. AreRead old.grammar n 1 texts lines.entries lines.refusals) list
+            (subst (λ n. AreRead old.grammar old.list (n + 1) texts lines.entries lines.refusals) line
             (subst (λ rs. AreRead old.grammar old.list (old.line + 1) texts lines.entries rs)
             (append-nil lines.refusals)
             (subst (λ es. AreRead old.grammar old.list (old.line + 1) texts es (lines.refusals ++ []))
@@ -45,17 +40,23 @@ made_list grammar bytes old new IsMade IsMadeNow at (texts, are, lines) start =
             (append-nil texts) whole))))),
       );
       made = lines.made [] start;
-      kept = more_refused old.refused new.refused [] lines.refusals at.none lines.added;
+      kept = more_refused old.refused new.refused [] lines.refusals none lines.added;
     }
 
--- the addresses of a list that was collected
-pub whole_list : (grammar : Grammar) (bytes : List ℕ) (new : LineReader) (builder : IpSetBuilder) (set : IpSet)
-    → IsMadeList grammar bytes (HaveAddresses (IsPushed builder)) new.refused
-    → ((x : Address) → IsMember set x ↔ IsPushed builder x) → IsReadList grammar bytes set new.refused
-whole_list grammar bytes new builder set all made = record {
-  entries = all.entries;
-  refusals = all.refusals;
-  read = all.read;
-  addresses = λ x. (λ m. (all.made x).0 ((made x).0 m), λ e. (made x).1 ((all.made x).1 e));
-  kept = all.kept;
-}
+-- the addresses of a list
+pub whole_list : (grammar : Grammar) (bytes rest : List ℕ) (old new : LineReader) (empty builder : IpSetBuilder)
+    (set : IpSet) → old.grammar ≡ grammar → old.list ≡ 0 → old.line ≡ 0 → AreRefused old.refused []
+    → rest ≡ after_mark bytes
+    → ReadsLines old new (lines_of rest) (HaveAddresses (IsPushed empty)) (HaveAddresses (IsPushed builder))
+    → ((x : Address) → ¬ (IsPushed empty x)) → ((x : Address) → IsMember set x ↔ IsPushed builder x)
+    → IsReadList grammar bytes set new.refused
+whole_list grammar bytes rest old new empty builder set same list line none is lines nothing made =
+    let all = made_list grammar bytes rest old new (HaveAddresses (IsPushed empty)) (HaveAddresses (IsPushed builder))
+    same list line none is lines (has_none (IsPushed empty) nothing) in
+    record {
+      entries = all.entries;
+      refusals = all.refusals;
+      read = all.read;
+      addresses = λ x. (λ m. (all.made x).0 ((made x).0 m), λ e. (made x).1 ((all.made x).1 e));
+      kept = all.kept;
+    }
