@@ -47,10 +47,9 @@ rest_first xs ys i d e =
     ∙ ap (λ k. get_or ys k d) at
 
 -- the network at a place of a list whose rest is unchanged, read in the list as it was
-pub rest_read : {X Y : Type 0} (f : X → Y) (xs ys : List X) (i : ℕ) (x : X) (d : Y) → i < length ys
-    → drop i xs ≡ drop i ys → x ≡ get_or xs i x
-    → get_or (map f ys) i d ≡ f x
-rest_read f xs ys i x d l e r = get_or-map f ys i x d l ∙ ap f (sym (rest_first xs ys i x e)) ∙ ap f (sym r)
+pub rest_read : {X Y : Type 0} (f : X → Y) (xs ys : List X) (i : ℕ) (x : X) → i < length ys
+    → drop i xs ≡ drop i ys → x ≡ get_or xs i x → get_or (map f ys) i (f x) ≡ f x
+rest_read f xs ys i x l e r = get_or-map f ys i x (f x) l ∙ ap f (sym (rest_first xs ys i x e)) ∙ ap f (sym r)
 
 -- the front of a list that was written back in front of another
 pub front_kept : {X : Type 0} (items xs zs : List X) (r n : ℕ) → items ≡ take r (take n (xs ++ zs)) → r ≤ length xs

@@ -54,37 +54,37 @@ joined_first f xs i x l e none joined t =
     (neighbours_push (map f (take i xs)) (f x) joined t (λ d m. absurd (omega (arith, m, size)))
     (λ d m. absurd (omega (arith, m, size))))
 
--- one more after the network y, which lies before it and is not its other half
-pub joined_more : {X : Type 0} (f : X → Network) (xs : List X) (i : ℕ) (x y : X) → i < length xs → x ≡ get_or xs i x
-    → 0 < i → y ≡ get_or xs (i - 1) y
-    → AreJoined (map f (take i xs)) → IsTruncated (f x) → LiesBefore (f y) (f x) → ¬ (AreHalves (f y) (f x))
-    → AreJoined (map f (take (i + 1) xs))
-joined_more f xs i x y l e some before joined t lies halves =
-    subst AreJoined (sym (map_more f xs i x l ∙ ap (λ z. map f (take i xs) ++ f z ∷ []) (sym e)))
-    (neighbours_push (map f (take i xs)) (f x) joined t
-    (λ d m. subst (λ z. LiesBefore z (f x)) (sym (front_last f xs i y some (omega arith) before d)) lies)
-    (λ d m h. halves (subst (λ z. AreHalves z (f x)) (front_last f xs i y some (omega arith) before d) h)))
-
--- what a joined list shows of one network, and of one and the next
+-- what a joined list shows of one network
 pub joined_at : {X : Type 0} (f : X → Network) (xs : List X) (i : ℕ) (x : X) → AreJoined (map f xs) → i < length xs
     → x ≡ get_or xs i x → IsTruncated (f x)
 joined_at f xs i x joined l e =
     subst IsTruncated (get_or-map f xs i x (f x) l ∙ ap f (sym e))
     (joined.truncated i (f x) (omega (arith, length-map xs f)))
 
-pub joined_pair : {X : Type 0} (f : X → Network) (xs : List X) (i : ℕ) (x y : X) → AreJoined (map f xs) → 0 < i
-    → i < length xs → x ≡ get_or xs i x → y ≡ get_or xs (i - 1) y
-    → LiesBefore (f y) (f x) × ¬ (AreHalves (f y) (f x))
-joined_pair f xs i x y joined some l e before =
-    let at : i - 1 + 1 ≡ i = omega arith in
-    let size : length (map f xs) ≡ length xs = length-map xs f in
-    let first : get_or (map f xs) (i - 1) (f x) ≡ f y =
-    get_or-map f xs (i - 1) y (f x) (omega arith) ∙ ap f (sym before) in
-    let second : get_or (map f xs) (i - 1 + 1) (f x) ≡ f x =
-    ap (λ k. get_or (map f xs) k (f x)) at ∙ get_or-map f xs i x (f x) l ∙ ap f (sym e) in (
-      subst₂ LiesBefore first second (joined.apart (i - 1) (f x) (omega (arith, size))),
-      subst₂ (λ n k. ¬ (AreHalves n k)) first second (joined.unjoined (i - 1) (f x) (omega (arith, size))),
-    )
+-- a network of a list, and the network before it
+module _ {X : Type 0} (f : X → Network) (xs : List X) (i : ℕ) (x y : X) (some : 0 < i) (l : i < length xs)
+    (e : x ≡ get_or xs i x) (before : y ≡ get_or xs (i - 1) y) where
+  -- one more after the network y, which lies before it and is not its other half
+  pub joined_more : AreJoined (map f (take i xs)) → IsTruncated (f x) → LiesBefore (f y) (f x)
+      → ¬ (AreHalves (f y) (f x)) → AreJoined (map f (take (i + 1) xs))
+  joined_more joined t lies halves =
+      subst AreJoined (sym (map_more f xs i x l ∙ ap (λ z. map f (take i xs) ++ f z ∷ []) (sym e)))
+      (neighbours_push (map f (take i xs)) (f x) joined t
+      (λ d m. subst (λ z. LiesBefore z (f x)) (sym (front_last f xs i y some (omega arith) before d)) lies)
+      (λ d m h. halves (subst (λ z. AreHalves z (f x)) (front_last f xs i y some (omega arith) before d) h)))
+
+  -- what a joined list shows of the two
+  pub joined_pair : AreJoined (map f xs) → LiesBefore (f y) (f x) × ¬ (AreHalves (f y) (f x))
+  joined_pair joined =
+      let at : i - 1 + 1 ≡ i = omega arith in
+      let size : length (map f xs) ≡ length xs = length-map xs f in
+      let first : get_or (map f xs) (i - 1) (f x) ≡ f y =
+      get_or-map f xs (i - 1) y (f x) (omega arith) ∙ ap f (sym before) in
+      let second : get_or (map f xs) (i - 1 + 1) (f x) ≡ f x =
+      ap (λ k. get_or (map f xs) k (f x)) at ∙ get_or-map f xs i x (f x) l ∙ ap f (sym e) in (
+        subst₂ LiesBefore first second (joined.apart (i - 1) (f x) (omega (arith, size))),
+        subst₂ (λ n k. ¬ (AreHalves n k)) first second (joined.unjoined (i - 1) (f x) (omega (arith, size))),
+      )
 
 -- what the answers of `is_aggregated` say of the aggregate, and of the neighbours
 pub joined_is_own : (networks : List Network) → All IsNetwork networks → AreJoined networks → IsTrue true

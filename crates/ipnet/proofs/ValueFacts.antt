@@ -181,18 +181,19 @@ contains_from_get : (networks : List Network) (n : ℕ) (k : Network) → slice_
 contains_from_get networks n k e = (n, slice_get_within networks n k e, get_or_from_slice_get networks n k k e)
 
 -- so the item that `nth` returns is in the list
-pub member_from_nth : {S A : Type 0} (network : A → Network) (left : S → List Network) (old new : S) (n : ℕ)
-    (answer : Option A) → SkipsThenYields (YieldsFirstBy network left) old n answer new
-    → IfSome answer (λ k. Contains (left old) (network k))
-member_from_nth network left old new n None h = tt
-member_from_nth network left old new n (Some k) h =
-    contains_from_get (left old) n (network k) (sym (nth_of_list network left old new n (Some k) h).0)
+module _ {S A : Type 0} (network : A → Network) (left : S → List Network) where
+  pub member_from_nth : (old new : S) (n : ℕ) (answer : Option A)
+      → SkipsThenYields (YieldsFirstBy network left) old n answer new
+      → IfSome answer (λ k. Contains (left old) (network k))
+  member_from_nth old new n None h = tt
+  member_from_nth old new n (Some k) h =
+      contains_from_get (left old) n (network k) (sym (nth_of_list network left old new n (Some k) h).0)
 
--- and is one of the subnets that the list has
-pub nth_has_length : {S A : Type 0} (network : A → Network) (left : S → List Network) (old new : S) (n : ℕ)
-    (answer : Option A) → SkipsThenYields (YieldsFirstBy network left) old n answer new
-    → (net : Network) (prefix_len : ℕ) → AreSubnetsOfLength net prefix_len (left old)
-    → IfSome answer (λ k. IsSubnetOfLength net prefix_len (network k))
-nth_has_length network left old new n None h net prefix_len subnets = tt
-nth_has_length network left old new n (Some k) h net prefix_len subnets =
-    (subnets.members (network k)).0 (member_from_nth network left old new n (Some k) h)
+  -- and is one of the subnets that the list has
+  pub nth_has_length : (old new : S) (n : ℕ) (answer : Option A)
+      → SkipsThenYields (YieldsFirstBy network left) old n answer new
+      → (net : Network) (prefix_len : ℕ) → AreSubnetsOfLength net prefix_len (left old)
+      → IfSome answer (λ k. IsSubnetOfLength net prefix_len (network k))
+  nth_has_length old new n None h net prefix_len subnets = tt
+  nth_has_length old new n (Some k) h net prefix_len subnets =
+      (subnets.members (network k)).0 (member_from_nth old new n (Some k) h)

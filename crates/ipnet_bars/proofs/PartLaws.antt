@@ -1,7 +1,7 @@
 -- How many addresses of a set are in a block, and when these are none or all.
 use Rattle.std.proofs.Common.{◌≡◌, ◌≢◌, ℕ, ◌+◌, ◌^◌, ◌<◌, ◌≤◌, ◌⊎◌, ◌↔◌, inl, inr}
 use Rattle.std.proofs.Common.{List, [], ◌∷◌, ◌++◌, length, map, Option, Some, None, IfSome, IsNone, Contains}
-use Rattle.std.proofs.Common.{refl, sym, ap, ◌∙◌, subst, arith}
+use Rattle.std.proofs.Common.{refl, sym, ap, ◌∙◌, subst, subst₂, arith}
 use Rattle.std.proofs.Common.{get_or, take}
 use Rattle.std.proofs.lemmas.List.{map_push, take_more}
 use Rattle.std.proofs.lemmas.Nat.{pow_pos}
@@ -272,14 +272,22 @@ zip_push R [] (v ∷ vs) x y h r = absurd h
 zip_push R (u ∷ us) [] x y h r = absurd h
 zip_push R (u ∷ us) (v ∷ vs) x y h r = (h.0, zip_push R us vs x y h.1 r)
 
+-- the items so far, and one more
+pub taken_more : {X : Type 0} (xs : List X) (i : ℕ) (x : X) → i < length xs → x ≡ get_or xs i x
+    → take (i + 1) xs ≡ take i xs ++ x ∷ []
+taken_more xs i x less is = take_more xs i x less ∙ ap (λ z. take i xs ++ z ∷ []) (sym is)
+
+-- the networks of the items so far, and of one more
+pub mapped_more : {X : Type 0} (network_of : X → Network) (xs : List X) (i : ℕ) (x : X) → i < length xs
+    → x ≡ get_or xs i x → map network_of (take (i + 1) xs) ≡ map network_of (take i xs) ++ network_of x ∷ []
+mapped_more network_of xs i x less is =
+    ap (map network_of) (taken_more xs i x less is) ∙ map_push network_of (take i xs) x
+
 -- the levels of cells so far, or other values, and one more
 pub one_value_more : {X Y : Type 0} (R : Network → Y → Type 0) (network_of : X → Network) (cells : List X) (i : ℕ)
     (cell : X) (level : Y) (levels new : List Y) → i < length cells → cell ≡ get_or cells i cell
     → AllZip R (map network_of (take i cells)) levels → R (network_of cell) level → new ≡ levels ++ level ∷ []
     → AllZip R (map network_of (take (i + 1) cells)) new
 one_value_more R network_of cells i cell level levels new less is so_far one pushed =
-    let more : map network_of (take (i + 1) cells) ≡ map network_of (take i cells) ++ network_of cell ∷ []
-    = ap (map network_of) (take_more cells i cell less ∙ ap (λ z. take i cells ++ z ∷ []) (sym is))
-    ∙ map_push network_of (take i cells) cell in
-    subst (λ z. AllZip R z new) (sym more) (subst (AllZip R (map network_of (take i cells) ++ network_of cell ∷ []))
-    (sym pushed) (zip_push R (map network_of (take i cells)) levels (network_of cell) level so_far one))
+    subst₂ (AllZip R) (sym (mapped_more network_of cells i cell less is)) (sym pushed)
+    (zip_push R (map network_of (take i cells)) levels (network_of cell) level so_far one)

@@ -1,12 +1,11 @@
 -- The lines below a bar, and their counts, one more at a time.
-use Rattle.std.proofs.Common.{◌≡◌, ℕ, suc, zero, ◌+◌, ◌-◌, ◌^◌, ◌<◌, ◌≤◌, List, [], ◌∷◌, ◌++◌, length, get_or, take}
-use Rattle.std.proofs.Common.{map, option_map, Bool, true, false, cond, nat_eq, Option, Some, None, IfNone, IfSome}
+use Rattle.std.proofs.Common.{◌≡◌, ℕ, suc, zero, ◌+◌, ◌-◌, ◌^◌, ◌<◌, ◌≤◌, List, [], ◌∷◌, ◌++◌}
+use Rattle.std.proofs.Common.{option_map, Bool, true, false, cond, nat_eq, Option, Some, None, IfNone, IfSome}
 use Rattle.std.proofs.Common.{Result, Ok, Err, OnOk, is_ok, if◌then◌else◌, codes, decimal}
 use Rattle.std.proofs.Common.{refl, sym, ap, ◌∙◌, subst, arith, inl, inr, append_assoc, append-nil}
 use Rattle.std.specs.Fmt.{digits}
 use Rattle.std.specs.Int.{from_bool}
 use Rattle.std.proofs.lemmas.Bool.{cases_lt}
-use Rattle.std.proofs.lemmas.List.{map_push, take_more}
 use Rattle.std.proofs.lemmas.List.Elements.{All-nil, All-cons, All-append, All-push, All-same, All-weaker}
 use Rattle.ipnet_base.specs.Network.{Network}
 use Rattle.ipnet_bars.specs.Summaries.{count_with_len, length_text, lengths_text, IsFirstLargest, IsLargest}
@@ -33,28 +32,10 @@ at_most_one true n e = omega (arith, e)
 at_most_one false n e = omega (arith, e)
 
 -- one network more is counted
-count-push : (xs : List Network) (x : Network) (len : ℕ)
+pub count-push : (xs : List Network) (x : Network) (len : ℕ)
     → count_with_len (xs ++ x ∷ []) len ≡ count_with_len xs len + cond (nat_eq x.prefix_len len) 1 0
 count-push [] x len = omega arith
 count-push (y ∷ xs) x len = omega (arith, count-push xs x len)
-
-pub one_more_counted : {X : Type 0} (network_of : X → Network) (items : List X) (i : ℕ) (item : X)
-    (len total add new : ℕ) → i < length items → item ≡ get_or items i item
-    → total ≡ count_with_len (map network_of (take i items)) len
-    → add ≡ cond (nat_eq (network_of item).prefix_len len) 1 0 → new ≡ total + add
-    → new ≡ count_with_len (map network_of (take (i + 1) items)) len
-one_more_counted network_of items i item len total add new less is so_far added grown =
-    let more : map network_of (take (i + 1) items) ≡ map network_of (take i items) ++ network_of item ∷ []
-    = ap (map network_of) (take_more items i item less ∙ ap (λ z. take i items ++ z ∷ []) (sym is))
-    ∙ map_push network_of (take i items) item in
-    omega (
-      arith,
-      so_far,
-      added,
-      grown,
-      count-push (map network_of (take i items)) (network_of item) len,
-      ap (λ z. count_with_len z len) more,
-    )
 
 -- one prefix length more
 lengths-push : (blocks : List Network) (len n : ℕ)
@@ -72,13 +53,13 @@ lengths-push blocks len (suc n) =
     ∙ sym (append_assoc here (lengths_text blocks (len + 1) n)
     (length_text (count_with_len blocks (len + suc n)) (len + suc n)))
 
-pub one_length_more : (blocks : List Network) (first len count : ℕ) (old text new : List ℕ) → first ≤ len
+pub one_length_more : (blocks : List Network) (first len count : ℕ) (old text : List ℕ) → first ≤ len
     → text ≡ old ++ lengths_text blocks first (len - first) → count ≡ count_with_len blocks len
-    → new ≡ text ++ length_text count len → new ≡ old ++ lengths_text blocks first (len + 1 - first)
-one_length_more blocks first len count old text new le so_far counted pushed =
+    → text ++ length_text count len ≡ old ++ lengths_text blocks first (len + 1 - first)
+one_length_more blocks first len count old text le so_far counted =
     let there : first + (len - first) ≡ len = omega arith in
     let next : suc (len - first) ≡ len + 1 - first = omega arith in
-    pushed ∙ ap (λ z. z ++ length_text count len) so_far
+    ap (λ z. z ++ length_text count len) so_far
     ∙ append_assoc old (lengths_text blocks first (len - first)) (length_text count len)
     ∙ ap (λ z. old ++ z)
     (ap (λ z. lengths_text blocks first (len - first) ++ length_text z len) counted
@@ -133,18 +114,12 @@ larger_push xs (Some b) n new h step = elim (cases_lt n.prefix_len b.prefix_len)
   | inr ge ↦ kept xs n new b h ge (step.0 ge)
 ]
 
-pub one_more_compared : {X : Type 0} (network_of : X → Network) (items : List X) (i : ℕ) (item : X) (best : Option X)
-    (new : X) → i < length items → item ≡ get_or items i item
-    → IsLargest (map network_of (take i items)) (option_map network_of best) → IfNone best (new ≡ item)
+pub one_more_compared : {X : Type 0} (network_of : X → Network) (front : List Network) (item : X) (best : Option X)
+    (new : X) → IsLargest front (option_map network_of best) → IfNone best (new ≡ item)
     → IfSome best (λ b. IsLargerOf (network_of b) (network_of item) (network_of new))
-    → IsFirstLargest (map network_of (take (i + 1) items)) (network_of new)
-one_more_compared {X} network_of items i item best new less is so_far none some =
-    let more : map network_of (take (i + 1) items) ≡ map network_of (take i items) ++ network_of item ∷ []
-    = ap (map network_of) (take_more items i item less ∙ ap (λ z. take i items ++ z ∷ []) (sym is))
-    ∙ map_push network_of (take i items) item in
-    subst (λ z. IsFirstLargest z (network_of new)) (sym more)
-    (larger_push (map network_of (take i items)) (option_map network_of best) (network_of item) (network_of new) so_far
-    (step best none some))
+    → IsFirstLargest (front ++ network_of item ∷ []) (network_of new)
+one_more_compared {X} network_of front item best new so_far none some =
+    larger_push front (option_map network_of best) (network_of item) (network_of new) so_far (step best none some)
   where
     step : (b : Option X) → IfNone b (new ≡ item) → IfSome b (λ b. IsLargerOf (network_of b) (network_of item)
         (network_of new)) → IsStep (option_map network_of b) (network_of item) (network_of new)

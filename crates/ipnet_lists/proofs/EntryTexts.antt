@@ -8,14 +8,16 @@ use Rattle.std.proofs.lemmas.List.Elements.{All-nil, All-append, All-cons, All-w
 use Rattle.ipnet_base.specs.Address.{Address}
 use Rattle.ipnet_base.specs.Network.{Network}
 use Rattle.ipnet_base.specs.Ranges.{AddressRange}
+use Rattle.ipnet.specs.declared.net.IpNet.{IpNet}
 use Rattle.ipnet.specs.declared.parser.Grammar.{Grammar}
 use Rattle.ipnet.specs.Numerals.{IsDecimal}
+use Rattle.ipnet.specs.NetworkOf.{ip_network}
 use Rattle.ipnet.specs.NetworkParts.{own_address}
 use Rattle.ipnet.specs.NetworkTexts.{IsNetworkText, ReadsNetwork}
 use Rattle.ipnet.proofs.WholeTexts.{one_network}
 use Rattle.ipnet_lists.specs.declared.entry.Entry.{Entry}
 use Rattle.ipnet_lists.specs.declared.entry.Entry.TheVariants as Entries
-use Rattle.ipnet_lists.specs.EntryOf.{IsWrittenAs}
+use Rattle.ipnet_lists.specs.EntryOf.{entry_range, IsWrittenAs}
 use Rattle.ipnet_lists.specs.EntrySteps.{HasEnds}
 use Rattle.ipnet_lists.specs.Entries.{IsAddressText, IsMaskedBy, IsNetworkOrMasked, IsPlainEntry, IsRangeFrom}
 use Rattle.ipnet_lists.specs.Entries.{HasReturn, IsEntryText, ReadsAs, WriteMasked, WriteRange, after_blanks}
@@ -307,31 +309,31 @@ module _ {V T : Type 0} (thing_of : V → T) (Writes : List ℕ → T → Type 0
   none_of None h not = h.none.0 refl
 
 -- from addresses that were read
-pub reads_ends : {V : Type 0} (range_of_value : V → AddressRange) (grammar : Grammar) (first_text last_text : List ℕ)
-    (first last : Address) → IsAddressText grammar first_text first → IsAddressText grammar last_text last
-    → (o : Option V) → IfSome o (λ v. IsRangeFrom first last (range_of_value v))
+pub reads_ends : (grammar : Grammar) (first_text last_text : List ℕ) (first last : Address)
+    → IsAddressText grammar first_text first → IsAddressText grammar last_text last → (o : Option Entry)
+    → IfSome o (λ v. IsRangeFrom first last (entry_range v))
     → (IsNone o ↔ ((range : AddressRange) → ¬ (IsRangeFrom first last range)))
-    → ReadsAs range_of_value (WriteRange grammar first_text) last_text o
-reads_ends range_of_value grammar first_text last_text first last f l (Some v) some none =
-    reads_some range_of_value (WriteRange grammar first_text) last_text v
+    → ReadsAs entry_range (WriteRange grammar first_text) last_text o
+reads_ends grammar first_text last_text first last f l (Some v) some none =
+    reads_some entry_range (WriteRange grammar first_text) last_text v
     record { first = first; last = last; writes_first = f; writes_last = l; addresses = some }
-reads_ends range_of_value grammar first_text last_text first last f l None some none =
-    reads_none range_of_value (WriteRange grammar first_text) last_text (λ range k.
+reads_ends grammar first_text last_text first last f l None some none =
+    reads_none entry_range (WriteRange grammar first_text) last_text (λ range k.
     let one = one_address grammar first_text first k.first f k.writes_first in
     let two = one_address grammar last_text last k.last l k.writes_last in
     none.0 refl range (rw (one, two) k.addresses))
 
 -- the network of an address and a netmask that were read
-pub reads_masked : {V : Type 0} (network_of : V → Network) (grammar : Grammar) (address_text mask_text : List ℕ)
-    (address mask : Address) → IsAddressText grammar address_text address → IsAddressText grammar mask_text mask
-    → (o : Option V) → IfSome o (λ v. IsMaskedBy address mask (network_of v))
+pub reads_masked : (grammar : Grammar) (address_text mask_text : List ℕ) (address mask : Address)
+    → IsAddressText grammar address_text address → IsAddressText grammar mask_text mask → (o : Option IpNet)
+    → IfSome o (λ v. IsMaskedBy address mask (ip_network v))
     → (IsNone o ↔ ((n : Network) → ¬ (IsMaskedBy address mask n)))
-    → ReadsAs network_of (WriteMasked grammar address_text) mask_text o
-reads_masked network_of grammar address_text mask_text address mask a m (Some v) some none =
-    reads_some network_of (WriteMasked grammar address_text) mask_text v
+    → ReadsAs ip_network (WriteMasked grammar address_text) mask_text o
+reads_masked grammar address_text mask_text address mask a m (Some v) some none =
+    reads_some ip_network (WriteMasked grammar address_text) mask_text v
     record { address = address; mask = mask; writes_address = a; writes_mask = m; addresses = some }
-reads_masked network_of grammar address_text mask_text address mask a m None some none =
-    reads_none network_of (WriteMasked grammar address_text) mask_text (λ n k.
+reads_masked grammar address_text mask_text address mask a m None some none =
+    reads_none ip_network (WriteMasked grammar address_text) mask_text (λ n k.
     let one = one_address grammar address_text address k.address a k.writes_address in
     let two = one_address grammar mask_text mask k.mask m k.writes_mask in
     none.0 refl n (rw (one, two) k.addresses))

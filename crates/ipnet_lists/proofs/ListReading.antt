@@ -1,7 +1,7 @@
 -- A list that is read line by line.
 use Rattle.std.proofs.Common.{◌≡◌, ◌≢◌, ◌⊎◌, ℕ, ◌+◌, ◌<◌, Bool, true, List, [], ◌∷◌, ◌++◌}
 use Rattle.std.proofs.Common.{length}
-use Rattle.std.proofs.Common.{refl, sym, ap, ◌∙◌, arith, inl, inr, subst, append_assoc, append-nil}
+use Rattle.std.proofs.Common.{refl, sym, ap, ◌∙◌, arith, inl, inr, subst, subst₂, append_assoc, append-nil}
 use Rattle.ipnet_base.specs.Ranges.{AddressRange}
 use Rattle.ipnet.specs.declared.parser.Grammar.{Grammar}
 use Rattle.ipnet.specs.Lines.{lines_of}
@@ -14,46 +14,31 @@ use Rattle.ipnet_lists.proofs.RefusalLaws.{HasMore-nil, HasMore-trans}
 
 -- ---- one line more
 
-empty_line : (grammar : Grammar) (list line : ℕ) (text : List ℕ) (texts : List (List ℕ)) (entries : List ListEntry)
-    (refusals : List Refusal) → length text ≡ 0 → AreRead grammar list (line + 1) texts entries refusals
-    → AreRead grammar list line (text ∷ texts) entries refusals
-empty_line grammar list line [] texts entries refusals none h = h
-empty_line grammar list line (b ∷ text) texts entries refusals none h = absurd (omega arith)
-
 -- the entry that the text is
 abbrev entry_at : List ℕ → AddressRange → ListEntry
 entry_at text range = record { text = text; range = range }
 
-entry_line : (grammar : Grammar) (list line : ℕ) (text : List ℕ) (texts : List (List ℕ)) (range : AddressRange)
-    (more : List ListEntry) (refusals : List Refusal) → 0 < length text → IsEntryText grammar text range
-    → AreRead grammar list (line + 1) texts more refusals
-    → AreRead grammar list line (text ∷ texts) (entry_at text range ∷ more) refusals
-entry_line grammar list line [] texts range more refusals some is h = absurd (omega arith)
-entry_line grammar list line (b ∷ text) texts range more refusals some is h =
-    inl (more, record { range = range; next = refl; writes = is }, h)
+module _ (grammar : Grammar) (list line : ℕ) where
+  empty_line : (text : List ℕ) (texts : List (List ℕ)) (entries : List ListEntry) (refusals : List Refusal)
+      → length text ≡ 0 → AreRead grammar list (line + 1) texts entries refusals
+      → AreRead grammar list line (text ∷ texts) entries refusals
+  empty_line [] texts entries refusals none h = h
+  empty_line (b ∷ text) texts entries refusals none h = absurd (omega arith)
 
-refused_line : (grammar : Grammar) (list line : ℕ) (text : List ℕ) (texts : List (List ℕ)) (entries : List ListEntry)
-    (more : List Refusal) → 0 < length text → IsNoEntry grammar text
-    → AreRead grammar list (line + 1) texts entries more
-    → AreRead grammar list line (text ∷ texts) entries (refusal_at grammar list line text ∷ more)
-refused_line grammar list line [] texts entries more some none h = absurd (omega arith)
-refused_line grammar list line (b ∷ text) texts entries more some none h =
-    inr (more, record { next = refl; no_entry = none }, h)
+  entry_line : (text : List ℕ) (texts : List (List ℕ)) (range : AddressRange) (more : List ListEntry)
+      (refusals : List Refusal) → 0 < length text → IsEntryText grammar text range
+      → AreRead grammar list (line + 1) texts more refusals
+      → AreRead grammar list line (text ∷ texts) (entry_at text range ∷ more) refusals
+  entry_line [] texts range more refusals some is h = absurd (omega arith)
+  entry_line (b ∷ text) texts range more refusals some is h =
+      inl (more, record { range = range; next = refl; writes = is }, h)
 
--- ---- lines, one after the other
-
-texts_more : (grammar : Grammar) (list : ℕ) (first second : List (List ℕ)) (line mid after : ℕ)
-    (entries others : List ListEntry) (refusals later_refusals : List Refusal)
-    → AreTexts grammar list first line mid entries refusals
-    → AreTexts grammar list second mid after others later_refusals
-    → AreTexts grammar list (first ++ second) line after (entries ++ others) (refusals ++ later_refusals)
-texts_more grammar list first second line mid after entries others refusals later_refusals h k later more refused is =
-    rw (
-      append_assoc first second later,
-      append_assoc entries others more,
-      append_assoc refusals later_refusals refused,
-    )
-    (h (second ++ later) (others ++ more) (later_refusals ++ refused) (k later more refused is))
+  refused_line : (text : List ℕ) (texts : List (List ℕ)) (entries : List ListEntry) (more : List Refusal)
+      → 0 < length text → IsNoEntry grammar text → AreRead grammar list (line + 1) texts entries more
+      → AreRead grammar list line (text ∷ texts) entries (refusal_at grammar list line text ∷ more)
+  refused_line [] texts entries more some none h = absurd (omega arith)
+  refused_line (b ∷ text) texts entries more some none h =
+      inr (more, record { next = refl; no_entry = none }, h)
 
 -- ---- whether there was an entry
 
@@ -116,9 +101,15 @@ adds_more old mid new first second IsMade IsMadeThen IsMadeNow h k = record {
   same_list = k.same_list ∙ h.same_list;
   entries = h.entries ++ k.entries;
   refusals = h.refusals ++ k.refusals;
-  read = texts_more old.grammar old.list first second old.line mid.line new.line h.entries k.entries h.refusals
-      k.refusals h.read (subst (λ g. AreTexts g old.list second mid.line new.line k.entries k.refusals) h.same_grammar
-      (subst (λ n. AreTexts mid.grammar n second mid.line new.line k.entries k.refusals) h.same_list k.read));
+  read = λ later more refused is.
+      let next : AreTexts old.grammar old.list second mid.line new.line k.entries k.refusals
+      = subst₂ (λ g n. AreTexts g n second mid.line new.line k.entries k.refusals) h.same_grammar h.same_list k.read in
+      rw (
+        append_assoc first second later,
+        append_assoc h.entries k.entries more,
+        append_assoc h.refusals k.refusals refused,
+      )
+      (h.read (second ++ later) (k.entries ++ more) (k.refusals ++ refused) (next later more refused is));
   added = HasMore-trans old.refused mid.refused new.refused h.refusals k.refusals h.added k.added;
   made = λ before is. subst IsMadeNow (append_assoc before h.entries k.entries)
       (k.made (before ++ h.entries) (h.made before is));
@@ -211,13 +202,3 @@ pub record AreReadUpTo (old now : LineReader) (bytes rest : List ℕ) (IsMade Is
 pub up_to_start : (lines : LineReader) (bytes : List ℕ) (IsMade : List ListEntry → Type 0)
     → AreReadUpTo lines lines bytes bytes IsMade IsMade
 up_to_start lines bytes IsMade = record { done = []; is = refl; lines = reads_none lines IsMade }
-
-pub up_to_more : (old mid new : LineReader) (bytes rest first after : List ℕ)
-    (IsMade IsMadeThen IsMadeNow : List ListEntry → Type 0) → AreReadUpTo old mid bytes rest IsMade IsMadeThen
-    → lines_of rest ≡ first ∷ lines_of after → ReadsLines mid new (first ∷ []) IsMadeThen IsMadeNow
-    → AreReadUpTo old new bytes after IsMade IsMadeNow
-up_to_more old mid new bytes rest first after IsMade IsMadeThen IsMadeNow h cut one = record {
-  done = h.done ++ first ∷ [];
-  is = h.is ∙ ap (λ ls. h.done ++ ls) cut ∙ sym (append_assoc h.done (first ∷ []) (lines_of after));
-  lines = reads_more old mid new h.done (first ∷ []) IsMade IsMadeThen IsMadeNow h.lines one;
-}

@@ -14,12 +14,11 @@ use Rattle.ipnet_lists.specs.SetLines.{range_text, text_of_ranges, AreNetworkLin
 -- One line more: `lines` is the text of many things, and `line` the text of one. The text so far, and then the text of
 -- what is left, stays the same.
 line_put : {X : Type 0} (line : X → List ℕ) (lines : List X → List ℕ)
-    → ((x : X) (xs : List X) → lines (x ∷ xs) ≡ (line x ++ 10 ∷ []) ++ lines xs) → (text new : List ℕ)
-    (old left : List X) (x : X) → old ≡ x ∷ left → new ≡ (text ++ line x) ++ 10 ∷ []
-    → new ++ lines left ≡ text ++ lines old
-line_put line lines more text new old left x cut e =
-    ap (λ t. t ++ lines left) e
-    ∙ append_assoc (text ++ line x) (10 ∷ []) (lines left)
+    → ((x : X) (xs : List X) → lines (x ∷ xs) ≡ (line x ++ 10 ∷ []) ++ lines xs) → (text : List ℕ)
+    (old left : List X) (x : X) → old ≡ x ∷ left
+    → ((text ++ line x) ++ 10 ∷ []) ++ lines left ≡ text ++ lines old
+line_put line lines more text old left x cut =
+    append_assoc (text ++ line x) (10 ∷ []) (lines left)
     ∙ append_assoc text (line x) (10 ∷ lines left)
     ∙ ap (λ t. text ++ t) (sym (append_assoc (line x) (10 ∷ []) (lines left)) ∙ sym (more x left))
     ∙ ap (λ xs. text ++ lines xs) (sym cut)
@@ -45,7 +44,8 @@ module _ (InSet : Address → Type 0) where
   one_network_written text new old left n cut e h = record {
     blocks = h.blocks;
     maximal = h.maximal;
-    spelled = line_put canonical_text text_of_lines (λ x xs. refl) text new old left n cut e ∙ h.spelled;
+    spelled = ap (λ t. t ++ text_of_lines left) e
+        ∙ line_put canonical_text text_of_lines (λ x xs. refl) text old left n cut ∙ h.spelled;
   }
 
   pub all_networks_written : (text : List ℕ) (left : List Network) → left ≡ [] → AreNetworksWritten InSet text left
@@ -78,7 +78,8 @@ module _ (InSet : Address → Type 0) where
   one_written text new old left r cut e h = record {
     ranges = h.ranges;
     fewest = h.fewest;
-    spelled = line_put range_text text_of_ranges (λ x xs. refl) text new old left r cut e ∙ h.spelled;
+    spelled = ap (λ t. t ++ text_of_ranges left) e
+        ∙ line_put range_text text_of_ranges (λ x xs. refl) text old left r cut ∙ h.spelled;
     some = All-tail (λ r. r.start ≤ r.end) r left (subst (All (λ r. r.start ≤ r.end)) cut h.some);
   }
 

@@ -131,14 +131,12 @@ some_cons n rest cell = (
   ],
 )
 
-pub cells_more : (InSet Old New : Address → Type 0) (len : ℕ) (n : Network) (left rest : List Network)
-    → left ≡ n ∷ rest → ((x : Address) → New x → IsAddress x)
-    → ((x : Address) → New x ↔ (Old x ⊎ InBlock (widened n len) x)) → AreCellsOf InSet len left Old
-    → AreCellsOf InSet len rest New
-cells_more InSet Old New len n left rest is fits step h x =
+pub cells_more : (InSet Old New : Address → Type 0) (len : ℕ) (n : Network) (rest : List Network)
+    → ((x : Address) → New x → IsAddress x) → ((x : Address) → New x ↔ (Old x ⊎ InBlock (widened n len) x))
+    → AreCellsOf InSet len (n ∷ rest) Old → AreCellsOf InSet len rest New
+cells_more InSet Old New len n rest fits step h x =
     let cell = network_at x len in
-    let before : (Old x ⊎ IsInCell len (HasSome (IsCoveredBy (n ∷ rest))) x) ↔ IsInCell len (HasSome InSet) x
-    = subst (λ z. (Old x ⊎ IsInCell len (HasSome (IsCoveredBy z)) x) ↔ IsInCell len (HasSome InSet) x) is (h x) in (
+    let before = h x in (
       λ k. elim k [
         | inl p ↦ elim ((step x).0 p) [
           | inl o ↦ before.0 (inl o)

@@ -1,25 +1,14 @@
 -- The layers of a map, one after the other, and how many networks they have.
 use Rattle.std.proofs.Common.{◌≡◌, ℕ, ◌+◌, ◌-◌, ◌<◌, ◌≤◌, List, [], ◌∷◌, ◌++◌, length, get_or, take, drop}
-use Rattle.std.proofs.Common.{refl, sym, ap, ◌∙◌, subst, arith, add-one}
+use Rattle.std.proofs.Common.{refl, sym, ap, ◌∙◌, arith, add-one}
 use Rattle.std.specs.List.{AllZip}
 use Rattle.std.proofs.Math.Seq.{drop-cons}
-use Rattle.std.proofs.lemmas.List.{take_more, take_all, take-append-drop}
+use Rattle.std.proofs.lemmas.List.{take-append-drop}
 use Rattle.ipnet_base.specs.Address.{Address}
 use Rattle.ipnet_base.specs.Network.{Network}
 use Rattle.ipnet_base.specs.Blocks.{AreMaximalBlocks}
 use Rattle.ipnet_base.proofs.UniqueLaws.{AreMaximalBlocks-unique}
-use Rattle.ipnet_bars.proofs.PartLaws.{zip_push}
 use Rattle.ipnet_maps.specs.Drawings.{total_of}
-
--- one more pair
-pub zip_more : {X Y : Type 0} (R : X → Y → Type 0) (xs : List X) (i : ℕ) (x : X) (ys new : List Y) (y : Y)
-    → i < length xs → x ≡ get_or xs i x → AllZip R (take i xs) ys → R x y → new ≡ ys ++ y ∷ []
-    → AllZip R (take (i + 1) xs) new
-zip_more R xs i x ys new y less is so_far one pushed =
-    let more : take (i + 1) xs ≡ take i xs ++ x ∷ []
-    = take_more xs i x less ∙ ap (λ z. take i xs ++ z ∷ []) (sym is) in
-    subst (λ z. AllZip R z new) (sym more) (subst (AllZip R (take i xs ++ x ∷ [])) (sym pushed)
-    (zip_push R (take i xs) ys x y so_far one))
 
 -- ---- the networks of one class
 
@@ -68,21 +57,23 @@ total_append : {X : Type 0} (xss yss : List (List X)) → total_of (xss ++ yss) 
 total_append [] yss = let same : total_of yss ≡ 0 + total_of yss = omega arith in same
 total_append (xs ∷ xss) yss = let rest = total_append xss yss in omega (arith, rest)
 
--- The lists of the first `i` members leave room for `room` more.
-abbrev pub HasRoom : {X Y : Type 0} → (X → List Y → Type 0) → List X → ℕ → ℕ → Type 0
-HasRoom {X} {Y} R xs i room = (lists : List (List Y)) → AllZip R (take i xs) lists → total_of lists + room ≡ 65536
+-- The lists of these members leave room for `room` more.
+abbrev pub HasRoom : {X Y : Type 0} → (X → List Y → Type 0) → List X → ℕ → Type 0
+HasRoom {X} {Y} R xs room = (lists : List (List Y)) → AllZip R xs lists → total_of lists + room ≡ 65536
 
-pub room_begin : {X Y : Type 0} (R : X → List Y → Type 0) (xs : List X) → HasRoom R xs 0 65536
-room_begin R xs [] h = omega arith
-room_begin R xs (list ∷ lists) h = absurd h
+-- The lists of these members have more networks than a map may have rectangles.
+abbrev pub AreTooMany : {X Y : Type 0} → (X → List Y → Type 0) → List X → Type 0
+AreTooMany {X} {Y} R xs = (lists : List (List Y)) → AllZip R xs lists → 65536 < total_of lists
 
-pub room_more : {X Y : Type 0} (R : X → List Y → Type 0) (xs : List X) (i : ℕ) (x : X) (room rest : ℕ) → i < length xs
-    → x ≡ get_or xs i x → ((list : List Y) → R x list → rest + length list ≡ room) → HasRoom R xs i room
-    → HasRoom R xs (i + 1) rest
-room_more {X} {Y} R xs i x room rest less is step h lists zip =
-    let more : take (i + 1) xs ≡ take i xs ++ x ∷ []
-    = take_more xs i x less ∙ ap (λ z. take i xs ++ z ∷ []) (sym is) in
-    let split = zip_split R (take i xs) (x ∷ []) lists (subst (λ z. AllZip R z lists) more zip) in
+pub room_begin : {X Y : Type 0} (R : X → List Y → Type 0) → HasRoom R [] 65536
+room_begin R [] h = omega arith
+room_begin R (list ∷ lists) h = absurd h
+
+pub room_more : {X Y : Type 0} (R : X → List Y → Type 0) (front : List X) (x : X) (room rest : ℕ)
+    → ((list : List Y) → R x list → rest + length list ≡ room) → HasRoom R front room
+    → HasRoom R (front ++ x ∷ []) rest
+room_more {X} {Y} R front x room rest step h lists zip =
+    let split = zip_split R front (x ∷ []) lists zip in
     let last = of_last split.second split.of_second in
     omega (arith, ap total_of split.whole, total_append split.first split.second, h split.first split.of_first, last)
   where
@@ -92,24 +83,25 @@ room_more {X} {Y} R xs i x room rest less is step h lists zip =
     of_last (list ∷ other ∷ others) z = absurd z.1
 
 -- a list that has no room makes the whole too long
-pub room_lacks : {X Y : Type 0} (R : X → List Y → Type 0) (xs : List X) (i : ℕ) (x : X) (room : ℕ) → i < length xs
-    → x ≡ get_or xs i x → ((list : List Y) → R x list → room < length list) → HasRoom R xs i room
-    → (lists : List (List Y)) → AllZip R xs lists → 65536 < total_of lists
-room_lacks {X} {Y} R xs i x room less is step h lists zip =
-    let cut : take i xs ++ (x ∷ drop (i + 1) xs) ≡ xs
-    = ap (λ z. take i xs ++ (z ∷ drop (i + 1) xs)) is
-    ∙ ap (λ z. take i xs ++ (get_or xs i x ∷ drop z xs)) (add-one i)
-    ∙ ap (λ z. take i xs ++ z) (sym (drop-cons xs i x less)) ∙ take-append-drop i xs in
-    let split = zip_split R (take i xs) (x ∷ drop (i + 1) xs) lists (subst (λ z. AllZip R z lists) (sym cut) zip) in
+pub room_lacks : {X Y : Type 0} (R : X → List Y → Type 0) (front later : List X) (x : X) (room : ℕ)
+    → ((list : List Y) → R x list → room < length list) → HasRoom R front room → AreTooMany R (front ++ x ∷ later)
+room_lacks {X} {Y} R front later x room step h lists zip =
+    let split = zip_split R front (x ∷ later) lists zip in
     let more = of_second split.second split.of_second in
     let whole : total_of lists ≡ total_of (split.first ++ split.second) = ap total_of split.whole in
     omega (arith, whole, total_append split.first split.second, h split.first split.of_first, more)
   where
-    of_second : (second : List (List Y)) → AllZip R (x ∷ drop (i + 1) xs) second → room < total_of second
+    of_second : (second : List (List Y)) → AllZip R (x ∷ later) second → room < total_of second
     of_second [] z = absurd z
     of_second (list ∷ others) z = let one = step list z.0 in omega (arith, one)
 
-pub room_end : {X Y : Type 0} (R : X → List Y → Type 0) (xs : List X) (i room : ℕ) → length xs ≤ i
-    → HasRoom R xs i room → (lists : List (List Y)) → AllZip R xs lists → total_of lists ≤ 65536
-room_end R xs i room le h lists zip =
-    let all = h lists (subst (λ z. AllZip R z lists) (sym (take_all i xs le)) zip) in omega (arith, all)
+-- an item between those before it and those after it
+pub item_between : {X : Type 0} (xs : List X) (i : ℕ) (x : X) → i < length xs → x ≡ get_or xs i x
+    → take i xs ++ x ∷ drop (i + 1) xs ≡ xs
+item_between xs i x less is =
+    ap (λ z. take i xs ++ z ∷ drop (i + 1) xs) is ∙ ap (λ z. take i xs ++ get_or xs i x ∷ drop z xs) (add-one i)
+    ∙ ap (λ z. take i xs ++ z) (sym (drop-cons xs i x less)) ∙ take-append-drop i xs
+
+pub room_end : {X Y : Type 0} (R : X → List Y → Type 0) (xs : List X) (room : ℕ) → HasRoom R xs room
+    → (lists : List (List Y)) → AllZip R xs lists → total_of lists ≤ 65536
+room_end R xs room h lists zip = let all = h lists zip in omega (arith, all)

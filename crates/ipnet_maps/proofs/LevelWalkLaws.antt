@@ -15,7 +15,8 @@ use Rattle.ipnet_base.proofs.NeighbourLaws.{lies_before_from_maximal}
 use Rattle.ipnet_base.proofs.NestingLaws.{nested}
 use Rattle.ipnet.specs.NetworkOf.{ip_network}
 use Rattle.ipnet.specs.NetworkParts.{network_at}
-use Rattle.ipnet_sets.specs.Members.{IsCountOf}
+use Rattle.ipnet_sets.specs.declared.set.IpSet.{IpSet}
+use Rattle.ipnet_sets.specs.Members.{IsMember, IsCountOf}
 use Rattle.ipnet_maps.specs.declared.level.Level.{Level}
 use Rattle.ipnet_maps.specs.declared.level.Level.TheVariants.{Nothing, Whole}
 use Rattle.ipnet_sets.specs.Parts.{IsInPart}
@@ -204,16 +205,22 @@ module _ (InSet : Address → Type 0) (len : ℕ) (fits : (x : Address) → InSe
   }
 
 -- the addresses so far fit in the open cell
-pub open_fits : (InSet : Address → Type 0) (len : ℕ) (left : List Network) (o : Option OpenCell)
-    → IsOpenCount InSet len left o → IfSome o (λ c. c.more + 1 ≤ block_size (ip_network c.network))
-open_fits InSet len left None k = tt
-open_fits InSet len left (Some c) k =
-    part_fits (IsDone InSet left) (ip_network c.network) (c.more + 1) k.is_count
+pub open_fits : {InSet : Address → Type 0} {len : ℕ} {left : List Network} (o : Option OpenCell)
+    {Known : Level → Address → Type 0} → IsWalk InSet len left o Known
+    → IfSome o (λ c. c.more + 1 ≤ block_size (ip_network c.network))
+open_fits None h = tt
+open_fits {InSet} {len} {left} (Some c) h =
+    part_fits (IsDone InSet left) (ip_network c.network) (c.more + 1) h.opened.is_count
+
+-- the walk, with what is left by another name
+pub walk_left : {InSet : Address → Type 0} {len : ℕ} {left now : List Network} {o : Option OpenCell}
+    {Known : Level → Address → Type 0} → left ≡ now → IsWalk InSet len left o Known → IsWalk InSet len now o Known
+walk_left {InSet} {len} {left} {now} {o} {Known} same h = subst (λ z. IsWalk InSet len z o Known) same h
 
 -- ---- one network
 
-module _ (InSet : Address → Type 0) (len : ℕ) (fits : (x : Address) → InSet x → IsAddress x) (n : Network)
-    (rest : List Network) (open_cell : Option OpenCell) (Known : Level → Address → Type 0)
+module _ {InSet : Address → Type 0} {len : ℕ} (fits : (x : Address) → InSet x → IsAddress x) {n : Network}
+    {rest : List Network} {open_cell : Option OpenCell} {Known : Level → Address → Type 0}
     (h : IsWalk InSet len (n ∷ rest) open_cell Known) where
   in_set_here : (x : Address) → InBlock n x → InSet x
   in_set_here = (h.maximal n (contains_here n rest)).inside.within
@@ -458,19 +465,24 @@ module _ (InSet : Address → Type 0) (len : ℕ) (fits : (x : Address) → InSe
 
 -- ---- the end
 
-pub walk_end : (InSet : Address → Type 0) (len : ℕ) (fits : (x : Address) → InSet x → IsAddress x)
-    (o : Option OpenCell) (Known New : Level → Address → Type 0) → IsWalk InSet len [] o Known
-    → IsClosedTo InSet len fits [] o Known New → (l : Level) → l ≢ Nothing → (x : Address)
-    → New l x ↔ IsInCell len (λ n. IsLevelOf InSet n l) x
-walk_end InSet len fits o Known New h closed l ne x = (closed.sound l x, from)
+-- once the open cell is closed too, what is known of a level is the cells of this level
+pub walk_end : (set : IpSet) (len : ℕ) (before after : KnownCells) (o : Option OpenCell)
+    → IsWalk (IsMember set) len [] o (IsPushedAs before) → IsClosed before after o → (l : Level) → l ≢ Nothing
+    → (x : Address) → IsPushedAs after l x ↔ IsInCell len (λ n. IsLevelOf (IsMember set) n l) x
+walk_end set len before after o h ok l ne x = (closed.sound l x, from)
   where
-    of_level : (k : Level) → IsInCell len (λ n. IsLevelOf InSet n l) x → New k x → New l x
-    of_level k c new =
-        subst (λ z. New z x) (one_level InSet (network_at x len) k l (closed.sound k x new).cell c.cell) new
+    closed : IsClosedTo (IsMember set) len (λ y m. m.fits) [] o (IsPushedAs before) (IsPushedAs after)
+    closed = closed_to (IsMember set) len (λ y m. m.fits) [] before after o h.opened
+        (λ y left inside. cover_nil y left) h.sound ok
 
-    from : IsInCell len (λ n. IsLevelOf InSet n l) x → New l x
+    of_level : (k : Level) → IsInCell len (λ n. IsLevelOf (IsMember set) n l) x → IsPushedAs after k x
+        → IsPushedAs after l x
+    of_level k c new = subst (λ z. IsPushedAs after z x)
+        (one_level (IsMember set) (network_at x len) k l (closed.sound k x new).cell c.cell) new
+
+    from : IsInCell len (λ n. IsLevelOf (IsMember set) n l) x → IsPushedAs after l x
     from c = elim (h.complete x
-        (record { fits = c.fits; cell = some_level InSet (network_at x len) l ne c.cell })) [
+        (record { fits = c.fits; cell = some_level (IsMember set) (network_at x len) l ne c.cell })) [
           | inl more ↦ absurd (cover_nil more.0 more.1.in_set)
           | inr found ↦ elim found [
             | inl inside ↦ let k = closed.new x inside in of_level k.0 c k.1

@@ -35,12 +35,11 @@ pub record AreLines (rs : List Rectangle) (text : List ℕ) (pen : Place) : Type
   pub spelled : text ≡ rows_path rs
   pub at : pen ≡ last_end corner rs
 
-pub lines_more : (rs more : List Rectangle) (r : Rectangle) (text moved longer : List ℕ) (pen : Place)
-    → more ≡ rs ++ r ∷ [] → moved ≡ text ++ first_move text → longer ≡ moved ++ line_text pen r → AreLines rs text pen
+pub lines_more : (rs more : List Rectangle) (r : Rectangle) (text longer : List ℕ) (pen : Place)
+    → more ≡ rs ++ r ∷ [] → longer ≡ (text ++ first_move text) ++ line_text pen r → AreLines rs text pen
     → AreLines more longer (end_of r)
-lines_more rs more r text moved longer pen one begun added h = record {
-  spelled = added ∙ ap (λ z. z ++ line_text pen r) begun
-      ∙ ap (λ z. z ++ first_move z ++ line_text pen r) h.spelled
+lines_more rs more r text longer pen one added h = record {
+  spelled = added ∙ ap (λ z. (z ++ first_move z) ++ line_text pen r) h.spelled
       ∙ ap (λ z. rows_path rs ++ first_move (rows_path rs) ++ line_text z r) h.at
       ∙ sym (rows_push rs r) ∙ ap rows_path (sym one);
   at = sym (end_push corner rs r) ∙ ap (last_end corner) (sym one);

@@ -1,11 +1,12 @@
 -- A path of lines reads back as its rows: no other rows have this path.
-use Rattle.std.proofs.Common.{◌≡◌, ℕ, ◌^◌, ◌<◌, List, [], ◌∷◌, ◌++◌, drop, length}
+use Rattle.std.proofs.Common.{◌≡◌, ℕ, List, [], ◌∷◌, ◌++◌, drop, length}
 use Rattle.std.proofs.Common.{codes, decimal, All, refl, sym, ap, ap₂, ◌∙◌, arith, append_assoc}
 use Rattle.std.proofs.lemmas.List.Elements.{All-head, All-tail}
 use Rattle.ipnet_maps.specs.declared.layout.Place.{Place}
 use Rattle.ipnet_maps.specs.declared.layout.Rectangle.{Rectangle}
 use Rattle.ipnet_maps.specs.Paths.{corner, move_text, end_of, line_text, lines_of, rows_path, FitsWords}
-use Rattle.ipnet_maps.proofs.ReadLaws.{Begins, head_is, move_read, number_read, same_rectangle, spread_is}
+use Rattle.ipnet_maps.proofs.ReadLaws.{Begins, IsPlaceInWords, head_is, move_read, number_read, place_in_words}
+use Rattle.ipnet_maps.proofs.ReadLaws.{same_rectangle, spread_is}
 
 -- The row is one cell high.
 abbrev pub IsRow : Rectangle → Type 0
@@ -42,28 +43,25 @@ some_line from other r rest e =
     let text = 104 ∷ (decimal r.sides.width ++ ended (end_of r) rest) in
     absurd (omega (arith, head_is 122 109 [] _ (e ∙ ended_is from r rest ∙ spread_is from r.place text)))
 
-lines_read : (from : Place) (rs ss : List Rectangle) → from.column < 2 ^ 32 → from.row < 2 ^ 32 → All FitsWords rs
-    → All FitsWords ss → All IsRow rs → All IsRow ss → ended from rs ≡ ended from ss → rs ≡ ss
-lines_read from [] [] column row fr fs hr hs e = refl
-lines_read from [] (s ∷ ss) column row fr fs hr hs e = absurd (some_line from from s ss e)
-lines_read from (r ∷ rs) [] column row fr fs hr hs e = absurd (some_line from from r rs (sym e))
-lines_read from (r ∷ rs) (s ∷ ss) column row fr fs hr hs e =
+lines_read : (from : Place) (rs ss : List Rectangle) → IsPlaceInWords from → All FitsWords rs → All FitsWords ss
+    → All IsRow rs → All IsRow ss → ended from rs ≡ ended from ss → rs ≡ ss
+lines_read from [] [] here fr fs hr hs e = refl
+lines_read from [] (s ∷ ss) here fr fs hr hs e = absurd (some_line from from s ss e)
+lines_read from (r ∷ rs) [] here fr fs hr hs e = absurd (some_line from from r rs (sym e))
+lines_read from (r ∷ rs) (s ∷ ss) here fr fs hr hs e =
     let one = All-head FitsWords r rs fr in
     let other = All-head FitsWords s ss fs in
-    let left = begins (end_of r) rs in
-    let right = begins (end_of s) ss in
-    let at = move_read from r.place s.place (decimal r.sides.width ++ ended (end_of r) rs)
-    (decimal s.sides.width ++ ended (end_of s) ss) column row one.column one.row other.column other.row
-    (sym (ended_is from r rs) ∙ e ∙ ended_is from s ss) in
-    let wide = number_read r.sides.width s.sides.width left.first right.first left.others right.others
-    (omega (arith, one.width)) (omega (arith, other.width)) left.stop right.stop
-    (ap (λ z. decimal r.sides.width ++ z) (sym left.same) ∙ at.1
-    ∙ ap (λ z. decimal s.sides.width ++ z) right.same) in
+    let left = ended (end_of r) rs in
+    let right = ended (end_of s) ss in
+    let at = move_read from r.place s.place (decimal r.sides.width ++ left) (decimal s.sides.width ++ right) here
+    (place_in_words r one) (place_in_words s other) (sym (ended_is from r rs) ∙ e ∙ ended_is from s ss) in
+    let wide = number_read r.sides.width s.sides.width left right (omega (arith, one.width))
+    (omega (arith, other.width)) (begins (end_of r) rs) (begins (end_of s) ss) at.1 in
     let same = same_rectangle r s at.0.0 at.0.1 wide.0
     (All-head IsRow r rs hr ∙ sym (All-head IsRow s ss hs)) in
-    let rest = lines_read (end_of r) rs ss (omega arith) one.row (All-tail FitsWords r rs fr)
-    (All-tail FitsWords s ss fs) (All-tail IsRow r rs hr) (All-tail IsRow s ss hs)
-    (left.same ∙ wide.1 ∙ sym right.same ∙ ap (λ z. ended (end_of z) ss) (sym same)) in
+    let rest = lines_read (end_of r) rs ss (record { column = omega arith; row = one.row })
+    (All-tail FitsWords r rs fr) (All-tail FitsWords s ss fs) (All-tail IsRow r rs hr) (All-tail IsRow s ss hs)
+    (wide.1 ∙ ap (λ z. ended (end_of z) ss) (sym same)) in
     ap₂ (λ a b. a ∷ b) same rest
 
 pub rows_read : (rs ss : List Rectangle) → All FitsWords rs → All FitsWords ss → All IsRow rs → All IsRow ss
@@ -72,5 +70,5 @@ rows_read [] [] fr fs hr hs e = refl
 rows_read [] (s ∷ ss) fr fs hr hs e = absurd (omega (arith, ap length e))
 rows_read (r ∷ rs) [] fr fs hr hs e = absurd (omega (arith, ap length e))
 rows_read (r ∷ rs) (s ∷ ss) fr fs hr hs e =
-    lines_read corner (r ∷ rs) (s ∷ ss) (omega arith) (omega arith) fr fs hr hs
+    lines_read corner (r ∷ rs) (s ∷ ss) (record { column = omega arith; row = omega arith }) fr fs hr hs
     (ap (λ z. drop 5 z ++ 122 ∷ []) e)

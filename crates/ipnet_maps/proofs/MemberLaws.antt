@@ -112,31 +112,29 @@ any_of_two P (x ∷ xs) t = elim t [
 
 -- ---- members of two lists, place by place
 
-pub any_zip : {X Y : Type 0} (R : X → Y → Type 0) (P : X → Type 0) (Q : Y → Type 0)
-    → ((x : X) (y : Y) → R x y → P x → Q y) → (xs : List X) (ys : List Y) → AllZip R xs ys → Any P xs → Any Q ys
-any_zip R P Q f [] ys z a = absurd (omega (arith, a.2))
-any_zip R P Q f (x ∷ xs) [] z a = absurd z
-any_zip R P Q f (x ∷ xs) (y ∷ ys) z a = elim (any_cases P x xs a) [
-  | inl here ↦ any_here Q y ys (f x y z.0 here)
-  | inr later ↦ any_there Q y ys (any_zip R P Q f xs ys z.1 later)
-]
+module _ {X Y : Type 0} (R : X → Y → Type 0) (P : X → Type 0) (Q : Y → Type 0)
+    (f : (x : X) (y : Y) → R x y → P x → Q y) where
+  pub any_zip : (xs : List X) (ys : List Y) → AllZip R xs ys → Any P xs → Any Q ys
+  any_zip [] ys z a = absurd (omega (arith, a.2))
+  any_zip (x ∷ xs) [] z a = absurd z
+  any_zip (x ∷ xs) (y ∷ ys) z a = elim (any_cases P x xs a) [
+    | inl here ↦ any_here Q y ys (f x y z.0 here)
+    | inr later ↦ any_there Q y ys (any_zip xs ys z.1 later)
+  ]
 
-pub two_zip : {X Y : Type 0} (R : X → Y → Type 0) (P : X → Type 0) (Q : Y → Type 0)
-    → ((x : X) (y : Y) → R x y → P x → Q y) → (xs : List X) (ys : List Y) → AllZip R xs ys → IsInTwo P xs → IsInTwo Q ys
-two_zip R P Q f [] ys z t = absurd t
-two_zip R P Q f (x ∷ xs) [] z t = absurd z
-two_zip R P Q f (x ∷ xs) (y ∷ ys) z t = elim t [
-  | inl first ↦ inl (f x y z.0 first.0, any_zip R P Q f xs ys z.1 first.1)
-  | inr later ↦ inr (two_zip R P Q f xs ys z.1 later)
-]
+  pub two_zip : (xs : List X) (ys : List Y) → AllZip R xs ys → IsInTwo P xs → IsInTwo Q ys
+  two_zip [] ys z t = absurd t
+  two_zip (x ∷ xs) [] z t = absurd z
+  two_zip (x ∷ xs) (y ∷ ys) z t = elim t [
+    | inl first ↦ inl (f x y z.0 first.0, any_zip xs ys z.1 first.1)
+    | inr later ↦ inr (two_zip xs ys z.1 later)
+  ]
 
-pub at_zip : {X Y : Type 0} (R : X → Y → Type 0) (P : X → Type 0) (Q : Y → Type 0)
-    → ((x : X) (y : Y) → R x y → P x → Q y) → (xs : List X) (ys : List Y) → AllZip R xs ys → (place : ℕ)
-    → HasAt P xs place → HasAt Q ys place
-at_zip R P Q f [] ys z place h = absurd h
-at_zip R P Q f (x ∷ xs) [] z place h = absurd z
-at_zip R P Q f (x ∷ xs) (y ∷ ys) z zero h = f x y z.0 h
-at_zip R P Q f (x ∷ xs) (y ∷ ys) z (suc place) h = at_zip R P Q f xs ys z.1 place h
+  pub at_zip : (xs : List X) (ys : List Y) → AllZip R xs ys → (place : ℕ) → HasAt P xs place → HasAt Q ys place
+  at_zip [] ys z place h = absurd h
+  at_zip (x ∷ xs) [] z place h = absurd z
+  at_zip (x ∷ xs) (y ∷ ys) z zero h = f x y z.0 h
+  at_zip (x ∷ xs) (y ∷ ys) z (suc place) h = at_zip xs ys z.1 place h
 
 pub zip_turned : {X Y : Type 0} (R : X → Y → Type 0) (xs : List X) (ys : List Y) → AllZip R xs ys
     → AllZip (λ y x. R x y) ys xs

@@ -18,7 +18,6 @@ use Rattle.ipnet_base.proofs.ExactCoverLaws.{IsExactCover-of_maximal}
 use Rattle.ipnet_sets.proofs.SetRangeLaws.{any_cases, any_here, any_there}
 use Rattle.ipnet.specs.NetworkParts.{network_at}
 use Rattle.ipnet_maps.specs.declared.layout.Rectangle.{Rectangle}
-use Rattle.ipnet_maps.specs.Squares.{IsRectangleOf}
 use Rattle.ipnet_maps.specs.Places.{number_in, cell_in, IsRectangleIn, IsDrawnIn}
 use Rattle.ipnet_maps.proofs.CellLaws.{cell_has}
 use Rattle.ipnet_maps.proofs.SquareLaws.{block_law}
@@ -123,8 +122,8 @@ module _ (frame n : Network) (depth : ℕ) (valid : IsNetwork n) (frame_valid : 
       let nk : frame.prefix_len ≤ n.prefix_len = longer in
       let le : low ≤ depth = omega (arith, nk) in
       let one = same_block x inside in
-      let two = block_law frame.prefix_len depth (number_in frame n) low r le number_fits is (cell_in frame depth x)
-      (cell_fits x) in (
+      let two = block_law frame.prefix_len depth (number_in frame n) low r
+      (record { shorter = le; fits = number_fits; rectangle = is }) (cell_in frame depth x) (cell_fits x) in (
         λ a. two.0 (one.0 a),
         λ i. one.1 (two.1 i),
       )
@@ -195,14 +194,6 @@ module _ (frame : Network) (depth : ℕ) (frame_valid : IsNetwork frame)
         λ i. each.0 ((covers x).1 i),
         λ a. (covers x).0 (each.1 a),
       )
-
--- a rectangle by other names of its numbers
-pub moved_rectangle : {f g d e b c l m : ℕ} (r : Rectangle) → f ≡ g → d ≡ e → b ≡ c → l ≡ m
-    → IsRectangleOf f d b l r → IsRectangleOf g e c m r
-moved_rectangle {f} {g} {d} {e} {b} {c} {l} {m} r of_f of_d of_b of_l h =
-    subst (λ z. IsRectangleOf g e c z r) of_l
-    (subst (λ z. IsRectangleOf g e z l r) of_b
-    (subst (λ z. IsRectangleOf g z b l r) of_d (subst (λ z. IsRectangleOf z d b l r) of_f h)))
 
 -- what holds of all values of a function
 pub all_back : {X Y : Type 0} (P : Y → Type 0) (f : X → Y) (xs : List X) → All P (map f xs) → All (λ x. P (f x)) xs

@@ -20,6 +20,9 @@ use Rattle.ipnet_base.proofs.ListLaws.{pairs_head, pairs_tail, pairs_append, pai
 use Rattle.ipnet.specs.NetworkOf.{ip_network}
 use Rattle.ipnet.specs.NetworkParts.{network_at}
 use Rattle.ipnet.specs.declared.net.IpNet.{IpNet}
+use Rattle.ipnet_sets.specs.declared.set.IpSet.{IpSet}
+use Rattle.ipnet_sets.specs.Members.{IsMember}
+use Rattle.ipnet_sets.proofs.SetEqualLaws.{member_or_not}
 use Rattle.ipnet_bars.specs.Parts.{HasSome, HasNone}
 use Rattle.ipnet_maps.specs.declared.class.Class.{Class}
 use Rattle.ipnet_maps.specs.Drawings.{IsShown, IsRectangleCount, total_of}
@@ -43,15 +46,14 @@ below_by_prefix d a b some lt = elim (cases_lt a b) [
     floor b d = div-mul-le_self b d
 
 -- the cell after the cell of the last address of a network, if another network begins after that cell
-pub cell_between : (n k : Network) (low high : Address) (len bits : ℕ) → n.family ≡ k.family → IsGreatestOf n low
-    → IsLeastOf k high → bits ≡ width n.family - len → low.number / 2 ^ bits + 1 < high.number / 2 ^ bits
-    → IsCellBetween len n k
-cell_between n k low high len bits same greatest least e lt = (
+pub cell_between : (n k : Network) (low high : Address) (len : ℕ) → n.family ≡ k.family → IsGreatestOf n low
+    → IsLeastOf k high
+    → low.number / 2 ^ (width n.family - len) + 1 < high.number / 2 ^ (width n.family - len) → IsCellBetween len n k
+cell_between n k low high len same greatest least lt = (
   z,
   λ w near.
       let cell : w.number / 2 ^ bits ≡ low.number / 2 ^ bits + 1
-      = subst (λ b. w.number / 2 ^ b ≡ next * 2 ^ bits / 2 ^ b) (sym e) near.same_prefix
-      ∙ mul-div_cancel next {n = 2 ^ bits} (pow_pos bits) in
+      = near.same_prefix ∙ mul-div_cancel next {n = 2 ^ bits} (pow_pos bits) in
       let after : low.number < w.number
       = below_by_prefix (2 ^ bits) low.number w.number (pow_pos bits) (omega (arith, cell)) in
       let before : w.number < high.number
@@ -61,6 +63,9 @@ cell_between n k low high len bits same greatest least e lt = (
       ),
 )
   where
+    bits : ℕ
+    bits = width n.family - len
+
     next : ℕ
     next = low.number / 2 ^ bits + 1
 
@@ -230,19 +235,19 @@ walk_on InSet len net rest last count h = record {
   few = h.few;
 }
 
-pub run_more : (InSet : Address → Type 0) → IsDecided InSet → ((x : Address) → InSet x → IsAddress x) → (len : ℕ)
-    (n : Network) (rest : List Network) (last : Option IpNet) (count : ℕ) → IsRunWalk InSet len (n ∷ rest) last count
-    → IfSome last (λ l. IsCellBetween len (ip_network l) n) → HasRuns InSet len (count + 1)
-run_more InSet decided fits len n rest last count h between =
-    more_runs InSet decided fits len n rest h.all h.blocks last h.done count h.at_end h.split h.runs h.of_done between
+pub run_more : (set : IpSet) (len : ℕ) (n : Network) (rest : List Network) (last : Option IpNet) (count : ℕ)
+    → IsRunWalk (IsMember set) len (n ∷ rest) last count → IfSome last (λ l. IsCellBetween len (ip_network l) n)
+    → HasRuns (IsMember set) len (count + 1)
+run_more set len n rest last count h between =
+    more_runs (IsMember set) (member_or_not set) (λ x m. m.fits) len n rest h.all h.blocks last h.done count h.at_end
+    h.split h.runs h.of_done between
 
-pub walk_begun : (InSet : Address → Type 0) → IsDecided InSet → ((x : Address) → InSet x → IsAddress x) → (len : ℕ)
-    (net : IpNet) (rest : List Network) (last : Option IpNet) (count : ℕ)
-    → IsRunWalk InSet len (ip_network net ∷ rest) last count → count < 65536
+pub walk_begun : (set : IpSet) (len : ℕ) (net : IpNet) (rest : List Network) (last : Option IpNet) (count : ℕ)
+    → IsRunWalk (IsMember set) len (ip_network net ∷ rest) last count → count < 65536
     → IfSome last (λ l. IsCellBetween len (ip_network l) (ip_network net))
-    → IsRunWalk InSet len rest (Some net) (count + 1)
+    → IsRunWalk (IsMember set) len rest (Some net) (count + 1)
 unfolding run_more more_runs
-walk_begun InSet decided fits len net rest last count h room between =
+walk_begun set len net rest last count h room between =
     let n = ip_network net in
     record {
       all = h.all;
@@ -250,7 +255,7 @@ walk_begun InSet decided fits len net rest last count h room between =
       done = h.done ++ n ∷ [];
       split = h.split ∙ sym (append_assoc h.done (n ∷ []) rest);
       at_end = (h.done, refl);
-      runs = run_more InSet decided fits len n rest last count h between;
+      runs = run_more set len n rest last count h between;
       of_done = λ m c. elim (Contains-append_cases h.runs.starts (n ∷ []) m c) [
         | inl old ↦ Contains-append_left h.done (n ∷ []) m (h.of_done m old)
         | inr new ↦ Contains-append_right h.done (n ∷ []) m new

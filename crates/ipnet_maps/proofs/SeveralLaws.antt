@@ -1,6 +1,6 @@
 -- The cells of a map of several sets.
 use Rattle.std.proofs.Common.{◌≡◌, ℕ, ◌+◌, ◌<◌, ◌↔◌, List, [], ◌∷◌, ◌++◌, length, get_or, append_assoc}
-use Rattle.std.proofs.Common.{sym, ap, ◌∙◌, subst, arith}
+use Rattle.std.proofs.Common.{sym, ap, ◌∙◌, subst₂, arith}
 use Rattle.std.specs.List.{AllZip}
 use Rattle.ipnet_base.specs.Address.{Address}
 use Rattle.ipnet.specs.NetworkParts.{network_at}
@@ -21,34 +21,33 @@ use Rattle.ipnet_maps.proofs.SharedClassLaws.{single_more}
 
 -- ---- the cells of one set
 
-pub single_part : (InSet : Address → Type 0) (len : ℕ) (x : Address) (Some All Incomplete Part Two : Type 0)
-    → (Some ↔ IsInCell len (HasSome InSet) x) → (All ↔ IsInCell len (HasAll InSet) x)
-    → (Incomplete ↔ (Some × ¬ All)) → (Part ↔ (Incomplete × ¬ Two))
-    → Part ↔ (¬ Two × IsInCell len (λ n. HasSome InSet n × ¬ (HasAll InSet n)) x)
-single_part InSet len x Some All Incomplete Part Two some all incomplete part = (
-  λ p.
-      let a = part.0 p in
-      let b = incomplete.0 a.0 in
-      let s = some.0 b.0 in (
-        a.1,
-        record { fits = s.fits; cell = (s.cell, λ every. b.1 (all.1 (record { fits = s.fits; cell = every }))) },
+module _ (InSet : Address → Type 0) (len : ℕ) (x : Address) (All Two : Type 0)
+    (all : All ↔ IsInCell len (HasAll InSet) x) where
+  pub single_part : (Some Incomplete Part : Type 0) → (Some ↔ IsInCell len (HasSome InSet) x)
+      → (Incomplete ↔ (Some × ¬ All)) → (Part ↔ (Incomplete × ¬ Two))
+      → Part ↔ (¬ Two × IsInCell len (λ n. HasSome InSet n × ¬ (HasAll InSet n)) x)
+  single_part Some Incomplete Part some incomplete part = (
+    λ p.
+        let a = part.0 p in
+        let b = incomplete.0 a.0 in
+        let s = some.0 b.0 in (
+          a.1,
+          record { fits = s.fits; cell = (s.cell, λ every. b.1 (all.1 (record { fits = s.fits; cell = every }))) },
+        ),
+    λ h. part.1 (
+      incomplete.1 (
+        some.1 (record { fits = h.1.fits; cell = h.1.cell.0 }),
+        λ a. h.1.cell.1 (all.0 a).cell,
       ),
-  λ h. part.1 (
-    incomplete.1 (
-      some.1 (record { fits = h.1.fits; cell = h.1.cell.0 }),
-      λ a. h.1.cell.1 (all.0 a).cell,
+      h.0,
     ),
-    h.0,
-  ),
-)
+  )
 
-pub single_whole : (InSet : Address → Type 0) (len : ℕ) (x : Address) (All Whole Two : Type 0)
-    → (All ↔ IsInCell len (HasAll InSet) x) → (Whole ↔ (All × ¬ Two))
-    → Whole ↔ (¬ Two × IsInCell len (HasAll InSet) x)
-single_whole InSet len x All Whole Two all whole = (
-  λ w. let a = whole.0 w in (a.1, all.0 a.0),
-  λ h. whole.1 (all.1 h.1, h.0),
-)
+  pub single_whole : (Whole : Type 0) → (Whole ↔ (All × ¬ Two)) → Whole ↔ (¬ Two × IsInCell len (HasAll InSet) x)
+  single_whole Whole whole = (
+    λ w. let a = whole.0 w in (a.1, all.0 a.0),
+    λ h. whole.1 (all.1 h.1, h.0),
+  )
 
 -- ---- the cells of several sets
 
@@ -133,26 +132,16 @@ abbrev pub AreCellsTo : List IpSet → ℕ → ℕ → List ClassCells → Type 
 AreCellsTo sets len place list =
     AllZip (IsClassCells (HasSharedClass sets) len) (Overlap ∷ Several ∷ single_classes 0 place) list
 
-pub cells_start : (sets : List IpSet) (len : ℕ) (none first list : List ClassCells) (overlap several : ClassCells)
-    → none ≡ [] → first ≡ none ++ overlap ∷ [] → list ≡ first ++ several ∷ []
-    → IsClassCells (HasSharedClass sets) len Overlap overlap → IsClassCells (HasSharedClass sets) len Several several
-    → AreCellsTo sets len 0 list
-cells_start sets len none first list overlap several empty one two o s =
-    let both : list ≡ overlap ∷ several ∷ []
-    = two ∙ ap (λ z. z ++ several ∷ []) (one ∙ ap (λ z. z ++ overlap ∷ []) empty) in
-    subst (AreCellsTo sets len 0) (sym both) (o, (s, tt))
-
-pub cells_more : (sets : List IpSet) (len place : ℕ) (list new : List ClassCells) (part whole : ClassCells)
+pub cells_more : (sets : List IpSet) (len place : ℕ) (list : List ClassCells) (part whole : ClassCells)
     → AreCellsTo sets len place list → IsClassCells (HasSharedClass sets) len (PartOf place) part
     → IsClassCells (HasSharedClass sets) len (WholeOf place) whole
-    → new ≡ (list ++ part ∷ []) ++ whole ∷ [] → AreCellsTo sets len (place + 1) new
-cells_more sets len place list new part whole h p w is =
+    → AreCellsTo sets len (place + 1) ((list ++ part ∷ []) ++ whole ∷ [])
+cells_more sets len place list part whole h p w =
     let R = IsClassCells (HasSharedClass sets) len in
     let front = Overlap ∷ Several ∷ single_classes 0 place in
     let at : 0 + place ≡ place = omega arith in
     let more : Overlap ∷ Several ∷ single_classes 0 (place + 1) ≡ front ++ (PartOf place ∷ WholeOf place ∷ [])
     = ap (λ z. Overlap ∷ Several ∷ z) (single_more 0 place)
     ∙ ap (λ z. front ++ (PartOf z ∷ WholeOf z ∷ [])) at in
-    let both : new ≡ list ++ (part ∷ whole ∷ []) = is ∙ append_assoc list (part ∷ []) (whole ∷ []) in
-    subst (λ z. AllZip R z new) (sym more) (subst (AllZip R (front ++ (PartOf place ∷ WholeOf place ∷ []))) (sym both)
-    (zip_append R front (PartOf place ∷ WholeOf place ∷ []) list (part ∷ whole ∷ []) h (p, (w, tt))))
+    subst₂ (AllZip R) (sym more) (sym (append_assoc list (part ∷ []) (whole ∷ [])))
+    (zip_append R front (PartOf place ∷ WholeOf place ∷ []) list (part ∷ whole ∷ []) h (p, (w, tt)))

@@ -1,7 +1,7 @@
 -- Properties of two members of a list, one member after the other.
-use Rattle.std.proofs.Common.{◌≡◌, ◌↔◌, ◌⊎◌, ◌<◌, ◌≤◌, ◌+◌, ℕ, List, [], ◌∷◌, ◌++◌, Any, take, length, get_or}
-use Rattle.std.proofs.Common.{sym, ap, ◌∙◌, subst, arith, inl, inr}
-use Rattle.std.proofs.lemmas.List.{take_more, take_all}
+use Rattle.std.proofs.Common.{◌↔◌, ◌⊎◌, ◌≤◌, ℕ, List, [], ◌∷◌, ◌++◌, Any, take, length}
+use Rattle.std.proofs.Common.{subst, arith, inl, inr}
+use Rattle.std.proofs.lemmas.List.{take_all}
 use Rattle.ipnet_base.specs.Address.{Address, IsAddress}
 use Rattle.ipnet_base.specs.Network.{Network}
 use Rattle.ipnet.specs.NetworkParts.{network_at}
@@ -42,41 +42,37 @@ two_push P (x ∷ xs) y = (
   ],
 )
 
--- After `i` members, `Some` has what one of them has, and `Two` what two of them have.
-abbrev pub HasTwoOf : {X : Type 0} → (X → Address → Type 0) → List X → ℕ → (Address → Type 0) → (Address → Type 0)
+-- `Some` has what one of these members has, and `Two` what two of them have.
+abbrev pub HasTwoOf : {X : Type 0} → (X → Address → Type 0) → List X → (Address → Type 0) → (Address → Type 0)
     → Type 0
-HasTwoOf In list i Some Two = (x : Address) → (Some x ↔ Any (λ n. In n x) (take i list))
-    × (Two x ↔ IsInTwo (λ n. In n x) (take i list))
+HasTwoOf In xs Some Two = (x : Address) → (Some x ↔ Any (λ n. In n x) xs) × (Two x ↔ IsInTwo (λ n. In n x) xs)
 
-pub two_more : {X : Type 0} (In : X → Address → Type 0) (xs : List X) (i : ℕ) (y : X)
-    (Some Two NewSome NewTwo : Address → Type 0) → i < length xs → y ≡ get_or xs i y → HasTwoOf In xs i Some Two
-    → ((x : Address) → NewSome x ↔ (Some x ⊎ In y x)) → ((x : Address) → NewTwo x ↔ (Two x ⊎ (Some x × In y x)))
-    → HasTwoOf In xs (i + 1) NewSome NewTwo
-two_more In xs i y Some Two NewSome NewTwo within is h some two x =
-    let more : take (i + 1) xs ≡ take i xs ++ y ∷ []
-    = take_more xs i y within ∙ ap (λ z. take i xs ++ z ∷ []) (sym is) in
-    let one = any_push (λ n. In n x) (take i xs) y in
-    let both = two_push (λ n. In n x) (take i xs) y in
-    let before = h x in
-    subst (λ z. (NewSome x ↔ Any (λ n. In n x) z) × (NewTwo x ↔ IsInTwo (λ n. In n x) z)) (sym more) (
+-- One member more, which has the addresses of `This`, makes the new two of the two before.
+pub record IsOneMore (This Some Two NewSome NewTwo : Address → Type 0) : Type 0 where
+  pub some : (x : Address) → NewSome x ↔ (Some x ⊎ This x)
+  pub two : (x : Address) → NewTwo x ↔ (Two x ⊎ (Some x × This x))
+
+pub two_more : {X : Type 0} (In : X → Address → Type 0) (front : List X) (y : X)
+    (Some Two NewSome NewTwo : Address → Type 0) → HasTwoOf In front Some Two
+    → IsOneMore (In y) Some Two NewSome NewTwo → HasTwoOf In (front ++ y ∷ []) NewSome NewTwo
+two_more In front y Some Two NewSome NewTwo h more x =
+    let one = any_push (λ n. In n x) front y in
+    let both = two_push (λ n. In n x) front y in
+    let some = more.some x in
+    let two = more.two x in
+    let before = h x in (
       (
-        λ s. one.1 (elim ((some x).0 s) [ inl old ↦ inl (before.0.0 old) | inr last ↦ inr last ]),
-        λ a. (some x).1 (elim (one.0 a) [ inl old ↦ inl (before.0.1 old) | inr last ↦ inr last ]),
+        λ s. one.1 (elim (some.0 s) [ inl old ↦ inl (before.0.0 old) | inr last ↦ inr last ]),
+        λ a. some.1 (elim (one.0 a) [ inl old ↦ inl (before.0.1 old) | inr last ↦ inr last ]),
       ),
       (
-        λ t. both.1 (elim ((two x).0 t) [
-          | inl old ↦ inl (before.1.0 old)
-          | inr last ↦ inr (before.0.0 last.0, last.1)
-        ]),
-        λ t. (two x).1 (elim (both.0 t) [
-          | inl old ↦ inl (before.1.1 old)
-          | inr last ↦ inr (before.0.1 last.0, last.1)
-        ]),
+        λ t. both.1 (elim (two.0 t) [ inl old ↦ inl (before.1.0 old) | inr last ↦ inr (before.0.0 last.0, last.1) ]),
+        λ t. two.1 (elim (both.0 t) [ inl old ↦ inl (before.1.1 old) | inr last ↦ inr (before.0.1 last.0, last.1) ]),
       ),
     )
 
 pub two_whole : {X : Type 0} (In : X → Address → Type 0) (xs : List X) (i : ℕ) (Some Two : Address → Type 0)
-    → length xs ≤ i → HasTwoOf In xs i Some Two → (x : Address) → Two x ↔ IsInTwo (λ n. In n x) xs
+    → length xs ≤ i → HasTwoOf In (take i xs) Some Two → (x : Address) → Two x ↔ IsInTwo (λ n. In n x) xs
 two_whole In xs i Some Two le h x =
     subst (λ z. Two x ↔ IsInTwo (λ n. In n x) z) (take_all i xs le) (h x).1
 

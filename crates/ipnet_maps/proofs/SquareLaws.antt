@@ -59,26 +59,13 @@ end_fits q front back start size whole less at_start is_size is_whole =
     let end : 2 ^ whole ≡ 2 ^ front * 2 ^ back = ap (λ z. 2 ^ z) is_whole ∙ pow ∙ turned in
     omega (arith, at_start, is_size, fits, spread, end)
 
-in_rectangle : (r : Rectangle) (x y width height column row : ℕ) → r.place.column ≡ x → r.place.row ≡ y
-    → r.sides.width ≡ width → r.sides.height ≡ height
-    → IsBetween x y width height column row ↔ IsInRectangle r column row
-in_rectangle r x y width height column row at_x at_y wide high = (
-  λ b. record {
-    from_left = omega (arith, at_x, b.from_left);
-    to_right = omega (arith, at_x, wide, b.to_right);
-    from_top = omega (arith, at_y, b.from_top);
-    to_bottom = omega (arith, at_y, high, b.to_bottom);
-  },
-  λ i. record {
-    from_left = omega (arith, at_x, i.from_left);
-    to_right = omega (arith, at_x, wide, i.to_right);
-    from_top = omega (arith, at_y, i.from_top);
-    to_bottom = omega (arith, at_y, high, i.to_bottom);
-  },
-)
+-- This is the rectangle of a block of the map, without its last `low` bits.
+pub record IsBlockRectangle (f d block low : ℕ) (r : Rectangle) : Type 0 where
+  pub shorter : low ≤ d
+  pub fits : block < 2 ^ (d - low)
+  pub rectangle : IsRectangleOf f d block low r
 
-module _ (f d block low : ℕ) (r : Rectangle) (le : low ≤ d) (fits : block < 2 ^ (d - low))
-    (h : IsRectangleOf f d block low r) where
+module _ (f d block low : ℕ) (r : Rectangle) (h : IsBlockRectangle f d block low r) where
   abbrev back : List Axis
   back = cuts_from f d 0 low
 
@@ -87,24 +74,43 @@ module _ (f d block low : ℕ) (r : Rectangle) (le : low ≤ d) (fits : block < 
 
   whole : back ++ front ≡ square_cuts f d
   whole =
-      let all : low + (d - low) ≡ d = omega (arith, le) in
+      let all : low + (d - low) ≡ d = omega (arith, h.shorter) in
       let start : low ≡ 0 + low = omega arith in
       ap (λ z. back ++ cuts_from f d z (d - low)) start ∙ sym (cuts_split f d 0 low (d - low))
       ∙ ap (cuts_from f d 0) all
 
   at_x : r.place.column ≡ column_of front block * 2 ^ columns_in back
-  at_x = h.column ∙ ap (λ z. column_of front block * z) h.width
+  at_x = h.rectangle.column ∙ ap (λ z. column_of front block * z) h.rectangle.width
 
   at_y : r.place.row ≡ row_of front block * 2 ^ rows_in back
-  at_y = h.row ∙ ap (λ z. row_of front block * z) h.height
+  at_y = h.rectangle.row ∙ ap (λ z. row_of front block * z) h.rectangle.height
+
+  -- the place lies between the sides of the block exactly if it is in the rectangle
+  in_rectangle : (column row : ℕ)
+      → IsBetween (column_of front block * 2 ^ columns_in back) (row_of front block * 2 ^ rows_in back)
+      (2 ^ columns_in back) (2 ^ rows_in back) column row ↔ IsInRectangle r column row
+  in_rectangle column row = (
+    λ b. record {
+      from_left = omega (arith, at_x, b.from_left);
+      to_right = omega (arith, at_x, h.rectangle.width, b.to_right);
+      from_top = omega (arith, at_y, b.from_top);
+      to_bottom = omega (arith, at_y, h.rectangle.height, b.to_bottom);
+    },
+    λ i. record {
+      from_left = omega (arith, at_x, i.from_left);
+      to_right = omega (arith, at_x, h.rectangle.width, i.to_right);
+      from_top = omega (arith, at_y, i.from_top);
+      to_bottom = omega (arith, at_y, h.rectangle.height, i.to_bottom);
+    },
+  )
 
   block_fits : block < 2 ^ length front
-  block_fits = subst (λ z. block < 2 ^ z) (sym (length-cuts_from f d low (d - low))) fits
+  block_fits = subst (λ z. block < 2 ^ z) (sym (length-cuts_from f d low (d - low))) h.fits
 
   pub block_law : (cell : ℕ) → cell < 2 ^ d
       → (cell / 2 ^ low ≡ block) ↔ IsInRectangle r (column_of (square_cuts f d) cell) (row_of (square_cuts f d) cell)
   block_law cell less =
-      let all : d ≡ (d - low) + low = omega (arith, le) in
+      let all : d ≡ (d - low) + low = omega (arith, h.shorter) in
       let outer : cell / 2 ^ low < 2 ^ (d - low) = shr_below cell (d - low) low
       (subst (λ z. cell < 2 ^ z) all less) in
       let size = length-cuts_from f d 0 low in
@@ -118,9 +124,7 @@ module _ (f d block low : ℕ) (r : Rectangle) (le : low ≤ d) (fits : block < 
       let placed = subst (λ z. (cell / 2 ^ low ≡ block)
       ↔ IsBetween (column_of front block * 2 ^ columns_in back) (row_of front block * 2 ^ rows_in back)
       (2 ^ columns_in back) (2 ^ rows_in back) (column_of z cell) (row_of z cell)) whole base in
-      let turned = in_rectangle r (column_of front block * 2 ^ columns_in back) (row_of front block * 2 ^ rows_in back)
-      (2 ^ columns_in back) (2 ^ rows_in back) (column_of (square_cuts f d) cell) (row_of (square_cuts f d) cell)
-      at_x at_y h.width h.height in (
+      let turned = in_rectangle (column_of (square_cuts f d) cell) (row_of (square_cuts f d) cell) in (
         λ e. turned.0 (placed.0 e),
         λ i. placed.1 (turned.1 i),
       )
@@ -131,21 +135,22 @@ module _ (f d block low : ℕ) (r : Rectangle) (le : low ≤ d) (fits : block < 
   on_grid column row i =
       let wide : r.place.column + r.sides.width ≤ 2 ^ columns_in (back ++ front)
       = end_fits (column_of front block) (columns_in front) (columns_in back) r.place.column r.sides.width
-      (columns_in (back ++ front)) (column_fits front block block_fits) at_x h.width (columns_in-append back front) in
+      (columns_in (back ++ front)) (column_fits front block block_fits) at_x h.rectangle.width
+      (columns_in-append back front) in
       let high : r.place.row + r.sides.height ≤ 2 ^ rows_in (back ++ front)
       = end_fits (row_of front block) (rows_in front) (rows_in back) r.place.row r.sides.height
-      (rows_in (back ++ front)) (row_fits front block block_fits) at_y h.height (rows_in-append back front) in (
+      (rows_in (back ++ front)) (row_fits front block block_fits) at_y h.rectangle.height
+      (rows_in-append back front) in (
         subst (λ z. column < 2 ^ columns_in z) whole (omega (arith, i.to_right, wide)),
         subst (λ z. row < 2 ^ rows_in z) whole (omega (arith, i.to_bottom, high)),
       )
 
 -- one block lies in another exactly if its rectangle does
-pub nest_law : (f d block low other other_low : ℕ) (r s : Rectangle) → low ≤ d → other_low ≤ d
-    → block < 2 ^ (d - low) → other < 2 ^ (d - other_low) → IsRectangleOf f d block low r
-    → IsRectangleOf f d other other_low s
+pub nest_law : (f d block low other other_low : ℕ) (r s : Rectangle)
+    → IsBlockRectangle f d block low r → IsBlockRectangle f d other other_low s
     → ((cell : ℕ) → cell < 2 ^ d → cell / 2 ^ low ≡ block → cell / 2 ^ other_low ≡ other)
     ↔ ((column row : ℕ) → IsInRectangle r column row → IsInRectangle s column row)
-nest_law f d block low other other_low r s le other_le fits other_fits of_r of_s = (to, from)
+nest_law f d block low other other_low r s of_r of_s = (to, from)
   where
     cuts : List Axis
     cuts = square_cuts f d
@@ -153,7 +158,7 @@ nest_law f d block low other other_low r s le other_le fits other_fits of_r of_s
     to : ((cell : ℕ) → cell < 2 ^ d → cell / 2 ^ low ≡ block → cell / 2 ^ other_low ≡ other)
         → (column row : ℕ) → IsInRectangle r column row → IsInRectangle s column row
     to nest column row i =
-        let grid = on_grid f d block low r le fits of_r column row i in
+        let grid = on_grid f d block low r of_r column row i in
         let cell = cell_at cuts column row in
         let less : cell < 2 ^ d
         = subst (λ z. cell < 2 ^ z) (length-cuts_from f d 0 d) (cell_fits cuts column row) in
@@ -161,12 +166,12 @@ nest_law f d block low other other_low r s le other_le fits other_fits of_r of_s
         let down : row_of cuts cell ≡ row = row_of_cell cuts column row grid.1 in
         let here : IsInRectangle r (column_of cuts cell) (row_of cuts cell)
         = subst₂ (IsInRectangle r) (sym across) (sym down) i in
-        let there = (block_law f d other other_low s other_le other_fits of_s cell less).0
-        (nest cell less ((block_law f d block low r le fits of_r cell less).1 here)) in
+        let there = (block_law f d other other_low s of_s cell less).0
+        (nest cell less ((block_law f d block low r of_r cell less).1 here)) in
         subst₂ (IsInRectangle s) across down there
 
     from : ((column row : ℕ) → IsInRectangle r column row → IsInRectangle s column row)
         → (cell : ℕ) → cell < 2 ^ d → cell / 2 ^ low ≡ block → cell / 2 ^ other_low ≡ other
     from nest cell less e =
-        (block_law f d other other_low s other_le other_fits of_s cell less).1
-        (nest (column_of cuts cell) (row_of cuts cell) ((block_law f d block low r le fits of_r cell less).0 e))
+        (block_law f d other other_low s of_s cell less).1
+        (nest (column_of cuts cell) (row_of cuts cell) ((block_law f d block low r of_r cell less).0 e))

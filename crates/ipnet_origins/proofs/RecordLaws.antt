@@ -39,54 +39,76 @@ pub one_network_at : (bytes : List ℕ) (at : ℕ) (n k : Network) → IsNetwork
 one_network_at bytes at n k h e = same_network n k (one_family n.family k.family (sym h.family_is ∙ e.family_is))
     (sym h.number_is ∙ e.number_is) (sym h.len_is ∙ e.len_is)
 
+-- The five numbers of a payload are appended, one after the other.
+pub record AreNumbersAdded (vrp : Payload) (old new : List ℕ) : Type 0 where
+  pub with_family : List ℕ
+  pub with_len : List ℕ
+  pub with_max_len : List ℕ
+  pub with_asn : List ℕ
+  pub family : IsAppended 4 (family_number (network_of vrp).family) old with_family
+  pub len : IsAppended 4 (network_of vrp).prefix_len with_family with_len
+  pub max_len : IsAppended 4 vrp.max_len with_len with_max_len
+  pub asn : IsAppended 4 vrp.asn with_max_len with_asn
+  pub number : IsAppended 16 (network_of vrp).number with_asn new
+
 -- a payload, appended number by number
-pub payload_added : (vrp : Payload) (family len max_len asn number : ℕ) (b0 b1 b2 b3 b4 b5 : List ℕ)
-    → IsAppended 4 family b0 b1 → IsAppended 4 len b1 b2 → IsAppended 4 max_len b2 b3 → IsAppended 4 asn b3 b4
-    → IsAppended 16 number b4 b5 → family ≡ family_number (network_of vrp).family
-    → len ≡ (network_of vrp).prefix_len → max_len ≡ vrp.max_len → asn ≡ vrp.asn
-    → number ≡ (network_of vrp).number → IsPayloadAdded vrp b0 b5
-payload_added vrp family len max_len asn number b0 b1 b2 b3 b4 b5 h1 h2 h3 h4 h5 e1 e2 e3 e4 e5
-    = record {
-      more = whole.more;
-      bytes_are = whole.is;
-      size = omega (arith, l4, size_one 16 number b4 b5 h5);
-      stored = record {
-        network = record {
-          family_is = read_back 4 family (length b0) b0 b1 b5 h1 refl to1 ∙ e1;
-          len_is = read_back 4 len (length b0 + 4) b1 b2 b5 h2 l1 to2 ∙ e2;
-          number_is = read_back 16 number (length b0 + 16) b4 b5 b5 h5 l4 (same_bytes b5) ∙ e5;
-        };
-        max_len_is = read_back 4 max_len (length b0 + 8) b2 b3 b5 h3 l2 to3 ∙ e3;
-        asn_is = read_back 4 asn (length b0 + 12) b3 b4 b5 h4 l3 to4 ∙ e4;
-      };
-    }
+pub payload_added : (vrp : Payload) (old new : List ℕ) → AreNumbersAdded vrp old new → IsPayloadAdded vrp old new
+payload_added vrp old new h = record {
+  more = whole.more;
+  bytes_are = whole.is;
+  size = omega (arith, l4, size_one 16 k.number b4 new h.number);
+  stored = record {
+    network = record {
+      family_is = read_back 4 (family_number k.family) (length old) old b1 new h.family refl to1;
+      len_is = read_back 4 k.prefix_len (length old + 4) b1 b2 new h.len l1 to2;
+      number_is = read_back 16 k.number (length old + 16) b4 new new h.number l4 (same_bytes new);
+    };
+    max_len_is = read_back 4 vrp.max_len (length old + 8) b2 b3 new h.max_len l2 to3;
+    asn_is = read_back 4 vrp.asn (length old + 12) b3 b4 new h.asn l3 to4;
+  };
+}
   where
-    l1 : length b1 ≡ length b0 + 4
-    l1 = size_one 4 family b0 b1 h1
+    k : Network
+    k = network_of vrp
 
-    l2 : length b2 ≡ length b0 + 8
-    l2 = omega (arith, size_one 4 len b1 b2 h2, l1)
+    b1 : List ℕ
+    b1 = h.with_family
 
-    l3 : length b3 ≡ length b0 + 12
-    l3 = omega (arith, size_one 4 max_len b2 b3 h3, l2)
+    b2 : List ℕ
+    b2 = h.with_len
 
-    l4 : length b4 ≡ length b0 + 16
-    l4 = omega (arith, size_one 4 asn b3 b4 h4, l3)
+    b3 : List ℕ
+    b3 = h.with_max_len
 
-    to4 : IsLonger b4 b5
-    to4 = by_one 16 number b4 b5 h5
+    b4 : List ℕ
+    b4 = h.with_asn
 
-    to3 : IsLonger b3 b5
-    to3 = longer b3 b4 b5 (by_one 4 asn b3 b4 h4) to4
+    l1 : length b1 ≡ length old + 4
+    l1 = size_one 4 (family_number k.family) old b1 h.family
 
-    to2 : IsLonger b2 b5
-    to2 = longer b2 b3 b5 (by_one 4 max_len b2 b3 h3) to3
+    l2 : length b2 ≡ length old + 8
+    l2 = omega (arith, size_one 4 k.prefix_len b1 b2 h.len, l1)
 
-    to1 : IsLonger b1 b5
-    to1 = longer b1 b2 b5 (by_one 4 len b1 b2 h2) to2
+    l3 : length b3 ≡ length old + 12
+    l3 = omega (arith, size_one 4 vrp.max_len b2 b3 h.max_len, l2)
 
-    whole : IsLonger b0 b5
-    whole = longer b0 b1 b5 (by_one 4 family b0 b1 h1) to1
+    l4 : length b4 ≡ length old + 16
+    l4 = omega (arith, size_one 4 vrp.asn b3 b4 h.asn, l3)
+
+    to4 : IsLonger b4 new
+    to4 = by_one 16 k.number b4 new h.number
+
+    to3 : IsLonger b3 new
+    to3 = longer b3 b4 new (by_one 4 vrp.asn b3 b4 h.asn) to4
+
+    to2 : IsLonger b2 new
+    to2 = longer b2 b3 new (by_one 4 vrp.max_len b2 b3 h.max_len) to3
+
+    to1 : IsLonger b1 new
+    to1 = longer b1 b2 new (by_one 4 k.prefix_len b1 b2 h.len) to2
+
+    whole : IsLonger old new
+    whole = longer old b1 new (by_one 4 (family_number k.family) old b1 h.family) to1
 
 -- a payload keeps its place when bytes are appended
 payload_longer : (bytes all : List ℕ) (at : ℕ) (vrp : Payload) → at + 32 ≤ length bytes → IsLonger bytes all
@@ -150,43 +172,39 @@ payloads_all vrps old new count e h = record {
 
 -- ---- the whole image
 
-pub image_made : (vrps : List Payload) (count : ℕ) (b0 b1 b2 b3 b4 : List ℕ) → b0 ≡ [] → length vrps ≡ count
-    → IsAppended 8 origins_magic b0 b1 → IsAppended 8 1 b1 b2 → IsAppended 8 count b2 b3
-    → ArePayloadsAdded vrps b3 b4 → IsOriginImageOf b4 vrps
-image_made vrps count b0 b1 b2 b3 b4 none e h1 h2 h3 h4 = record {
+pub image_made : (vrps : List Payload) (b1 b2 b3 b4 : List ℕ) → IsAppended 8 origins_magic [] b1
+    → IsAppended 8 1 b1 b2 → IsAppended 8 (length vrps) b2 b3 → ArePayloadsAdded vrps b3 b4 → IsOriginImageOf b4 vrps
+image_made vrps b1 b2 b3 b4 h1 h2 h3 h4 = record {
   header = record {
     room = omega (arith, h4.size, l3);
-    magic = read_back 8 origins_magic 0 b0 b1 b4 h1 l0 to1;
+    magic = read_back 8 origins_magic 0 [] b1 b4 h1 refl to1;
     version = read_back 8 1 8 b1 b2 b4 h2 l1 to2;
-    stated = omega (arith, h4.size, l3, stated, e);
+    stated = omega (arith, h4.size, l3, stated);
   };
-  as_many = e ∙ sym stated;
+  as_many = sym stated;
   held = λ i d l. subst (λ k. IsPayloadAt b4 k (get_or vrps i d)) (ap (λ k. k + i * 32) l3) (h4.stored i d l);
 }
   where
-    l0 : length b0 ≡ 0
-    l0 = ap length none
-
     l1 : length b1 ≡ 8
-    l1 = omega (arith, size_one 8 origins_magic b0 b1 h1, l0)
+    l1 = size_one 8 origins_magic [] b1 h1
 
     l2 : length b2 ≡ 16
     l2 = omega (arith, size_one 8 1 b1 b2 h2, l1)
 
     l3 : length b3 ≡ 24
-    l3 = omega (arith, size_one 8 count b2 b3 h3, l2)
+    l3 = omega (arith, size_one 8 (length vrps) b2 b3 h3, l2)
 
     to3 : IsLonger b3 b4
     to3 = record { more = h4.more; is = h4.bytes_are }
 
     to2 : IsLonger b2 b4
-    to2 = longer b2 b3 b4 (by_one 8 count b2 b3 h3) to3
+    to2 = longer b2 b3 b4 (by_one 8 (length vrps) b2 b3 h3) to3
 
     to1 : IsLonger b1 b4
     to1 = longer b1 b2 b4 (by_one 8 1 b1 b2 h2) to2
 
-    stated : stated_payloads b4 ≡ count
-    stated = read_back 8 count 16 b2 b3 b4 h3 l2 to3
+    stated : stated_payloads b4 ≡ length vrps
+    stated = read_back 8 (length vrps) 16 b2 b3 b4 h3 l2 to3
 
 -- the payloads that were read so far
 pub record AreReadUpTo (bytes : List ℕ) (vrps : List Payload) (count : ℕ) : Type 0 where

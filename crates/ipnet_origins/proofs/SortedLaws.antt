@@ -1,6 +1,6 @@
 -- The payloads that cover a route, length by length, are all of them, sorted.
-use Rattle.std.proofs.Common.{◌≡◌, ◌⊎◌, ℕ, zero, suc, ◌+◌, ◌*◌, ◌<◌, ◌≤◌, List, [], ◌∷◌, ◌++◌, Contains, All, AllPairs}
-use Rattle.std.proofs.Common.{length, get_or, sym, subst, inl, inr, arith, append_assoc, IsPermutation}
+use Rattle.std.proofs.Common.{◌≡◌, ◌⊎◌, ℕ, zero, suc, ◌+◌, ◌<◌, ◌≤◌, List, [], ◌∷◌, ◌++◌, Contains, AllPairs}
+use Rattle.std.proofs.Common.{get_or, sym, subst, inl, inr, arith, append_assoc, IsPermutation}
 use Rattle.std.proofs.lemmas.Bool.{cases_order}
 use Rattle.std.proofs.lemmas.List.Sorted.{IsPermutation-refl, IsPermutation-sym, IsPermutation-trans}
 use Rattle.std.proofs.lemmas.List.Sorted.{IsPermutation-cons, IsPermutation-middle, IsPermutation-append_right}

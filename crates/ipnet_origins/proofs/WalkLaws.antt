@@ -1,10 +1,13 @@
 -- The payloads on the walk over the networks of the table that contain the address of a route.
 use Rattle.std.proofs.Common.{◌≡◌, ℕ, ◌+◌, ◌<◌, ◌≤◌, ◌⊎◌, ◌↔◌, List, [], ◌∷◌, ◌++◌, length, map, get_or, Contains}
-use Rattle.std.proofs.Common.{Any, Bool, false, IsTrue, Option, sym, ap, ◌∙◌, subst, arith, take, inl, inr, refl}
-use Rattle.std.proofs.Common.{append_assoc, append-nil}
+use Rattle.std.proofs.Common.{Any, Bool, false, IsTrue, Option, Some, None, sym, ap, ◌∙◌, subst, arith, take, inl, inr}
+use Rattle.std.proofs.Common.{refl, append_assoc, append-nil}
 use Rattle.std.proofs.lemmas.Bool.{cases_lt}
 use Rattle.std.proofs.lemmas.List.{length-map, get_or-map, get_or-take, length-take}
 use Rattle.std.proofs.lemmas.List.Elements.{Contains-push_cases, Contains-append_left, Contains-push}
+use Rattle.std.specs.Iterator.{Yields}
+use Rattle.std.proofs.lemmas.Iterator.{YieldsList}
+use Rattle.std.proofs.lemmas.Iterator.Consumers.{YieldsList-turn, YieldsList-end, YieldsList-so_far}
 use Rattle.std.specs.Borrow.{Bor}
 use Rattle.ipnet_base.specs.Address.{Address}
 use Rattle.ipnet_base.specs.Network.{Network, InBlock, IsTruncated}
@@ -39,10 +42,35 @@ pub record HasCovering (vrps : List Payload) (n : Network) (places : List Place)
   pub whole : (shorter : List Payload) → AreCoveringBelow vrps n limit shorter
       → AreCoveringBelow vrps n (n.prefix_len + 1) (found ++ shorter)
 
+-- The walk over `all` routes of the table that have the address has passed the places, and comes to the next.
+pub record IsTurn (routes : List (Route ℕ)) (x : Address) (places : List Place) (next : Place) : Type 0 where
+  pub all : List (Route ℕ)
+  pub matches : AreMatches routes x all
+  pub so_far : map ip_route places ≡ take (length places) all
+  pub inside : length places < length all
+  pub is : ip_route next ≡ get_or all (length places) (ip_route next)
+
+module _ {S : Type 0} {steps : S → Option Place → S → Type 0} {s : S} (routes all : List (Route ℕ)) (x : Address)
+    (matches : AreMatches routes x all) (road : YieldsList steps ip_route s all) (places : List Place) (t : S)
+    (y : Yields steps s places t) where
+  pub walk_turn : (r : Option Place) (u : S) (next : Place) → r ≡ Some next → steps t r u → IsTurn routes x places next
+  walk_turn r u next is step =
+      let turn = YieldsList-turn road places t y r u next is step in
+      record {
+        all = all;
+        matches = matches;
+        so_far = YieldsList-so_far road places t y;
+        inside = turn.0;
+        is = turn.1;
+      }
+
+  pub walk_end : (r : Option Place) (u : S) → r ≡ None → steps t r u → AreMatches routes x (map ip_route places)
+  walk_end r u is step = subst (AreMatches routes x) (sym (YieldsList-end road places t y r u is step).0) matches
+
 -- the place that the walk comes to is a route of the table, and its network has the address
-pub turn_in : (routes all : List (Route ℕ)) (x : Address) → AreMatches routes x all → (k : ℕ) (q : Route ℕ)
-    → k < length all → q ≡ get_or all k q → Contains routes q × InBlock q.0 x
-turn_in routes all x matches k q l e = (matches.members q).0 (k, l, sym e)
+pub turn_in : (routes : List (Route ℕ)) (x : Address) (places : List Place) (next : Place)
+    → IsTurn routes x places next → Contains routes (ip_route next) × InBlock (ip_network next.now.0) x
+turn_in routes x places next turn = (turn.matches.members (ip_route next)).0 (length places, turn.inside, sym turn.is)
 
 -- a route of the walk is one of the places
 place_of : (places : List Place) (r : Route ℕ) → Contains (map ip_route places) r
@@ -113,31 +141,32 @@ some_matches vrps group k n origin is (i, vrp, l, e, m) =
     any_from_contains (IsMatched n origin) vrps vrp ((in_group vrps group k is vrp).0 (i, l, e)).0 m
 
 -- the next place of the walk has a shorter network than the places so far
-is_shorter : (routes all : List (Route ℕ)) (x : Address) → AreMatches routes x all → (places : List Place)
-    (next : Place) → map ip_route places ≡ take (length places) all → length places < length all
-    → ip_route next ≡ get_or all (length places) (ip_route next) → (b : Place) → Contains places b
+is_shorter : (routes : List (Route ℕ)) (x : Address) (places : List Place) (next : Place)
+    → IsTurn routes x places next → (b : Place) → Contains places b
     → (ip_network next.now.0).prefix_len < (ip_network b.now.0).prefix_len
-is_shorter routes all x matches places next so_far inside is b (k, l, e) =
+is_shorter routes x places next turn b (k, l, e) =
+    let all = turn.all in
     let d : Route ℕ = ip_route next in
     let there : get_or all k d ≡ ip_route b
-    = sym (get_or-take (length places) all k d l) ∙ ap (λ z. get_or z k d) (sym so_far)
+    = sym (get_or-take (length places) all k d l) ∙ ap (λ z. get_or z k d) (sym turn.so_far)
     ∙ get_or-map ip_route places k b d l ∙ ap ip_route e in
     omega (
       arith,
-      matches.longest_first k (length places) d l inside,
+      turn.matches.longest_first k (length places) d l turn.inside,
       ap (λ (r : Route ℕ). r.0.prefix_len) there,
-      ap (λ (r : Route ℕ). r.0.prefix_len) is,
+      ap (λ (r : Route ℕ). r.0.prefix_len) turn.is,
     )
 
 -- a network of the table that contains the address, and is longer than the next place, is one of the places so far
-longer_before : (routes all : List (Route ℕ)) (x : Address) → AreMatches routes x all → (places : List Place)
-    (next : Place) → map ip_route places ≡ take (length places) all → length places < length all
-    → ip_route next ≡ get_or all (length places) (ip_route next) → (r : Route ℕ) → Contains routes r → InBlock r.0 x
+longer_before : (routes : List (Route ℕ)) (x : Address) (places : List Place) (next : Place)
+    → IsTurn routes x places next → (r : Route ℕ) → Contains routes r → InBlock r.0 x
     → (ip_network next.now.0).prefix_len < r.0.prefix_len → (b : Place) × Contains places b × (ip_route b ≡ r)
-longer_before routes all x matches places next so_far inside is r c holds long =
-    let (k, l, e) = (matches.members r).1 (c, holds) in
+longer_before routes x places next turn r c holds long =
+    let all = turn.all in
+    let inside = turn.inside in
+    let (k, l, e) = (turn.matches.members r).1 (c, holds) in
     elim (cases_lt k (length places)) [
-      | inl before ↦ place_of places r (subst (λ z. Contains z r) (sym so_far) (
+      | inl before ↦ place_of places r (subst (λ z. Contains z r) (sym turn.so_far) (
         k,
         omega (arith, before, inside, length-take (length places) all),
         get_or-take (length places) all k r before ∙ e,
@@ -145,9 +174,9 @@ longer_before routes all x matches places next so_far inside is r c holds long =
       | inr from ↦ absurd (elim (cases_lt (length places) k) [
         | inl later ↦ omega (
           arith,
-          matches.longest_first (length places) k r later l,
+          turn.matches.longest_first (length places) k r later l,
           ap (λ (q : Route ℕ). q.0.prefix_len) e,
-          ap (λ (q : Route ℕ). q.0.prefix_len) (is ∙ at_place all (length places) (ip_route next) r inside),
+          ap (λ (q : Route ℕ). q.0.prefix_len) (turn.is ∙ at_place all (length places) (ip_route next) r inside),
           long,
         )
         | inr up_to ↦
@@ -155,7 +184,7 @@ longer_before routes all x matches places next so_far inside is r c holds long =
             omega (
               arith,
               ap (λ (q : Route ℕ). q.0.prefix_len)
-                  (is ∙ at_place all (length places) (ip_route next) r inside
+                  (turn.is ∙ at_place all (length places) (ip_route next) r inside
                   ∙ ap (λ j. get_or all j r) (sym same) ∙ e),
               long,
             )
@@ -163,71 +192,89 @@ longer_before routes all x matches places next so_far inside is r c holds long =
     ]
 
 -- the payloads of the network of the next place are added if it is not longer than the route
-pub covering_more : (vrps group found : List Payload) (routes all : List (Route ℕ)) → AreLasts vrps routes
-    → (n : Network) → AreMatches routes (own n) all → (places : List Place) (next : Place)
-    → HasCovering vrps n places found → IsGroup vrps (ip_network next.now.0) group
-    → Contains routes (ip_route next) → InBlock (ip_network next.now.0) (own n)
-    → (ip_network next.now.0).prefix_len ≤ n.prefix_len
-    → map ip_route places ≡ take (length places) all → length places < length all
-    → ip_route next ≡ get_or all (length places) (ip_route next)
-    → HasCovering vrps n (places ++ next ∷ []) (found ++ group)
-covering_more vrps group found routes all lasts n matches places next has is there holds short so_far inside at =
-    record {
-      limit = m.prefix_len;
-      is = inr (next, Contains-push places next, refl);
-      above = λ b c low. elim (Contains-push_cases places next b c) [
-        | inl before ↦ omega (arith, shorter b before)
-        | inr e ↦ omega (arith, ap (λ z. (ip_network z.now.0).prefix_len) e)
-      ];
-      whole = λ rest below.
-          subst (AreCoveringBelow vrps n (n.prefix_len + 1)) (sym (append_assoc found group rest))
-          (has.whole (group ++ rest) (more_below vrps group rest n m.prefix_len has.limit low those below gap));
-    }
-  where
-    m : Network
-    m = ip_network next.now.0
+module _ (vrps : List Payload) (routes : List (Route ℕ)) (lasts : AreLasts vrps routes) (n : Network) where
+  pub covering_more : (group found : List Payload) (places : List Place) (next : Place)
+      → IsTurn routes (own n) places next → HasCovering vrps n places found
+      → IsGroup vrps (ip_network next.now.0) group → (ip_network next.now.0).prefix_len ≤ n.prefix_len
+      → HasCovering vrps n (places ++ next ∷ []) (found ++ group)
+  covering_more group found places next turn has is short =
+      record {
+        limit = m.prefix_len;
+        is = inr (next, Contains-push places next, refl);
+        above = λ b c low. elim (Contains-push_cases places next b c) [
+          | inl before ↦ omega (arith, shorter b before)
+          | inr e ↦ omega (arith, ap (λ z. (ip_network z.now.0).prefix_len) e)
+        ];
+        whole = λ rest below.
+            subst (AreCoveringBelow vrps n (n.prefix_len + 1)) (sym (append_assoc found group rest))
+            (has.whole (group ++ rest) (more_below vrps group rest n m.prefix_len has.limit low those below gap));
+      }
+    where
+      m : Network
+      m = ip_network next.now.0
 
-    shorter : (b : Place) → Contains places b → m.prefix_len < (ip_network b.now.0).prefix_len
-    shorter = is_shorter routes all (own n) matches places next so_far inside at
+      here : Contains routes (ip_route next) × InBlock m (own n)
+      here = turn_in routes (own n) places next turn
 
-    low : m.prefix_len < has.limit
-    low = elim has.is [
-      | inl whole ↦ omega (arith, whole, short)
-      | inr (b, c, e) ↦ omega (arith, e, shorter b c)
-    ]
+      shorter : (b : Place) → Contains places b → m.prefix_len < (ip_network b.now.0).prefix_len
+      shorter = is_shorter routes (own n) places next turn
 
-    cut : IsTruncated m
-    cut =
-        let last = lasts.lasts (ip_route next) there in
-        let some = payload_at vrps (ip_route next).1 last.within in
-        subst IsTruncated (sym (ap network_of (some.2 some.0)) ∙ last.is some.0) some.0.truncated
+      low : m.prefix_len < has.limit
+      low = elim has.is [
+        | inl whole ↦ omega (arith, whole, short)
+        | inr (b, c, e) ↦ omega (arith, e, shorter b c)
+      ]
 
-    those : AreThose (IsCoveredAt n m.prefix_len) vrps group
-    those = those_same (λ vrp. network_of vrp ≡ m) (IsCoveredAt n m.prefix_len) vrps group
-        (λ vrp c. (
-          λ same. record {
-            covered = record {
-              no_longer = omega (arith, ap (λ k. k.prefix_len) same, short);
-              same_bits = subst (λ k. InBlock k (own n)) (sym same) holds;
-            };
-            of_length = ap (λ k. k.prefix_len) same;
-          },
-          λ h. same_at (own n) (network_of vrp) m vrp.truncated cut h.covered.same_bits holds h.of_length,
-        ))
-        is
+      cut : IsTruncated m
+      cut =
+          let last = lasts.lasts (ip_route next) here.0 in
+          let some = payload_at vrps (ip_route next).1 last.within in
+          subst IsTruncated (sym (ap network_of (some.2 some.0)) ∙ last.is some.0) some.0.truncated
 
-    gap : (vrp : Payload) → Contains vrps vrp → IsCovered n vrp → m.prefix_len < (network_of vrp).prefix_len
-        → has.limit ≤ (network_of vrp).prefix_len
-    gap vrp c covered long = elim (cases_lt (network_of vrp).prefix_len has.limit) [
-      | inr reached ↦ reached
-      | inl between ↦ absurd (lasts.reached vrp c (λ r d same.
-          let (b, e, is_r) = longer_before routes all (own n) matches places next so_far inside at r d
-          (subst (λ k. InBlock k (own n)) (sym same) covered.same_bits)
-          (omega (arith, ap (λ k. k.prefix_len) same, long)) in
-          let of_b : (ip_network b.now.0).prefix_len ≡ (network_of vrp).prefix_len
-          = ap (λ (q : Route ℕ). q.0.prefix_len) is_r ∙ ap (λ k. k.prefix_len) same in
-          omega (arith, has.above b e (omega (arith, of_b, covered.no_longer)), of_b, between)))
-    ]
+      those : AreThose (IsCoveredAt n m.prefix_len) vrps group
+      those = those_same (λ vrp. network_of vrp ≡ m) (IsCoveredAt n m.prefix_len) vrps group
+          (λ vrp c. (
+            λ same. record {
+              covered = record {
+                no_longer = omega (arith, ap (λ k. k.prefix_len) same, short);
+                same_bits = subst (λ k. InBlock k (own n)) (sym same) here.1;
+              };
+              of_length = ap (λ k. k.prefix_len) same;
+            },
+            λ h. same_at (own n) (network_of vrp) m vrp.truncated cut h.covered.same_bits here.1 h.of_length,
+          ))
+          is
+
+      gap : (vrp : Payload) → Contains vrps vrp → IsCovered n vrp → m.prefix_len < (network_of vrp).prefix_len
+          → has.limit ≤ (network_of vrp).prefix_len
+      gap vrp c covered long = elim (cases_lt (network_of vrp).prefix_len has.limit) [
+        | inr reached ↦ reached
+        | inl between ↦ absurd (lasts.reached vrp c (λ r d same.
+            let (b, e, is_r) = longer_before routes (own n) places next turn r d
+            (subst (λ k. InBlock k (own n)) (sym same) covered.same_bits)
+            (omega (arith, ap (λ k. k.prefix_len) same, long)) in
+            let of_b : (ip_network b.now.0).prefix_len ≡ (network_of vrp).prefix_len
+            = ap (λ (q : Route ℕ). q.0.prefix_len) is_r ∙ ap (λ k. k.prefix_len) same in
+            omega (arith, has.above b e (omega (arith, of_b, covered.no_longer)), of_b, between)))
+      ]
+
+  -- after the whole walk the list is whole
+  pub covering_all : (places : List Place) → AreMatches routes (own n) (map ip_route places) → (found : List Payload)
+      → HasCovering vrps n places found → AreCoveringBelow vrps n (n.prefix_len + 1) found
+  covering_all places matches found has =
+      subst (AreCoveringBelow vrps n (n.prefix_len + 1)) (append-nil found)
+      (has.whole [] (none_below vrps n has.limit none))
+    where
+      none : (vrp : Payload) → Contains vrps vrp → IsCovered n vrp → has.limit ≤ (network_of vrp).prefix_len
+      none vrp c covered = elim (cases_lt (network_of vrp).prefix_len has.limit) [
+        | inr reached ↦ reached
+        | inl between ↦ absurd (lasts.reached vrp c (λ r d same.
+            let (b, e, is_r) = place_of places r ((matches.members r).1
+            (d, subst (λ k. InBlock k (own n)) (sym same) covered.same_bits)) in
+            let of_b : (ip_network b.now.0).prefix_len ≡ (network_of vrp).prefix_len
+            = ap (λ (q : Route ℕ). q.0.prefix_len) is_r ∙ ap (λ k. k.prefix_len) same in
+            omega (arith, has.above b e (omega (arith, of_b, covered.no_longer)), of_b, between)))
+      ]
 
 -- no payload of a longer network covers the route
 pub covering_same : (vrps found : List Payload) (n : Network) (places : List Place) (next : Place)
@@ -254,22 +301,3 @@ covering_start vrps n = record {
   above = λ b c low. absurd (contains_nil b c);
   whole = λ shorter h. h;
 }
-
--- after the whole walk the list is whole
-pub covering_all : (vrps : List Payload) (routes : List (Route ℕ)) → AreLasts vrps routes → (n : Network)
-    (places : List Place) → AreMatches routes (own n) (map ip_route places) → (found : List Payload)
-    → HasCovering vrps n places found → AreCoveringBelow vrps n (n.prefix_len + 1) found
-covering_all vrps routes lasts n places matches found has =
-    subst (AreCoveringBelow vrps n (n.prefix_len + 1)) (append-nil found)
-    (has.whole [] (none_below vrps n has.limit none))
-  where
-    none : (vrp : Payload) → Contains vrps vrp → IsCovered n vrp → has.limit ≤ (network_of vrp).prefix_len
-    none vrp c covered = elim (cases_lt (network_of vrp).prefix_len has.limit) [
-      | inr reached ↦ reached
-      | inl between ↦ absurd (lasts.reached vrp c (λ r d same.
-          let (b, e, is_r) = place_of places r ((matches.members r).1
-          (d, subst (λ k. InBlock k (own n)) (sym same) covered.same_bits)) in
-          let of_b : (ip_network b.now.0).prefix_len ≡ (network_of vrp).prefix_len
-          = ap (λ (q : Route ℕ). q.0.prefix_len) is_r ∙ ap (λ k. k.prefix_len) same in
-          omega (arith, has.above b e (omega (arith, of_b, covered.no_longer)), of_b, between)))
-    ]

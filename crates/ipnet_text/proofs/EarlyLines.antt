@@ -20,25 +20,26 @@ pub none_taken : (grammar : Grammar) (lines : List (List ℕ)) (IsMade : List Ne
     → IsTakenTo grammar lines lines IsMade IsMade
 none_taken grammar lines IsMade = ([], λ more h. h, λ before h. subst IsMade (sym (append-nil before)) h)
 
-pub one_taken_more : (grammar : Grammar) (lines rest after : List (List ℕ))
-    (IsMade IsMadeThen IsMadeNow : List Network → Type 0) (n : Network)
-    → IsTakenTo grammar lines rest IsMade IsMadeThen
-    → ((more : List Network) → AreNetworksOf grammar after more → AreNetworksOf grammar rest (n ∷ more))
-    → ((networks : List Network) → IsMadeThen networks → IsMadeNow (networks ++ n ∷ []))
-    → IsTakenTo grammar lines after IsMade IsMadeNow
-one_taken_more grammar lines rest after IsMade IsMadeThen IsMadeNow n (front, are, made) reads pushed = (
-  front ++ n ∷ [],
-  λ more h. subst (AreNetworksOf grammar lines) (sym (append_assoc front (n ∷ []) more))
-      (are (n ∷ more) (reads more h)),
-  λ before h. subst IsMadeNow (append_assoc before front (n ∷ [])) (pushed (before ++ front) (made before h)),
-)
+-- the line after those, which is empty or writes one network
+module _ (grammar : Grammar) (lines rest after : List (List ℕ)) (IsMade IsMadeThen : List Network → Type 0)
+    (taken : IsTakenTo grammar lines rest IsMade IsMadeThen) where
+  pub one_taken_more : (IsMadeNow : List Network → Type 0) (n : Network)
+      → ((more : List Network) → AreNetworksOf grammar after more → AreNetworksOf grammar rest (n ∷ more))
+      → ((networks : List Network) → IsMadeThen networks → IsMadeNow (networks ++ n ∷ []))
+      → IsTakenTo grammar lines after IsMade IsMadeNow
+  one_taken_more IsMadeNow n reads pushed =
+      let (front, are, made) = taken in (
+        front ++ n ∷ [],
+        λ more h. subst (AreNetworksOf grammar lines) (sym (append_assoc front (n ∷ []) more))
+            (are (n ∷ more) (reads more h)),
+        λ before h. subst IsMadeNow (append_assoc before front (n ∷ [])) (pushed (before ++ front) (made before h)),
+      )
 
-pub none_taken_more : (grammar : Grammar) (lines rest after : List (List ℕ))
-    (IsMade IsMadeNow : List Network → Type 0) → IsTakenTo grammar lines rest IsMade IsMadeNow
-    → ((more : List Network) → AreNetworksOf grammar after more → AreNetworksOf grammar rest more)
-    → IsTakenTo grammar lines after IsMade IsMadeNow
-none_taken_more grammar lines rest after IsMade IsMadeNow (front, are, made) reads =
-    (front, λ more h. are more (reads more h), made)
+  pub none_taken_more : ((more : List Network) → AreNetworksOf grammar after more → AreNetworksOf grammar rest more)
+      → IsTakenTo grammar lines after IsMade IsMadeThen
+  none_taken_more reads =
+      let (front, are, made) = taken in
+      (front, λ more h. are more (reads more h), made)
 
 -- lines are not all empty if the first is not
 pub not_all_empty : (lines : List (List ℕ)) (line : List ℕ) (after : List (List ℕ)) → lines ≡ line ∷ after

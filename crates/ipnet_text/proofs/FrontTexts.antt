@@ -167,7 +167,7 @@ front_at bytes len digits n long few few_digits slash is newline =
 -- ---- an IPv4 address at the front
 
 -- the bytes after the one that ends the number, which is among the first four
-after_short : (bytes : List ℕ) (i least : ℕ) → i ≤ 3 → 4 + least ≤ length bytes
+pub after_short : (bytes : List ℕ) (i least : ℕ) → i ≤ 3 → 4 + least ≤ length bytes
     → least ≤ length (rest_from (i + 1) bytes)
 after_short bytes i least few long = omega (arith, few, long, length_rest (i + 1) bytes)
 
@@ -181,40 +181,21 @@ take_cut bytes i n end within is =
     ∙ append_assoc (take i bytes) (end ∷ []) (take n (drop (i + 1) bytes))
     ∙ ap (λ z. take i bytes ++ end ∷ take n z) (sym (rest_is (i + 1) bytes))
 
--- the first of joined octets
-octet_first : (first rest : List ℕ) (a b : ℕ) (octets : List ℕ) → IsOctet Strict first a
-    → IsJoined (codes ".") (IsOctet Strict) rest (b ∷ octets)
-    → IsJoined (codes ".") (IsOctet Strict) (first ++ 46 ∷ rest) (a ∷ b ∷ octets)
-octet_first first rest a b octets is later = (first, rest, simp append_assoc, is, later)
+-- An octet at the front, and the dot that ends it.
+pub record IsOctetAt (bytes : List ℕ) (i a : ℕ) : Type 0 where
+  pub few : i ≤ 3
+  pub octet : IsOctet Strict (take i bytes) a
+  pub dot : get_or bytes i 0 ≡ 46
 
--- four octets, by the places of the dots between them
-pub address_at : (bytes : List ℕ) (i j k l a b c d : ℕ) → 16 ≤ length bytes → i ≤ 3 → j ≤ 3 → k ≤ 3
-    → IsOctet Strict (take i bytes) a → get_or bytes i 0 ≡ 46
-    → IsOctet Strict (take j (rest_from (i + 1) bytes)) b → get_or (rest_from (i + 1) bytes) j 0 ≡ 46
-    → IsOctet Strict (take k (rest_from (j + 1) (rest_from (i + 1) bytes))) c
-    → get_or (rest_from (j + 1) (rest_from (i + 1) bytes)) k 0 ≡ 46
-    → IsOctet Strict (take l (rest_from (k + 1) (rest_from (j + 1) (rest_from (i + 1) bytes)))) d
-    → IsIpv4AddressText Strict (take (i + j + k + l + 3) bytes) (a ∷ b ∷ c ∷ d ∷ [])
-address_at bytes i j k l a b c d long few₁ few₂ few₃ is_a end_a is_b end_b is_c end_c is_d =
-    let second = rest_from (i + 1) bytes in
-    let third = rest_from (j + 1) second in
-    let fourth = rest_from (k + 1) third in
-    let long₂ : 12 ≤ length second = after_short bytes i 12 few₁ long in
-    let long₃ : 8 ≤ length third = after_short second j 8 few₂ long₂ in
-    let three : take (k + 1 + l) third ≡ take k third ++ 46 ∷ take l fourth =
-    take_cut third k l 46 (omega arith) end_c in
-    let two : take (j + 1 + (k + 1 + l)) second ≡ take j second ++ 46 ∷ take (k + 1 + l) third =
-    take_cut second j (k + 1 + l) 46 (omega arith) end_b in
-    let one : take (i + 1 + (j + 1 + (k + 1 + l))) bytes ≡ take i bytes ++ 46 ∷ take (j + 1 + (k + 1 + l)) second =
-    take_cut bytes i (j + 1 + (k + 1 + l)) 46 (omega arith) end_a in
-    let size : i + j + k + l + 3 ≡ i + 1 + (j + 1 + (k + 1 + l)) = omega arith in
-    let text : take (i + j + k + l + 3) bytes ≡ take i bytes ++ 46 ∷ (take j second ++ 46 ∷ (take k third ++ 46
-    ∷ take l fourth)) =
-    ap (λ n. take n bytes) size ∙ one ∙ ap (λ z. take i bytes ++ 46 ∷ z) (two ∙ ap (λ z. take j second ++ 46 ∷ z) three)
-    in
-    subst (λ z. IsIpv4AddressText Strict z (a ∷ b ∷ c ∷ d ∷ [])) (sym text) (
-      octet_first (take i bytes) (take j second ++ 46 ∷ (take k third ++ 46 ∷ take l fourth)) a b (c ∷ d ∷ []) is_a
-          (octet_first (take j second) (take k third ++ 46 ∷ take l fourth) b c (d ∷ []) is_b
-          (octet_first (take k third) (take l fourth) c d [] is_c is_d)),
-      refl,
-    )
+-- an octet before joined ones
+pub octet_more : (bytes : List ℕ) (i a n b : ℕ) (octets : List ℕ) → 4 ≤ length bytes → IsOctetAt bytes i a
+    → IsJoined (codes ".") (IsOctet Strict) (take n (rest_from (i + 1) bytes)) (b ∷ octets)
+    → IsJoined (codes ".") (IsOctet Strict) (take (i + 1 + n) bytes) (a ∷ b ∷ octets)
+octet_more bytes i a n b octets long at later = (
+  take i bytes,
+  take n (rest_from (i + 1) bytes),
+  take_cut bytes i n 46 (omega (arith, at.few, long)) at.dot
+      ∙ sym (append_assoc (take i bytes) (46 ∷ []) (take n (rest_from (i + 1) bytes))),
+  at.octet,
+  later,
+)

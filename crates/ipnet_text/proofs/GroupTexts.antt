@@ -16,8 +16,8 @@ use Rattle.ipnet_text.proofs.FrontTexts.{first_line_of, length_rest}
 
 -- ---- the groups before "::"
 
--- the bytes up to these groups, and "::" after them
-record IsHeadOf (bytes head : List ℕ) (len : ℕ) : Type 0 where
+-- The bytes up to these groups, and "::" after them.
+pub record IsHeadOf (bytes head : List ℕ) (len : ℕ) : Type 0 where
   pub spelled : IsGroups (take len bytes) head
   pub first_colon : get_or bytes len 0 ≡ 58
   pub second_colon : get_or bytes (len + 1) 0 ≡ 58
@@ -26,7 +26,7 @@ record IsHeadOf (bytes head : List ℕ) (len : ℕ) : Type 0 where
 rest_at : (bytes : List ℕ) (i k : ℕ) → get_or (rest_from i bytes) k 0 ≡ get_or bytes (i + k) 0
 rest_at bytes i k = ap (λ z. get_or z k 0) (rest_is i bytes) ∙ get_or-drop i bytes k 0
 
-last_group : (bytes : List ℕ) (i a : ℕ) → IsGroup (take i bytes) a → get_or bytes i 0 ≡ 58
+pub last_group : (bytes : List ℕ) (i a : ℕ) → IsGroup (take i bytes) a → get_or bytes i 0 ≡ 58
     → get_or (rest_from (i + 1) bytes) 0 0 ≡ 58 → IsHeadOf bytes (a ∷ []) i
 last_group bytes i a group end next = record {
   spelled = group;
@@ -49,7 +49,7 @@ take_on bytes i k within end =
     one_more : (k : ℕ) (after : List ℕ) → take (1 + k) (58 ∷ after) ≡ 58 ∷ take k after
     one_more k after = take-append-add (58 ∷ []) after k
 
-group_more : (bytes : List ℕ) (i a b : ℕ) (head : List ℕ) (k : ℕ) → i < length bytes → IsGroup (take i bytes) a
+pub group_more : (bytes : List ℕ) (i a b : ℕ) (head : List ℕ) (k : ℕ) → i < length bytes → IsGroup (take i bytes) a
     → get_or bytes i 0 ≡ 58 → IsHeadOf (rest_from (i + 1) bytes) (b ∷ head) k
     → IsHeadOf bytes (a ∷ b ∷ head) (i + (1 + k))
 group_more bytes i a b head k within group end h =
@@ -67,7 +67,7 @@ group_more bytes i a b head k within group end h =
           (sym (rest_at bytes (i + 1) (k + 1)) ∙ h.second_colon);
     }
 
-head_is : (bytes head eight : List ℕ) (len : ℕ) → IsHeadOf bytes head len → length head ≤ 4
+pub head_is : (bytes head eight : List ℕ) (len : ℕ) → IsHeadOf bytes head len → length head ≤ 4
     → eight ≡ expanded head [] → IsHead bytes eight len
 head_is bytes head eight len h few value = record {
   head = head;
@@ -174,13 +174,18 @@ head_spelled bytes len long one two slash =
         → drop i bytes ≡ b ∷ drop (i + 1) bytes
     drop_at bytes i b within is = drop_more bytes i 0 within ∙ ap (λ z. z ∷ drop (i + 1) bytes) is
 
+-- The digits of the prefix length at the front, and the byte that ends the line.
+pub record IsLengthAt (bytes : List ℕ) (count n : ℕ) : Type 0 where
+  pub octet : IsOctet Strict (take count bytes) n
+  pub few : count ≤ 3
+  pub end : get_or bytes count 0 ≡ 10
+  pub small : n ≤ 128
+
 pub line_at : (bytes eight : List ℕ) (len count n : ℕ) → IsHead bytes eight len → len ≤ 19 → 27 ≤ length bytes
-    → get_or (rest_from (len + 2) bytes) 0 0 ≡ 47
-    → IsOctet Strict (take count (rest_from 1 (rest_from (len + 2) bytes))) n → count ≤ 3
-    → get_or (rest_from 1 (rest_from (len + 2) bytes)) count 0 ≡ 10 → n ≤ 128
+    → get_or (rest_from (len + 2) bytes) 0 0 ≡ 47 → IsLengthAt (rest_from 1 (rest_from (len + 2) bytes)) count n
     → IsFirstLine (IsIpv6NetworkText Strict) bytes (len + count + 3)
     (ipv6_network_of (from_be_bytes w128 (octets_of eight)) n)
-line_at bytes eight len count n h short long slash octet few end small =
+line_at bytes eight len count n h short long slash at =
     let third = rest_from (len + 2) bytes in
     let digits_on = rest_from 1 third in
     let digits = take count digits_on in
@@ -189,64 +194,13 @@ line_at bytes eight len count n h short long slash octet few end small =
     let room : 4 ≤ length digits_on = omega (arith, short, long, length_rest (len + 2) bytes, length_rest 1 third) in
     let spelled : bytes ≡ head_text ++ 58 ∷ 58 ∷ 47 ∷ (digits ++ 10 ∷ rest) =
     head_spelled bytes len (omega arith) h.first_colon h.second_colon slash
-    ∙ ap (λ z. head_text ++ 58 ∷ 58 ∷ 47 ∷ z) (cut_byte digits_on count 10 (omega arith) end) in
+    ∙ ap (λ z. head_text ++ 58 ∷ 58 ∷ 47 ∷ z) (cut_byte digits_on count 10 (omega (arith, at.few, room)) at.end) in
     first_line_of (IsIpv6NetworkText Strict) bytes (line_text head_text digits) rest (len + count + 3)
     (ipv6_network_of (from_be_bytes w128 (octets_of eight)) n)
     (line_spelled bytes head_text digits rest spelled)
     (line_length head_text digits len count (length-take-le len bytes (omega arith))
-    (length-take-le count digits_on (omega arith)))
-    (line_unbroken head_text h.head digits n h.spelled octet)
+    (length-take-le count digits_on (omega (arith, at.few, room))))
+    (line_unbroken head_text h.head digits n h.spelled at.octet)
     (subst (λ z. IsIpv6NetworkText Strict (line_text head_text digits)
     (ipv6_network_of (from_be_bytes w128 (octets_of z)) n)) (sym h.value)
-    (line_network head_text h.head digits n h.spelled h.few octet small))
-
--- ---- heads of one to four groups
-
-pub head_one : (bytes : List ℕ) (i a : ℕ) → IsGroup (take i bytes) a → get_or bytes i 0 ≡ 58
-    → get_or (rest_from (i + 1) bytes) 0 0 ≡ 58 → IsHead bytes (a ∷ 0 ∷ 0 ∷ 0 ∷ 0 ∷ 0 ∷ 0 ∷ 0 ∷ []) i
-head_one bytes i a is_a end_a next =
-    head_is bytes (a ∷ []) (a ∷ 0 ∷ 0 ∷ 0 ∷ 0 ∷ 0 ∷ 0 ∷ 0 ∷ []) i (last_group bytes i a is_a end_a next) (omega arith)
-    refl
-
-pub head_two : (bytes : List ℕ) (i j a b : ℕ) → i < length bytes
-    → IsGroup (take i bytes) a → get_or bytes i 0 ≡ 58
-    → IsGroup (take j (rest_from (i + 1) bytes)) b → get_or (rest_from (i + 1) bytes) j 0 ≡ 58
-    → get_or (rest_from (j + 1) (rest_from (i + 1) bytes)) 0 0 ≡ 58
-    → IsHead bytes (a ∷ b ∷ 0 ∷ 0 ∷ 0 ∷ 0 ∷ 0 ∷ 0 ∷ []) (i + (1 + j))
-head_two bytes i j a b long is_a end_a is_b end_b next =
-    let second = rest_from (i + 1) bytes in
-    head_is bytes (a ∷ b ∷ []) (a ∷ b ∷ 0 ∷ 0 ∷ 0 ∷ 0 ∷ 0 ∷ 0 ∷ []) (i + (1 + j))
-    (group_more bytes i a b [] j long is_a end_a (last_group second j b is_b end_b next)) (omega arith) refl
-
-pub head_three : (bytes : List ℕ) (i j k a b c : ℕ) → i < length bytes → j < length (rest_from (i + 1) bytes)
-    → IsGroup (take i bytes) a → get_or bytes i 0 ≡ 58
-    → IsGroup (take j (rest_from (i + 1) bytes)) b → get_or (rest_from (i + 1) bytes) j 0 ≡ 58
-    → IsGroup (take k (rest_from (j + 1) (rest_from (i + 1) bytes))) c
-    → get_or (rest_from (j + 1) (rest_from (i + 1) bytes)) k 0 ≡ 58
-    → get_or (rest_from (k + 1) (rest_from (j + 1) (rest_from (i + 1) bytes))) 0 0 ≡ 58
-    → IsHead bytes (a ∷ b ∷ c ∷ 0 ∷ 0 ∷ 0 ∷ 0 ∷ 0 ∷ []) (i + (1 + (j + (1 + k))))
-head_three bytes i j k a b c long long₂ is_a end_a is_b end_b is_c end_c next =
-    let second = rest_from (i + 1) bytes in
-    let third = rest_from (j + 1) second in
-    head_is bytes (a ∷ b ∷ c ∷ []) (a ∷ b ∷ c ∷ 0 ∷ 0 ∷ 0 ∷ 0 ∷ 0 ∷ []) (i + (1 + (j + (1 + k))))
-    (group_more bytes i a b (c ∷ []) (j + (1 + k)) long is_a end_a
-    (group_more second j b c [] k long₂ is_b end_b (last_group third k c is_c end_c next))) (omega arith) refl
-
-pub head_four : (bytes : List ℕ) (i j k l a b c d : ℕ) → i < length bytes → j < length (rest_from (i + 1) bytes)
-    → k < length (rest_from (j + 1) (rest_from (i + 1) bytes))
-    → IsGroup (take i bytes) a → get_or bytes i 0 ≡ 58
-    → IsGroup (take j (rest_from (i + 1) bytes)) b → get_or (rest_from (i + 1) bytes) j 0 ≡ 58
-    → IsGroup (take k (rest_from (j + 1) (rest_from (i + 1) bytes))) c
-    → get_or (rest_from (j + 1) (rest_from (i + 1) bytes)) k 0 ≡ 58
-    → IsGroup (take l (rest_from (k + 1) (rest_from (j + 1) (rest_from (i + 1) bytes)))) d
-    → get_or (rest_from (k + 1) (rest_from (j + 1) (rest_from (i + 1) bytes))) l 0 ≡ 58
-    → get_or (rest_from (l + 1) (rest_from (k + 1) (rest_from (j + 1) (rest_from (i + 1) bytes)))) 0 0 ≡ 58
-    → IsHead bytes (a ∷ b ∷ c ∷ d ∷ 0 ∷ 0 ∷ 0 ∷ 0 ∷ []) (i + (1 + (j + (1 + (k + (1 + l))))))
-head_four bytes i j k l a b c d long long₂ long₃ is_a end_a is_b end_b is_c end_c is_d end_d next =
-    let second = rest_from (i + 1) bytes in
-    let third = rest_from (j + 1) second in
-    let fourth = rest_from (k + 1) third in
-    head_is bytes (a ∷ b ∷ c ∷ d ∷ []) (a ∷ b ∷ c ∷ d ∷ 0 ∷ 0 ∷ 0 ∷ 0 ∷ []) (i + (1 + (j + (1 + (k + (1 + l))))))
-    (group_more bytes i a b (c ∷ d ∷ []) (j + (1 + (k + (1 + l)))) long is_a end_a
-    (group_more second j b c (d ∷ []) (k + (1 + l)) long₂ is_b end_b
-    (group_more third k c d [] l long₃ is_c end_c (last_group fourth l d is_d end_d next)))) (omega arith) refl
+    (line_network head_text h.head digits n h.spelled h.few at.octet at.small))

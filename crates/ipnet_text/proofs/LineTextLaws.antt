@@ -23,16 +23,15 @@ text_of_lines-push networks n =
 
 -- the text of the lines so far, and of one network more
 pub one_line_more : {X : Type 0} (network_of : X → Network) (front : List ℕ) (items : List X) (i : ℕ) (item : X)
-    (text new : List ℕ) → i < length items → item ≡ get_or items i item
+    (text : List ℕ) → i < length items → item ≡ get_or items i item
     → text ≡ front ++ text_of_lines (map network_of (take i items))
-    → new ≡ (text ++ canonical_text (network_of item)) ++ 10 ∷ []
-    → new ≡ front ++ text_of_lines (map network_of (take (i + 1) items))
-one_line_more network_of front items i item text new less is so_far pushed =
+    → (text ++ canonical_text (network_of item)) ++ 10 ∷ []
+    ≡ front ++ text_of_lines (map network_of (take (i + 1) items))
+one_line_more network_of front items i item text less is so_far =
     let more : map network_of (take (i + 1) items) ≡ map network_of (take i items) ++ network_of item ∷ [] =
     ap (map network_of) (take_more items i item less ∙ ap (λ z. take i items ++ z ∷ []) (sym is))
     ∙ map_push network_of (take i items) item in
-    pushed
-    ∙ ap (λ z. (z ++ canonical_text (network_of item)) ++ 10 ∷ []) so_far
+    ap (λ z. (z ++ canonical_text (network_of item)) ++ 10 ∷ []) so_far
     ∙ ap (λ z. z ++ 10 ∷ [])
     (append_assoc front (text_of_lines (map network_of (take i items))) (canonical_text (network_of item)))
     ∙ append_assoc front (text_of_lines (map network_of (take i items)) ++ canonical_text (network_of item)) (10 ∷ [])

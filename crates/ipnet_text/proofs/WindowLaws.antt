@@ -39,20 +39,20 @@ lent : (v : Vec ℕ Global) (xs ys : List ℕ) (end k : ℕ) → xs ≡ v.items 
 lent v xs ys end k is len =
     with_items_is v (put_mid end k xs ys) (same_len_mid end k xs ys len ∙ ap length is ∙ sym v.ok.0)
 
-pub grown_back : (v : Vec ℕ Global) (xs ys : List ℕ) (start end k n : ℕ) → xs ≡ v.items
-    → length ys ≡ length (mid_of end k xs) → start ≤ end → end ≤ length xs → n ≤ length ys
-    → slice_range (with_items v (put_mid end k xs ys)).items start (end + n)
-    ≡ slice_range v.items start end ++ take n ys
-grown_back v xs ys start end k n is len ordered within fits =
-    ap (λ z. slice_range z start (end + n)) (lent v xs ys end k is len)
-    ∙ grown xs ys start end k n ordered within fits ∙ ap (λ z. slice_range z start end ++ take n ys) is
+-- `ys` was read into the elements from `end` on, which were lent
+module _ (v : Vec ℕ Global) (xs ys : List ℕ) (start end k : ℕ) (is : xs ≡ v.items)
+    (len : length ys ≡ length (mid_of end k xs)) (ordered : start ≤ end) (within : end ≤ length xs) where
+  pub grown_back : (n : ℕ) → n ≤ length ys
+      → slice_range (with_items v (put_mid end k xs ys)).items start (end + n)
+      ≡ slice_range v.items start end ++ take n ys
+  grown_back n fits =
+      ap (λ z. slice_range z start (end + n)) (lent v xs ys end k is len)
+      ∙ grown xs ys start end k n ordered within fits ∙ ap (λ z. slice_range z start end ++ take n ys) is
 
-pub kept_back : (v : Vec ℕ Global) (xs ys : List ℕ) (start end k : ℕ) → xs ≡ v.items
-    → length ys ≡ length (mid_of end k xs) → start ≤ end → end ≤ length xs
-    → slice_range (with_items v (put_mid end k xs ys)).items start end ≡ slice_range v.items start end
-kept_back v xs ys start end k is len ordered within =
-    ap (λ z. slice_range z start end) (lent v xs ys end k is len)
-    ∙ kept xs ys start end k ordered within ∙ ap (λ z. slice_range z start end) is
+  pub kept_back : slice_range (with_items v (put_mid end k xs ys)).items start end ≡ slice_range v.items start end
+  kept_back =
+      ap (λ z. slice_range z start end) (lent v xs ys end k is len)
+      ∙ kept xs ys start end k ordered within ∙ ap (λ z. slice_range z start end) is
 
 -- the window without its first `count` bytes
 pub taken : (xs : List ℕ) (start end count : ℕ) → start + count ≤ end

@@ -3,7 +3,7 @@ use Rattle.std.proofs.Common.{◌≡◌, ◌≢◌, ℕ, ◌+◌, ◌<◌, ◌�
 use Rattle.std.proofs.Common.{refl, sym, ap, ◌∙◌, subst, arith, append_assoc, IsUtf8, ne_eqb, suc}
 use Rattle.std.proofs.Common.{length-append, All, inl, inr}
 use Rattle.std.proofs.lemmas.List.{drop_at}
-use Rattle.std.proofs.lemmas.List.Elements.{All-append, All-head, All-tail, All-drop}
+use Rattle.std.proofs.lemmas.List.Elements.{All-append, All-head, All-tail, All-drop, All-weaker}
 use Rattle.std.proofs.lemmas.Str.{IsUtf8-append, IsUtf8-nil}
 use Rattle.ipnet.specs.Network.{Network}
 use Rattle.ipnet.specs.Blocks.{HaveSameCover}
@@ -76,12 +76,12 @@ networks_more grammar front piece old new number taken (networks, are, same) = (
   same taken.written taken.same,
 )
 
-pub taken_more : (grammar : Grammar) (front piece : List ℕ) (old new : List Network) (number count : ℕ)
+pub taken_more : (grammar : Grammar) (front piece : List ℕ) (old new : List Network) (number : ℕ)
     → IsTaken grammar front old number → IsUtf8 piece → IsClosed piece
     → (networks : List Network) × AreNetworksOf grammar (lines_of piece) networks
     × ((before : List Network) → HaveSameCover before old → HaveSameCover (before ++ networks) new)
-    → count ≡ number + length (lines_of piece) → IsTaken grammar (front ++ piece) new count
-taken_more grammar front piece old new number count taken is_text closed more is =
+    → IsTaken grammar (front ++ piece) new (number + length (lines_of piece))
+taken_more grammar front piece old new number taken is_text closed more =
     let (networks, are, same) = networks_more grammar front piece old new number taken more in
     record {
       is_text = IsUtf8-append front piece taken.is_text is_text;
@@ -91,7 +91,6 @@ taken_more grammar front piece old new number count taken is_text closed more is
       same = same;
       count = omega (
         arith,
-        is,
         taken.count,
         ap length (taken.closed piece),
         length-append (lines_of front) (lines_of piece),
@@ -114,27 +113,26 @@ good_or_bad grammar line (inr some) bad = bad.1 some.0 some.1
 -- after good lines, lines of which the first that is not empty is not bad
 at_once_after : (grammar : Grammar) (lines others before : List (List ℕ)) (line : List ℕ) (after : List (List ℕ))
     → All (IsGoodLine grammar) lines → ((later : ℕ) → ¬ (StartsWithBadLine grammar others later))
-    → lines ++ others ≡ before ++ line ∷ after → All (IsGoodLine grammar) before → All (λ l. l ≡ []) before
-    → ¬ (IsBadLine grammar line)
-at_once_after grammar [] others before line after good none cut fine empty bad = none (length before + 1) (record {
+    → lines ++ others ≡ before ++ line ∷ after → All (λ l. l ≡ []) before → ¬ (IsBadLine grammar line)
+at_once_after grammar [] others before line after good none cut empty bad = none (length before + 1) (record {
   first = record {
     before = before;
     line = line;
     after = after;
     cut = cut;
     number_is = refl;
-    good = fine;
+    good = All-weaker (λ l. l ≡ []) (IsGoodLine grammar) (λ l e. inl e) before empty;
     bad = bad;
   };
   empty = empty;
 })
-at_once_after grammar (l ∷ lines) others [] line after good none cut fine empty bad =
+at_once_after grammar (l ∷ lines) others [] line after good none cut empty bad =
     let same : l ≡ line = cc in
     good_or_bad grammar line (subst (IsGoodLine grammar) same (All-head (IsGoodLine grammar) l lines good)) bad
-at_once_after grammar (l ∷ lines) others (b ∷ before) line after good none cut fine empty bad =
+at_once_after grammar (l ∷ lines) others (b ∷ before) line after good none cut empty bad =
     let rest : lines ++ others ≡ before ++ line ∷ after = cc in
     at_once_after grammar lines others before line after (All-tail (IsGoodLine grammar) l lines good) none rest
-    (All-tail (IsGoodLine grammar) b before fine) (All-tail (λ z. z ≡ []) b before empty) bad
+    (All-tail (λ z. z ≡ []) b before empty) bad
 
 pub not_at_once_after : (grammar : Grammar) (front piece : List ℕ) (old : List Network) (number : ℕ)
     → IsTaken grammar front old number → ((later : ℕ) → ¬ (StartsWithBadLine grammar (lines_of piece) later))
@@ -142,7 +140,7 @@ pub not_at_once_after : (grammar : Grammar) (front piece : List ℕ) (old : List
 not_at_once_after grammar front piece old number taken none later h =
     at_once_after grammar (lines_of front) (lines_of piece) h.first.before h.first.line h.first.after
     (all_good grammar (lines_of front) taken.written taken.are) none (sym (taken.closed piece) ∙ h.first.cut)
-    h.first.good h.empty h.first.bad
+    h.empty h.first.bad
 
 -- and lines that are not all empty
 pub some_after : (grammar : Grammar) (front piece : List ℕ) (old : List Network) (number : ℕ)

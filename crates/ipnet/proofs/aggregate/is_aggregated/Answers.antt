@@ -34,8 +34,8 @@ returns-then-not-is_truncated-clause-neighbours c =
 not_apart : (c : goal.Joined-then-not-lies_before) → AreJoined (map ip_network c.args.networks.now) → ⊥
 not_apart c joined =
     let pair = joined_pair ip_network c.args.networks.now c.loop-index.index c.index-networks-index.result
-    c.index-networks-index-then-index-gt0.result joined
-    (omega arith) (omega arith) c.index-networks-index.is c.index-networks-index-then-index-gt0.is in
+    c.index-networks-index-then-index-gt0.result (omega arith) (omega arith) c.index-networks-index.is
+    c.index-networks-index-then-index-gt0.is joined in
     elim c.then-not-lies_before.branch [
       | then-not-lies_before-via-then-not-lies_before w ↦
           false_gives c.lies_before.result c.lies_before.ensures w.if-not-lies_before.true pair.0
@@ -60,8 +60,8 @@ loop-index-preserved c =
     elim c.if-index-gt0.branch [
       | then-index-gt0+else-not-lies_before+else-is_other_half w ↦
           let y = w.index-networks-index-then-index-gt0.result in
-          joined_more ip_network xs i x y (omega arith) c.index-networks-index.is
-          (omega arith) w.index-networks-index-then-index-gt0.is c.loop-index.invariant t
+          joined_more ip_network xs i x y (omega arith) (omega arith) c.index-networks-index.is
+          w.index-networks-index-then-index-gt0.is c.loop-index.invariant t
           (true_gives w.lies_before.result w.lies_before.ensures w.if-not-lies_before.false)
           (false_gives w.is_other_half.result w.is_other_half.ensures w.if-is_other_half.false)
       | else-index-gt0 w ↦ joined_first ip_network xs i x (omega arith) c.index-networks-index.is

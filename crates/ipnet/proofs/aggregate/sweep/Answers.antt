@@ -15,8 +15,7 @@ push_on_stack-stacked-requires-clause-truncated g c =
     let item = c.index-list-index.result in
     let below : i < length given = omega arith in
     subst IsTruncated
-    (rest_read net c.loop-index.list given i item
-    (net item) below c.loop-index.invariant.rest c.index-list-index.is)
+    (rest_read net c.loop-index.list given i item below c.loop-index.invariant.rest c.index-list-index.is)
     (c.requires.truncated i (net item) (omega (arith, length-map given net)))
 
 pub push_on_stack-stacked-requires-clause-order : goal.push_on_stack-stacked-requires-clause-order
@@ -27,7 +26,7 @@ push_on_stack-stacked-requires-clause-order g c =
     let item = c.index-list-index.result in
     let below : i < length given = omega arith in
     subst (λ z. All (λ m. IsBeforeOrEqual m z) (map net (take c.loop-index.stacked c.loop-index.list)))
-    (rest_read net c.loop-index.list given i item (net item) below c.loop-index.invariant.rest c.index-list-index.is)
+    (rest_read net c.loop-index.list given i item below c.loop-index.invariant.rest c.index-list-index.is)
     (c.loop-index.invariant.stack.order i (net item) (omega arith) (omega (arith, length-map given net)))
 
 pub loop-index-preserved : goal.loop-index-preserved
@@ -46,6 +45,6 @@ loop-index-preserved g c =
       stack = stack_of_first_more (map net given) i (net item) (map net (take c.loop-index.stacked list))
           (map net (take c.push_on_stack-stacked.result new))
           c.requires.order (omega (arith, length-map given net))
-          (rest_read net list given i item (net item) below c.loop-index.invariant.rest c.index-list-index.is)
+          (rest_read net list given i item below c.loop-index.invariant.rest c.index-list-index.is)
           c.loop-index.invariant.stack c.push_on_stack-stacked.ensures.stack;
     }

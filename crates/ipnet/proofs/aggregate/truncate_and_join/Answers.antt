@@ -27,7 +27,7 @@ loop-index-preserved g c =
           ∙ rest_later list given i (i + 1) (omega arith) c.loop-index.invariant.rest;
       first = list_of_first_more (map net given) i (net item) (map net (take c.loop-index.kept list))
           (map net (take c.put_or_join-kept.result new)) (omega (arith, length-map given net))
-          (rest_read net list given i item (net item) below c.loop-index.invariant.rest c.index-list-index.is)
+          (rest_read net list given i item below c.loop-index.invariant.rest c.index-list-index.is)
           c.loop-index.invariant.first
           (subst (λ z. IsListWith (map net (take c.loop-index.kept list)) z
           (map net (take c.put_or_join-kept.result new))) c.truncated.ensures c.put_or_join-kept.ensures.list);

@@ -1,10 +1,9 @@
-use Rattle.std.proofs.Common.{◌++◌, ◌∷◌, [], ◌∙◌, codes, ap, refl, string_bytes}
+use Rattle.std.proofs.Common.{refl, append_assoc}
 use Rattle.ipnet.specs.NetworkOf.{ip_network}
-use Rattle.ipnet_bars.specs.Bars.{row_head, row_text}
-use Rattle.ipnet_bars.specs.MarkTexts.{marks_text, share_words}
+use Rattle.ipnet_bars.specs.Bars.{row_text}
+use Rattle.ipnet_bars.specs.MarkTexts.{marks_text}
 use Rattle.ipnet_bars.specs.Parts.{block_size, counted}
 use Rattle.ipnet_bars.specs.Shares.{share_of}
-use Rattle.ipnet_bars.proofs.BarLaws.{row_joined}
 use Rattle.ipnet_bars.proofs.bar.push_row.Goals as goal
 
 pub returns : goal.returns
@@ -21,13 +20,12 @@ returns c =
         is_count = c.in_ok-count.ensures.count;
         spelled = refl;
       },
-      row_joined (string_bytes c.args.text.now) (string_bytes c.push_head.new.text)
-          (string_bytes c.push_marks.new.text) (string_bytes c.push_tail.new.text)
-          (row_head column n)
-          (marks_text c.args.form.marks levels) (codes "| ") (share_words share) (10 ∷ []) c.in_ok-push_head.ensures
-          (c.in_ok-push_marks.ensures
-          ∙ ap (λ z. string_bytes c.push_head.new.text ++ marks_text c.args.form.marks z) c.as_slice.ensures.value)
-          (c.in_ok-push_tail.ensures
-          ∙ ap (λ z. string_bytes c.push_marks.new.text ++ (codes "| " ++ share_words z ++ 10 ∷ []))
-          c.share_of.ensures),
+      simp (
+        append_assoc,
+        c.in_ok-push_head.ensures,
+        c.in_ok-push_marks.ensures,
+        c.as_slice.ensures.value,
+        c.in_ok-push_tail.ensures,
+        c.share_of.ensures,
+      ),
     )

@@ -22,7 +22,7 @@ returns c =
       cells = map ip_network cells;
       subnets = c.in_ok-cells.ensures;
       each = changes_of_parts before after first second n (map ip_network cells) changes.items
-          c.in_ok-first.ensures.members c.in_ok-second.ensures.members
+          (record { first = c.in_ok-first.ensures.members; second = c.in_ok-second.ensures.members })
           (λ k h. ((c.in_ok-cells.ensures.members k).0 h).within)
           (subst (λ z. AllZip (IsChange first second) (map ip_network z) changes.items) c.as_slice.ensures.value each);
     })

@@ -1,11 +1,10 @@
-use Rattle.std.proofs.Common.{◌≤◌, ◌++◌, ◌∙◌, All, map, ap, sym, subst, string_bytes}
+use Rattle.std.proofs.Common.{◌≤◌, All, map, sym, subst, append_assoc}
 use Rattle.ipnet.specs.NetworkOf.{ip_network}
 use Rattle.ipnet_base.specs.Address.{width}
 use Rattle.ipnet_sets.specs.Members.{IsMember}
-use Rattle.ipnet_bars.specs.Bars.{AreRows, first_line}
+use Rattle.ipnet_bars.specs.Bars.{AreRows}
 use Rattle.ipnet_bars.specs.ComparisonBars.{IsChangeRow}
 use Rattle.ipnet_bars.specs.MarkTexts.{mark_len}
-use Rattle.ipnet_bars.proofs.BarLaws.{four_joined}
 use Rattle.ipnet_bars.proofs.comparison_bar.comparison_bar_text.Goals as goal
 
 pub push_change_rows-requires-clause-fit : goal.push_change_rows-requires-clause-fit
@@ -40,11 +39,13 @@ returns c =
       is_legend = is_legend;
       rest = rest;
       is_rest = is_rest;
-      spelled = four_joined (string_bytes c.new-text.result) (string_bytes c.push_first_line.new.text)
-          (string_bytes c.push_change_rows.new.text) (string_bytes c.push_legend.new.text)
-          (string_bytes c.push_changes_outside.new.text) (first_line n (mark_len n form.row_width)) lines below rest
-          (c.in_ok-push_first_line.ensures
-          ∙ ap (λ z. string_bytes c.new-text.result ++ first_line n z) len) rows_pushed legend_pushed rest_pushed
-          ∙ ap (λ z. z ++ (first_line n (mark_len n form.row_width) ++ lines ++ below ++ rest))
-          c.new-text.ensures.bytes;
+      spelled = simp (
+        append_assoc,
+        c.new-text.ensures.bytes,
+        c.in_ok-push_first_line.ensures,
+        len,
+        rows_pushed,
+        legend_pushed,
+        rest_pushed,
+      );
     }

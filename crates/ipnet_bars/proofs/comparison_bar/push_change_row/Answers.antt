@@ -1,11 +1,10 @@
-use Rattle.std.proofs.Common.{◌++◌, ◌∙◌, ap, refl, string_bytes}
+use Rattle.std.proofs.Common.{◌++◌, refl, append_assoc}
 use Rattle.ipnet.specs.NetworkOf.{ip_network}
 use Rattle.ipnet_sets.specs.Members.{IsMember}
 use Rattle.ipnet_bars.specs.Bars.{row_head}
 use Rattle.ipnet_bars.specs.Changes.{IsOnlyIn}
 use Rattle.ipnet_bars.specs.ComparisonBars.{changes_text, change_tail}
 use Rattle.ipnet_bars.specs.Parts.{counted}
-use Rattle.ipnet_bars.proofs.BarLaws.{three_joined}
 use Rattle.ipnet_bars.proofs.PartLaws.{same_part_count}
 use Rattle.ipnet_bars.proofs.comparison_bar.push_change_row.Goals as goal
 
@@ -32,10 +31,11 @@ returns c =
             c.in_ok-added.ensures.count;
         spelled = refl;
       },
-      three_joined (string_bytes c.args.text.now) (string_bytes c.push_head.new.text)
-          (string_bytes c.push_change_marks.new.text) (string_bytes c.push_change_tail.new.text) (row_head column n)
-          (changes_text marks changes) (change_tail removed added) c.in_ok-push_head.ensures
-          (c.in_ok-push_change_marks.ensures
-          ∙ ap (λ z. string_bytes c.push_head.new.text ++ changes_text marks z) c.as_slice.ensures.value)
-          c.in_ok-push_change_tail.ensures,
+      simp (
+        append_assoc,
+        c.in_ok-push_head.ensures,
+        c.in_ok-push_change_marks.ensures,
+        c.as_slice.ensures.value,
+        c.in_ok-push_change_tail.ensures,
+      ),
     )

@@ -4,7 +4,7 @@ use Rattle.ipnet_sets.specs.Members.{IsMember}
 use Rattle.ipnet_bars.specs.Changes.{IsOnlyIn}
 use Rattle.ipnet_bars.specs.ComparisonBars.{worded_line, legend_text}
 use Rattle.ipnet_bars.specs.Parts.{counted}
-use Rattle.ipnet_bars.proofs.BarLaws.{five_joined}
+use Rattle.ipnet_bars.proofs.BarLaws.{joined}
 use Rattle.ipnet_bars.proofs.PartLaws.{same_part_count}
 use Rattle.ipnet_bars.proofs.comparison_bar.push_legend.Goals as goal
 
@@ -16,7 +16,12 @@ returns c =
     let after = IsMember sets.after.now in
     let removed = counted c.in_ok-removed.removed in
     let added = counted c.in_ok-added.added in
-    let kept = counted c.in_ok-kept-2.kept in (
+    let kept = counted c.in_ok-kept-2.kept in
+    let old = string_bytes c.args.text.now in
+    let first = worded_line (codes "- only in the first: ") removed in
+    let second = worded_line (codes "+ only in the second: ") added in
+    let both = worded_line (codes "= in both: ") kept in
+    let note = codes "! is - and + in one mark" in (
       legend_text removed added kept,
       record {
         removed = removed;
@@ -30,11 +35,8 @@ returns c =
             c.in_ok-kept.ensures.members c.in_ok-kept-2.ensures.count;
         spelled = refl;
       },
-      five_joined (string_bytes c.args.text.now) (string_bytes c.push_worded.new.text)
-          (string_bytes c.push_worded-2.new.text) (string_bytes c.push_worded-3.new.text)
-          (string_bytes c.push_str.new.self) (string_bytes c.push_str-2.new.self)
-          (worded_line (codes "- only in the first: ") removed)
-          (worded_line (codes "+ only in the second: ") added) (worded_line (codes "= in both: ") kept)
-          (codes "! is - and + in one mark") (10 ∷ []) c.in_ok-push_worded.ensures c.in_ok-push_worded-2.ensures
-          c.in_ok-push_worded-3.ensures c.in_ok-push_str.ensures.bytes c.in_ok-push_str-2.ensures.bytes,
+      joined old (first ++ second ++ both ++ note) (10 ∷ []) (joined old (first ++ second ++ both) note
+          (joined old (first ++ second) both
+          (joined old first second c.in_ok-push_worded.ensures c.in_ok-push_worded-2.ensures)
+          c.in_ok-push_worded-3.ensures) c.in_ok-push_str.ensures.bytes) c.in_ok-push_str-2.ensures.bytes,
     )

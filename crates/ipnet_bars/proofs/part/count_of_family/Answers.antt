@@ -1,8 +1,6 @@
-use Rattle.std.proofs.Common.{ap, subst, sym}
-use Rattle.ipnet_base.specs.Address.{IPv4, IPv6}
-use Rattle.ipnet.specs.NetworkOf.{ip_network}
+use Rattle.std.proofs.Common.{subst, sym}
+use Rattle.ipnet_base.specs.Address.{IPv4}
 use Rattle.ipnet_sets.specs.Members.{IsMemberOf, IsCountOf}
-use Rattle.ipnet_bars.specs.Parts.{counted}
 use Rattle.ipnet_bars.proofs.PartLaws.{ipv6_counted}
 use Rattle.ipnet_bars.proofs.part.count_of_family.Goals as goal
 

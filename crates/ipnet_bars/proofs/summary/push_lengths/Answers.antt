@@ -10,10 +10,10 @@ pub loop-len-preserved : goal.loop-len-preserved
 loop-len-preserved c = record {
   from = omega (arith, c.loop-len.invariant.from);
   to = omega (arith, c.loop-len-test.true);
-  spelled = one_length_more (map ip_network c.args.networks.now) c.prefix_len-first.result c.loop-len.len
-      c.count_of.result (string_bytes c.args.text.now) (string_bytes c.loop-len.text)
-      (string_bytes c.push_length.new.text) c.loop-len.invariant.from c.loop-len.invariant.spelled
-      c.count_of.ensures.count c.in_ok-push_length.ensures;
+  spelled = c.in_ok-push_length.ensures
+      ∙ one_length_more (map ip_network c.args.networks.now) c.prefix_len-first.result c.loop-len.len
+      c.count_of.result (string_bytes c.args.text.now) (string_bytes c.loop-len.text) c.loop-len.invariant.from
+      c.loop-len.invariant.spelled c.count_of.ensures.count;
 }
 
 pub returns : goal.returns

@@ -1,4 +1,4 @@
-use Rattle.std.proofs.Common.{◌≡◌, sym, subst, rules}
+use Rattle.std.proofs.Common.{sym, subst, rules}
 use Rattle.ipnet_lists.specs.Comments.{BeginsWithEntry, IsAsWord}
 use Rattle.ipnet_lists.proofs.comment.begins_with_vrp.Goals as goal
 

@@ -17,6 +17,6 @@ returns-in_default-parse_address c =
 
 pub returns : goal.returns
 returns c =
-    reads_masked ip_network c.args.grammar c.args.address.now c.args.mask.now (ip_address c.in-Some.address)
+    reads_masked c.args.grammar c.args.address.now c.args.mask.now (ip_address c.in-Some.address)
     (ip_address c.in-Some-parse_address.mask) c.in-Some.ensures.some c.in-Some-parse_address.ensures.some
     c.masked_network.result c.masked_network.ensures.some c.masked_network.ensures.none

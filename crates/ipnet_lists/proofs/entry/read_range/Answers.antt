@@ -17,6 +17,6 @@ returns-in_default-parse_address-clause-reads c =
 
 pub returns-clause-reads : goal.returns-clause-reads
 returns-clause-reads c =
-    reads_ends entry_range c.args.grammar c.args.first.now c.args.last.now (ip_address c.in-Some.first)
+    reads_ends c.args.grammar c.args.first.now c.args.last.now (ip_address c.in-Some.first)
     (ip_address c.in-Some-parse_address.last) c.in-Some.ensures.some c.in-Some-parse_address.ensures.some
     c.range_entry.result c.range_entry.ensures.some c.range_entry.ensures.none

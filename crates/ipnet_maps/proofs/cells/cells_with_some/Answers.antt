@@ -23,11 +23,14 @@ loop-network-init c =
 
 pub loop-network-preserved : goal.loop-network-preserved
 loop-network-preserved c =
-    cells_more (IsMember c.args.set.now) (IsPushed c.loop-network.cells) (IsPushed c.push_network.new.self)
-    c.args.cell_len (ip_network c.in-Some.network) (networks_left c.loop-network.network-iterator)
-    (networks_left c.next.new.self) c.in-Some.ensures.steps (λ x p. p.fits)
-    (subst (λ n. (x : Address) → IsPushed c.push_network.new.self x ↔ (IsPushed c.loop-network.cells x ⊎ InBlock n x))
-    c.widened_to-cell.ensures c.in_ok-push_network.ensures.added) c.loop-network.invariant
+    let InSet = IsMember c.args.set.now in
+    let Old = IsPushed c.loop-network.cells in
+    let New = IsPushed c.push_network.new.self in
+    cells_more InSet Old New c.args.cell_len (ip_network c.in-Some.network) (networks_left c.next.new.self)
+    (λ x p. p.fits)
+    (subst (λ n. (x : Address) → New x ↔ (Old x ⊎ InBlock n x)) c.widened_to-cell.ensures
+    c.in_ok-push_network.ensures.added)
+    (subst (λ z. AreCellsOf InSet c.args.cell_len z Old) c.in-Some.ensures.steps c.loop-network.invariant)
 
 pub returns : goal.returns
 returns c =

@@ -1,4 +1,4 @@
-use Rattle.std.proofs.Common.{◌≡◌, ◌+◌, ◌-◌, ◌<◌, ◌/◌, ◌^◌, subst₂, arith}
+use Rattle.std.proofs.Common.{◌≡◌, ◌+◌, ◌-◌, ◌<◌, ◌/◌, ◌^◌, subst, subst₂, arith}
 use Rattle.std.proofs.lemmas.Bool.Decides.{nat_tests}
 use Rattle.ipnet_base.specs.Address.{ip_address, width}
 use Rattle.ipnet.specs.NetworkOf.{ip_network}
@@ -20,7 +20,9 @@ returns c = λ t.
     in
     let bits : c.saturating_sub-bits.result ≡ width n.family - c.args.cell_len
     = omega (arith, c.saturating_sub-bits.ensures, c.max_prefix_len-width.ensures) in
-    cell_between n k (ip_address c.broadcast.result) (ip_address c.network.result) c.args.cell_len
-    c.saturating_sub-bits.result (same_by_width n.family k.family same) c.broadcast.ensures c.network.ensures bits
+    let low = ip_address c.broadcast.result in
+    let high = ip_address c.network.result in
+    cell_between n k low high c.args.cell_len (same_by_width n.family k.family same) c.broadcast.ensures
+    c.network.ensures (subst (λ z. low.number / 2 ^ z + 1 < high.number / 2 ^ z) bits
     (subst₂ (λ a b. a / 2 ^ c.saturating_sub-bits.result + 1 < b / 2 ^ c.saturating_sub-bits.result)
-    c.number_of.ensures c.number_of-2.ensures (c.are_apart.ensures t))
+    c.number_of.ensures c.number_of-2.ensures (c.are_apart.ensures t)))

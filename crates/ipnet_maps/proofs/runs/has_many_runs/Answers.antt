@@ -3,7 +3,6 @@ use Rattle.std.proofs.lemmas.Bool.Decides.{nat_tests}
 use Rattle.ipnet.specs.NetworkOf.{ip_network}
 use Rattle.ipnet_sets.specs.Members.{IsMember}
 use Rattle.ipnet_sets.specs.NetworksLeft.{networks_left}
-use Rattle.ipnet_sets.proofs.SetEqualLaws.{member_or_not}
 use Rattle.ipnet_maps.proofs.RunLaws.{IsRunWalk, runs_begin, walk_on, walk_begun, run_more}
 use Rattle.ipnet_maps.proofs.runs.has_many_runs.Goals as goal
 
@@ -29,7 +28,7 @@ loop-network-preserved-else-runs-eq-MOST_RECTANGLES c =
     let rest = networks_left c.next.new.self in
     let room : c.loop-network.runs < 65536
     = grind (arith, nat_tests, c.if-runs-eq-MOST_RECTANGLES.false, c.loop-network.invariant.few) in
-    walk_begun InSet (member_or_not c.args.set.now) (λ x m. m.fits) c.args.cell_len c.in-Some.network rest
+    walk_begun c.args.set.now c.args.cell_len c.in-Some.network rest
     c.loop-network.last c.loop-network.runs
     (subst (λ z. IsRunWalk InSet c.args.cell_len z c.loop-network.last c.loop-network.runs) c.in-Some.ensures.steps
     c.loop-network.invariant) room (c.begins_run.ensures c.if-begins_run.true)
@@ -41,7 +40,7 @@ returns-then-runs-eq-MOST_RECTANGLES c = λ t.
     let all : 65536 < c.loop-network.runs + 1 = grind (arith, nat_tests, c.if-runs-eq-MOST_RECTANGLES.true) in (
       c.loop-network.runs + 1,
       all,
-      run_more InSet (member_or_not c.args.set.now) (λ x m. m.fits) c.args.cell_len (ip_network c.in-Some.network) rest
+      run_more c.args.set.now c.args.cell_len (ip_network c.in-Some.network) rest
           c.loop-network.last c.loop-network.runs
           (subst (λ z. IsRunWalk InSet c.args.cell_len z c.loop-network.last c.loop-network.runs)
           c.in-Some.ensures.steps c.loop-network.invariant) (c.begins_run.ensures c.if-begins_run.true),

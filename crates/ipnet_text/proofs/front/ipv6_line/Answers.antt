@@ -17,6 +17,10 @@ returns c =
     (ipv6_network_of (from_be_bytes w128 (octets_of groups)) c.in_ok-prefix_len.prefix_len)) (sym c.new.ensures)
     (line_at c.args.bytes.now (c.in_ok-a.a ∷ c.in_ok-a.b ∷ c.in_ok-a.c ∷ c.in_ok-a.d ∷ 0 ∷ 0 ∷ 0 ∷ 0 ∷ [])
     c.in_ok-a.len c.in_ok-prefix_len.digits c.in_ok-prefix_len.prefix_len c.in_ok-a.ensures.head c.in_ok-a.ensures.few
-    c.if-bytes-lt-LONGEST_IPV6.false c.if-after-ne47.false c.in_ok-prefix_len.ensures.octet
-    c.in_ok-prefix_len.ensures.few c.in_ok-prefix_len.ensures.end c.if-prefix_len-gt128.false) in
+    c.if-bytes-lt-LONGEST_IPV6.false c.if-after-ne47.false (record {
+      octet = c.in_ok-prefix_len.ensures.octet;
+      few = c.in_ok-prefix_len.ensures.few;
+      end = c.in_ok-prefix_len.ensures.end;
+      small = c.if-prefix_len-gt128.false;
+    })) in
     subst (IsFirstLine (IsIpv6NetworkText Strict) c.args.bytes.now len) (sym c.new_assert-network.ensures) of_groups

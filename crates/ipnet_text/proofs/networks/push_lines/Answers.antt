@@ -47,8 +47,8 @@ lines-preserved-in-Continue-branch-2 g c =
       room = omega (arith, c.first_line.ensures.shorter);
       count = omega (arith, c.lines.invariant.count, ap length cut);
       taken = one_taken_more grammar (lines_of c.args.text.now) (lines_of c.lines.rest.now) after
-          (g.S.NetworkSink.is_made c.args.sink.now) (g.S.NetworkSink.is_made c.lines.sink)
-          (g.S.NetworkSink.is_made c.push-then-not-is_empty.new.self) n c.lines.invariant.taken
+          (g.S.NetworkSink.is_made c.args.sink.now) (g.S.NetworkSink.is_made c.lines.sink) c.lines.invariant.taken
+          (g.S.NetworkSink.is_made c.push-then-not-is_empty.new.self) n
           (λ more h. rw cut (network_line grammar line after n more some
           ((c.in-Ok.ensures.ok c.in-Ok.network).0 refl) h))
           c.in_ok-push-2.ensures;
@@ -139,8 +139,8 @@ lines-preserved-in-Some g c =
       room = omega (arith, c.lines.invariant.room, c.range_from-rest.ensures.len);
       count = omega (arith, c.lines.invariant.count, ap length f.cut);
       taken = one_taken_more grammar (lines_of c.args.text.now) (lines_of text) after
-          (g.S.NetworkSink.is_made c.args.sink.now) (g.S.NetworkSink.is_made c.lines.sink)
-          (g.S.NetworkSink.is_made c.push.new.self) n c.lines.invariant.taken
+          (g.S.NetworkSink.is_made c.args.sink.now) (g.S.NetworkSink.is_made c.lines.sink) c.lines.invariant.taken
+          (g.S.NetworkSink.is_made c.push.new.self) n
           (λ more h. rw f.cut (network_line grammar line after n more f.some f.is h)) c.in_ok-push.ensures;
       empty = λ h. absurd (not_all_empty (lines_of text) line after f.cut f.some (c.lines.invariant.empty h).0);
       bad_line = λ later h.

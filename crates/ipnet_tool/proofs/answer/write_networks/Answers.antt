@@ -1,6 +1,6 @@
 -- Each loop keeps this: the written bytes and the piece are the text of the networks so far (`one_line_more`); the
 -- second loop begins after the first has printed all of IPv4. A front of the piece is a front of the whole text.
-use Rattle.std.proofs.Common.{◌≡◌, List, ℕ, [], ◌∷◌, ◌++◌, length, map, take, drop, take_all, refl, sym, ap, ◌∙◌, subst}
+use Rattle.std.proofs.Common.{◌≡◌, List, ℕ, [], ◌++◌, length, map, take, drop, take_all, refl, sym, ap, ◌∙◌, subst}
 use Rattle.std.proofs.Common.{append-nil, append_assoc, Option, ◌+◌, ◌≤◌}
 use Rattle.std.specs.Io.{StartsWith}
 use Rattle.std.specs.Io.KnownBytes.{Appends}
@@ -24,8 +24,8 @@ loop-network-preserved g c =
     let i = c.loop-network.network-index in
     let text = text_of_lines (map ipv4_network (take i items)) in
     let line = canonical_text (ipv4_network c.network-item.result) in
-    let more = one_line_more ipv4_network [] items i c.network-item.result text ((text ++ line) ++ 10 ∷ [])
-    c.loop-network-test.true c.network-item.is refl refl in (
+    let more = one_line_more ipv4_network [] items i c.network-item.result text c.loop-network-test.true
+    c.network-item.is refl in (
       pieces_more (held (writer_of c.args.out.now)) (held (writer_of c.loop-network.out))
           (held (writer_of c.put_line.new.out)) c.loop-network.piece.bytes
           c.put_line.new.piece.bytes line text (text_of_lines (map ipv4_network (take (i + 1) items)))
@@ -42,7 +42,7 @@ loop-network-2-preserved g c =
     let text = first ++ text_of_lines (map ipv6_network (take i items)) in
     let line = canonical_text (ipv6_network c.network-item-in-loop-network-2.result) in
     let more = one_line_more ipv6_network first items i c.network-item-in-loop-network-2.result text
-    ((text ++ line) ++ 10 ∷ []) c.loop-network-2-test.true c.network-item-in-loop-network-2.is refl refl in (
+    c.loop-network-2-test.true c.network-item-in-loop-network-2.is refl in (
       pieces_more (held (writer_of c.args.out.now)) (held (writer_of c.loop-network-2.out))
           (held (writer_of c.put_line-in-loop-network-2.new.out))
           c.loop-network-2.piece.bytes c.put_line-in-loop-network-2.new.piece.bytes line text

@@ -41,8 +41,7 @@ loop-preserved g c =
           subst IsUtf8 (ap (λ n. take n c.held.result.now) is ∙ ap (take count) c.held.ensures.value)
           w.in-Err.ensures.cases.1.front
     ] in
-    judged_more (held c.args.window.now) (rest c.args.input.now) (rest c.loop.input) (rest c.fill.new.input) now given
-    (held c.fill.new.self) count c.loop.invariant front
+    judged_more c.loop.invariant (rest c.fill.new.input) given (held c.fill.new.self) count front
     (grown ∙ ap (λ z. z ++ given) c.take.ensures) read
 
 pub returns-in-Ok-false-clause-line : goal.returns-in-Ok-false-clause-line
@@ -62,15 +61,13 @@ returns-in-Ok-false-clause-line g c = λ line e.
           subst IsUtf8 (ap (λ n. take n c.held.result.now) is ∙ ap (take count) c.held.ensures.value)
           w.in-Err.ensures.cases.1.front
     ] in
-    let judged = judged_more (held c.args.window.now) (rest c.args.input.now) (rest c.loop.input)
-    (rest c.fill.new.input) now given (held c.fill.new.self) count c.loop.invariant front
+    let judged = judged_more c.loop.invariant (rest c.fill.new.input) given (held c.fill.new.self) count front
     (grown ∙ ap (λ z. z ++ given) c.take.ensures) read in
     let ends : IsUtf8 (held c.fill.new.self) = subst IsUtf8 c.held-else-fill.ensures.value
     (was_text c.from_utf8-else-fill.result c.held-else-fill.result.now _ _ c.from_utf8-else-fill.ensures.cases
     (sym c.is_ok.ensures.value ∙ c.if-is_ok.true)) in (
       same,
-      judged_whole (held c.args.window.now) (rest c.args.input.now) (rest c.fill.new.input)
-          (held c.fill.new.self) judged ends (c.in-Ok-false.ensures.end c.in-Ok-false.field-0-test),
+      judged_whole judged ends (c.in-Ok-false.ensures.end c.in-Ok-false.field-0-test),
     )
 
 pub returns-then-held-gt-LONGEST_FRONT-clause-not_utf8 : goal.returns-then-held-gt-LONGEST_FRONT-clause-not_utf8
@@ -99,8 +96,7 @@ returns-then-held-gt-LONGEST_FRONT-clause-not_utf8 g c = λ e.
           let is : valid_up_to w.in-Err.error ≡ count = sym (w.count-is ∙ w.valid_up_to-count.ensures) in
           let valid : IsValidUpTo now count = subst (λ z. IsValidUpTo z count) c.held.ensures.value
           (subst (IsValidUpTo c.held.result.now) is w.in-Err.ensures.cases.1) in
-          judged_bad (held c.args.window.now) (rest c.args.input.now) (rest c.loop.input)
-          (rest c.after_bad_bytes.new.input) now later count c.loop.invariant valid.front
+          judged_bad c.loop.invariant (rest c.after_bad_bytes.new.input) later count valid.front
           (no_text_behind now count later valid (omega (arith, long, length-drop count now))) last
     ]
 
@@ -120,11 +116,9 @@ returns-in-Ok-false-2-clause-not_utf8 g c = λ _.
           subst IsUtf8 (ap (λ n. take n c.held.result.now) is ∙ ap (take count) c.held.ensures.value)
           w.in-Err.ensures.cases.1.front
     ] in
-    let judged = judged_more (held c.args.window.now) (rest c.args.input.now) (rest c.loop.input)
-    (rest c.fill.new.input) now given (held c.fill.new.self) count c.loop.invariant front
+    let judged = judged_more c.loop.invariant (rest c.fill.new.input) given (held c.fill.new.self) count front
     (grown ∙ ap (λ z. z ++ given) c.take.ensures) read in
     let bad : ¬ (IsUtf8 (held c.fill.new.self)) = λ text.
     was_no_text c.from_utf8-else-fill.result c.held-else-fill.result.now _ _ c.from_utf8-else-fill.ensures.cases
     (sym c.is_ok.ensures.value ∙ c.if-is_ok.false) (subst IsUtf8 (sym c.held-else-fill.ensures.value) text) in
-    judged_no_text (held c.args.window.now) (rest c.args.input.now) (rest c.fill.new.input) (held c.fill.new.self)
-    judged bad (c.in-Ok-false.ensures.end c.in-Ok-false.field-0-test)
+    judged_no_text judged bad (c.in-Ok-false.ensures.end c.in-Ok-false.field-0-test)

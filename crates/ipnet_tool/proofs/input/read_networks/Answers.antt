@@ -12,7 +12,7 @@ use Rattle.ipnet_text.specs.NetLists.{networks_of}
 use Rattle.ipnet_tool.specs.Reading.{IsBadLineFrom}
 use Rattle.ipnet_text.specs.Window.{held}
 use Rattle.ipnet_text.proofs.ClosedLines.{IsClosed, lines_count}
-use Rattle.ipnet_tool.proofs.ReadingLaws.{IsReadUpTo, AddsNetworksOf, read_none, read_more, piece_taken, last_taken}
+use Rattle.ipnet_tool.proofs.ReadingLaws.{AddsNetworksOf, read_none, read_more, piece_taken, last_taken}
 use Rattle.ipnet_tool.proofs.ReadingLaws.{last_bad, bad_then_text, long_then_text, none_after, lines_no_text}
 use Rattle.ipnet_tool.proofs.ReadingLaws.{last_no_text, rest_no_text, none_behind, memory_taken}
 use Rattle.ipnet_tool.proofs.input.read_networks.Goals as goal
@@ -29,16 +29,10 @@ pub returns-then-more-2-clause-bad_line : goal.returns-then-more-2-clause-bad_li
 returns-then-more-2-clause-bad_line g c = λ number e.
     let grammar = c.args.grammar in
     let rest = g.R.Read.remaining in
-    let start = rest c.args.input.now in
-    let here = rest c.fill.new.input in
     let now = held c.fill.new.self in
-    let old = networks_of c.loop.families in
-    let number0 = c.loop.number in
     let count = c.lines_len-count.result in
     let (given, grown, read) = c.in_ok-more.ensures.read in
-    let so_far : IsReadUpTo grammar start here now old number0 =
-    read_more grammar start (rest c.loop.input) here (held c.loop.window) given now old number0 c.loop.invariant.taken
-    grown read in
+    let so_far = read_more c.loop.invariant.taken (rest c.fill.new.input) given now grown read in
     let value = c.held-held.ensures.value in
     let cases = c.in-Ok.ensures.cases in
     let cut = ap (take count) value in
@@ -51,24 +45,17 @@ returns-then-more-2-clause-bad_line g c = λ number e.
     let refused : c.push_lines-result.result ≡ Err (ToolErrors.Line c.in-Line.bad) =
     c.in-Err.is ∙ ap Err c.in-Line.is in
     let (later, sum, first) = c.push_lines-result.ensures.bad_line c.in-Line.bad refused in
-    bad_then_text grammar start here (rest c.after_bad_line.new.input) now (held c.take.new.self) old number0 later
-    number count so_far is_text closed (subst (λ z. IsFirstBadLine grammar (lines_of z) later) piece first)
+    bad_then_text so_far (rest c.after_bad_line.new.input) (held c.take.new.self) later number count is_text closed
+    (subst (λ z. IsFirstBadLine grammar (lines_of z) later) piece first)
     c.take.ensures (is ∙ sum) left
 
 pub returns-in-Err-clause-bad_line : goal.returns-in-Err-clause-bad_line
 returns-in-Err-clause-bad_line g c = λ number e.
     let grammar = c.args.grammar in
     let rest = g.R.Read.remaining in
-    let start = rest c.args.input.now in
-    let here = rest c.fill.new.input in
     let now = held c.fill.new.self in
-    let old = networks_of c.loop.families in
-    let number0 = c.loop.number in
-    let count = c.lines_len-count.result in
     let (given, grown, read) = c.in_ok-more.ensures.read in
-    let so_far : IsReadUpTo grammar start here now old number0 =
-    read_more grammar start (rest c.loop.input) here (held c.loop.window) given now old number0 c.loop.invariant.taken
-    grown read in
+    let so_far = read_more c.loop.invariant.taken (rest c.fill.new.input) given now grown read in
     let value = c.held-held.ensures.value in
     let cases = c.in-Ok.ensures.cases in
     let all = c.lines_len-count.ensures.all c.if-more-2.false in
@@ -80,7 +67,7 @@ returns-in-Err-clause-bad_line g c = λ number e.
     let refused : c.push_lines-result.result ≡ Err (ToolErrors.Line c.in-Line.bad) =
     c.in-Err.is ∙ ap Err c.in-Line.is in
     let (later, sum, first) = c.push_lines-result.ensures.bad_line c.in-Line.bad refused in
-    last_bad grammar start here now old number0 later number so_far is_text
+    last_bad so_far later number is_text
     (subst (λ z. IsFirstBadLine grammar (lines_of z) later) piece first) (sym reported ∙ sum)
     (c.in_ok-more.ensures.end c.if-more-2.false)
 
@@ -88,16 +75,10 @@ pub returns-then-not-more-clause-networks : goal.returns-then-not-more-clause-ne
 returns-then-not-more-clause-networks g c =
     let grammar = c.args.grammar in
     let rest = g.R.Read.remaining in
-    let start = rest c.args.input.now in
-    let here = rest c.fill.new.input in
     let now = held c.fill.new.self in
     let old = networks_of c.loop.families in
-    let number0 = c.loop.number in
-    let count = c.lines_len-count.result in
     let (given, grown, read) = c.in_ok-more.ensures.read in
-    let so_far : IsReadUpTo grammar start here now old number0 =
-    read_more grammar start (rest c.loop.input) here (held c.loop.window) given now old number0 c.loop.invariant.taken
-    grown read in
+    let so_far = read_more c.loop.invariant.taken (rest c.fill.new.input) given now grown read in
     let value = c.held-held.ensures.value in
     let cases = c.in-Ok.ensures.cases in
     let all = c.lines_len-count.ensures.all c.if-not-more.true in
@@ -108,22 +89,18 @@ returns-then-not-more-clause-networks g c =
     let new = networks_of c.push_lines-result.new.sink in
     let adds : AddsNetworksOf grammar now old new =
     subst (λ z. AddsNetworksOf grammar z old new) piece c.in-Ok-result.ensures.networks in
-    last_taken grammar start here now old new number0 so_far adds (c.in_ok-more.ensures.end c.if-not-more.true)
+    last_taken so_far new adds (c.in_ok-more.ensures.end c.if-not-more.true)
 
 pub returns-then-held-eq-SIZE-clause-bad_line : goal.returns-then-held-eq-SIZE-clause-bad_line
 returns-then-held-eq-SIZE-clause-bad_line g c = λ number e.
     let grammar = c.args.grammar in
     let rest = g.R.Read.remaining in
-    let start = rest c.args.input.now in
-    let here = rest c.fill.new.input in
     let now = held c.fill.new.self in
     let old = networks_of c.loop.families in
     let number0 = c.loop.number in
     let count = c.lines_len-count.result in
     let (given, grown, read) = c.in_ok-more.ensures.read in
-    let so_far : IsReadUpTo grammar start here now old number0 =
-    read_more grammar start (rest c.loop.input) here (held c.loop.window) given now old number0 c.loop.invariant.taken
-    grown read in
+    let so_far = read_more c.loop.invariant.taken (rest c.fill.new.input) given now grown read in
     let value = c.held-held.ensures.value in
     let cases = c.in-Ok.ensures.cases in
     let cut = ap (take count) value in
@@ -138,32 +115,27 @@ returns-then-held-eq-SIZE-clause-bad_line g c = λ number e.
     let sum : lines ≡ number0 + length (lines_of (take count now)) =
     subst (λ z. lines ≡ number0 + length (lines_of z)) piece c.in-Ok-result.ensures.count in
     let after = held c.take.new.self in
-    let taken = piece_taken grammar start here now after old new number0 lines count so_far is_text closed adds sum
-    c.take.ensures in
+    let taken = piece_taken so_far count lines after new is_text closed adds sum c.take.ensures in
     let reported : c.after_bad_line-then-held-eq-SIZE.result ≡ Failures.Line number = cc in
     let (is, left) = c.after_bad_line-then-held-eq-SIZE.ensures.line number reported in
     let none : (k : ℕ) → count ≤ k → k < length now → get_or now k 0 ≢ 10 =
     subst (λ z. (k : ℕ) → count ≤ k → k < length z → get_or z k 0 ≢ 10) value
     (c.lines_len-count.ensures.last c.if-not-more.false) in
     let full : length after ≡ 65536 = sym (ap length c.held.ensures.value) ∙ c.if-held-eq-SIZE.true in
-    subst (IsBadLineFrom grammar start (rest c.after_bad_line-then-held-eq-SIZE.new.input)) (sym is)
-    (long_then_text grammar start here (rest c.after_bad_line-then-held-eq-SIZE.new.input) after new lines taken
-    (omega (arith, full)) (none_after now after count c.take.ensures none) left)
+    subst (IsBadLineFrom grammar (rest c.args.input.now) (rest c.after_bad_line-then-held-eq-SIZE.new.input)) (sym is)
+    (long_then_text taken (rest c.after_bad_line-then-held-eq-SIZE.new.input) (omega (arith, full))
+    (none_after now after count c.take.ensures none) left)
 
 pub loop-preserved : goal.loop-preserved
 loop-preserved g c =
     let grammar = c.args.grammar in
     let rest = g.R.Read.remaining in
-    let start = rest c.args.input.now in
-    let here = rest c.fill.new.input in
     let now = held c.fill.new.self in
     let old = networks_of c.loop.families in
     let number0 = c.loop.number in
     let count = c.lines_len-count.result in
     let (given, grown, read) = c.in_ok-more.ensures.read in
-    let so_far : IsReadUpTo grammar start here now old number0 =
-    read_more grammar start (rest c.loop.input) here (held c.loop.window) given now old number0 c.loop.invariant.taken
-    grown read in
+    let so_far = read_more c.loop.invariant.taken (rest c.fill.new.input) given now grown read in
     let value = c.held-held.ensures.value in
     let cases = c.in-Ok.ensures.cases in
     let cut = ap (take count) value in
@@ -179,8 +151,7 @@ loop-preserved g c =
     subst (λ z. lines ≡ number0 + length (lines_of z)) piece c.in-Ok-result.ensures.count in
     let after = held c.take.new.self in
     record {
-      taken = piece_taken grammar start here now after old new number0 lines count so_far is_text closed adds sum
-          c.take.ensures;
+      taken = piece_taken so_far count lines after new is_text closed adds sum c.take.ensures;
       room = omega (arith, ap length c.held.ensures.value, c.held.ensures.fits, c.if-held-eq-SIZE.false);
       bound = omega (
         arith,
@@ -197,85 +168,55 @@ loop-preserved g c =
 
 pub returns-then-more-clause-not_utf8 : goal.returns-then-more-clause-not_utf8
 returns-then-more-clause-not_utf8 g c = λ e.
-    let grammar = c.args.grammar in
     let rest = g.R.Read.remaining in
-    let start = rest c.args.input.now in
-    let here = rest c.fill.new.input in
     let now = held c.fill.new.self in
-    let old = networks_of c.loop.families in
-    let number0 = c.loop.number in
     let count = c.lines_len-count.result in
     let (given, grown, read) = c.in_ok-more.ensures.read in
-    let so_far : IsReadUpTo grammar start here now old number0 =
-    read_more grammar start (rest c.loop.input) here (held c.loop.window) given now old number0 c.loop.invariant.taken
-    grown read in
+    let so_far = read_more c.loop.invariant.taken (rest c.fill.new.input) given now grown read in
     let value = c.held-held.ensures.value in
     let bad : ¬ (IsUtf8 (take count now)) =
     λ text. c.in_default.ensures.cases.0 (subst IsUtf8 (sym (ap (take count) value)) text) in
     let closed : IsClosed (take count now) =
     subst IsClosed (ap (take count) value) (c.lines_len-count.ensures.closed c.if-more.true) in
     let (later, last) = c.after_bad_bytes.ensures.whole cc in
-    lines_no_text grammar start here (rest c.after_bad_bytes.new.input) now later old number0 count so_far closed bad
-    last
+    lines_no_text so_far (rest c.after_bad_bytes.new.input) later count closed bad last
 
 pub returns-in_default-clause-not_utf8 : goal.returns-in_default-clause-not_utf8
 returns-in_default-clause-not_utf8 g c = λ _.
-    let grammar = c.args.grammar in
     let rest = g.R.Read.remaining in
-    let start = rest c.args.input.now in
-    let here = rest c.fill.new.input in
     let now = held c.fill.new.self in
-    let old = networks_of c.loop.families in
-    let number0 = c.loop.number in
-    let count = c.lines_len-count.result in
     let (given, grown, read) = c.in_ok-more.ensures.read in
-    let so_far : IsReadUpTo grammar start here now old number0 =
-    read_more grammar start (rest c.loop.input) here (held c.loop.window) given now old number0 c.loop.invariant.taken
-    grown read in
+    let so_far = read_more c.loop.invariant.taken (rest c.fill.new.input) given now grown read in
     let value = c.held-held.ensures.value in
     let all = c.lines_len-count.ensures.all c.if-more.false in
     let cut = ap (λ n. take n c.held-held.result.now) all
     ∙ take_all (length c.held-held.result.now) c.held-held.result.now (omega arith) ∙ value in
     let bad : ¬ (IsUtf8 now) = λ text. c.in_default.ensures.cases.0 (subst IsUtf8 (sym cut) text) in
-    last_no_text grammar start here now old number0 so_far bad (c.in_ok-more.ensures.end c.if-more.false)
+    last_no_text so_far bad (c.in_ok-more.ensures.end c.if-more.false)
 
 pub returns-then-more-2-clause-not_utf8 : goal.returns-then-more-2-clause-not_utf8
 returns-then-more-2-clause-not_utf8 g c = λ e.
-    let grammar = c.args.grammar in
     let rest = g.R.Read.remaining in
-    let start = rest c.args.input.now in
-    let here = rest c.fill.new.input in
     let now = held c.fill.new.self in
-    let old = networks_of c.loop.families in
-    let number0 = c.loop.number in
     let count = c.lines_len-count.result in
     let (given, grown, read) = c.in_ok-more.ensures.read in
-    let so_far : IsReadUpTo grammar start here now old number0 =
-    read_more grammar start (rest c.loop.input) here (held c.loop.window) given now old number0 c.loop.invariant.taken
-    grown read in
+    let so_far = read_more c.loop.invariant.taken (rest c.fill.new.input) given now grown read in
     let value = c.held-held.ensures.value in
     let is_text : IsUtf8 (take count now) = subst IsUtf8 (ap (take count) value) c.in-Ok.ensures.cases.1 in
-    rest_no_text grammar start here (rest c.after_bad_line.new.input) now (held c.take.new.self) old number0 count
-    so_far is_text c.take.ensures (c.after_bad_line.ensures.not_utf8 cc)
+    rest_no_text so_far (rest c.after_bad_line.new.input) (held c.take.new.self) count is_text c.take.ensures
+    (c.after_bad_line.ensures.not_utf8 cc)
 
 pub returns-then-held-eq-SIZE-clause-not_utf8 : goal.returns-then-held-eq-SIZE-clause-not_utf8
 returns-then-held-eq-SIZE-clause-not_utf8 g c = λ e.
-    let grammar = c.args.grammar in
     let rest = g.R.Read.remaining in
-    let start = rest c.args.input.now in
-    let here = rest c.fill.new.input in
     let now = held c.fill.new.self in
-    let old = networks_of c.loop.families in
-    let number0 = c.loop.number in
     let count = c.lines_len-count.result in
     let (given, grown, read) = c.in_ok-more.ensures.read in
-    let so_far : IsReadUpTo grammar start here now old number0 =
-    read_more grammar start (rest c.loop.input) here (held c.loop.window) given now old number0 c.loop.invariant.taken
-    grown read in
+    let so_far = read_more c.loop.invariant.taken (rest c.fill.new.input) given now grown read in
     let value = c.held-held.ensures.value in
     let is_text : IsUtf8 (take count now) = subst IsUtf8 (ap (take count) value) c.in-Ok.ensures.cases.1 in
-    rest_no_text grammar start here (rest c.after_bad_line-then-held-eq-SIZE.new.input) now (held c.take.new.self) old
-    number0 count so_far is_text c.take.ensures (c.after_bad_line-then-held-eq-SIZE.ensures.not_utf8 cc)
+    rest_no_text so_far (rest c.after_bad_line-then-held-eq-SIZE.new.input) (held c.take.new.self) count is_text
+    c.take.ensures (c.after_bad_line-then-held-eq-SIZE.ensures.not_utf8 cc)
 
 -- ---- memory
 
@@ -283,16 +224,11 @@ pub returns-in_default-error-clause-memory : goal.returns-in_default-error-claus
 returns-in_default-error-clause-memory g c = λ _.
     let grammar = c.args.grammar in
     let rest = g.R.Read.remaining in
-    let start = rest c.args.input.now in
-    let here = rest c.fill.new.input in
     let now = held c.fill.new.self in
-    let old = networks_of c.loop.families in
     let number0 = c.loop.number in
     let count = c.lines_len-count.result in
     let (given, grown, read) = c.in_ok-more.ensures.read in
-    let so_far : IsReadUpTo grammar start here now old number0 =
-    read_more grammar start (rest c.loop.input) here (held c.loop.window) given now old number0 c.loop.invariant.taken
-    grown read in
+    let so_far = read_more c.loop.invariant.taken (rest c.fill.new.input) given now grown read in
     let value = c.held-held.ensures.value in
     let cases = c.in-Ok.ensures.cases in
     let cut = ap (take count) value in
@@ -310,4 +246,4 @@ returns-in_default-error-clause-memory g c = λ _.
     (subst (λ z. StartsWithBadLine grammar (lines_of z) later) (sym piece) bad) in
     let is : c.in-Err.error ≡ ToolErrors.Line (number0 + later) = cc in
     c.in_default-error.not-Line (number0 + later) is in
-    inr (memory_taken grammar start here now old number0 count so_far is_text none some not_at_once)
+    inr (memory_taken so_far count is_text none some not_at_once)

@@ -10,9 +10,10 @@ use Rattle.ipnet_tool.proofs.tool.printed.Goals as goal
 
 pub loop-network-preserved : goal.loop-network-preserved
 loop-network-preserved c =
-    one_line_more ipv4_network [] c.deref-network-items.result.now c.loop-network.network-index c.network-item.result
-    (string_bytes c.loop-network.text) (string_bytes c.push_line.new.text) c.loop-network-test.true c.network-item.is
-    c.loop-network.invariant c.in_ok-push_line.ensures
+    c.in_ok-push_line.ensures
+    ∙ one_line_more ipv4_network [] c.deref-network-items.result.now c.loop-network.network-index
+    c.network-item.result (string_bytes c.loop-network.text) c.loop-network-test.true c.network-item.is
+    c.loop-network.invariant
 
 pub loop-network-2-init : goal.loop-network-2-init
 loop-network-2-init c =
@@ -24,11 +25,11 @@ loop-network-2-init c =
 
 pub loop-network-2-preserved : goal.loop-network-2-preserved
 loop-network-2-preserved c =
-    one_line_more ipv6_network (text_of_lines (map ipv4_network c.args.families.now.ipv4.items))
-    c.deref-network-items-2.result.now c.loop-network-2.network-index
-    c.network-item-in-loop-network-2.result (string_bytes c.loop-network-2.text)
-    (string_bytes c.push_line-in-loop-network-2.new.text) c.loop-network-2-test.true
-    c.network-item-in-loop-network-2.is c.loop-network-2.invariant c.in_ok-push_line-2.ensures
+    c.in_ok-push_line-2.ensures
+    ∙ one_line_more ipv6_network (text_of_lines (map ipv4_network c.args.families.now.ipv4.items))
+    c.deref-network-items-2.result.now c.loop-network-2.network-index c.network-item-in-loop-network-2.result
+    (string_bytes c.loop-network-2.text) c.loop-network-2-test.true c.network-item-in-loop-network-2.is
+    c.loop-network-2.invariant
 
 pub returns-in_err-push_line-2-clause-empty : goal.returns-in_err-push_line-2-clause-empty
 returns-in_err-push_line-2-clause-empty c = λ h.

@@ -1,4 +1,6 @@
-use Rattle.ipnet_lists.proofs.ListReading.{up_to_start, up_to_more}
+use Rattle.std.proofs.Common.{◌++◌, ◌∷◌, [], sym, ap, ◌∙◌, append_assoc}
+use Rattle.ipnet.specs.Lines.{lines_of}
+use Rattle.ipnet_lists.proofs.ListReading.{up_to_start, reads_more}
 use Rattle.ipnet_lists.proofs.reader.LineReader.read.Goals as goal
 
 pub lines-init : goal.lines-init
@@ -8,8 +10,13 @@ lines-init g c =
 pub lines-preserved : goal.lines-preserved
 lines-preserved g c =
     let first = c.in_ok-after.ensures in
-    up_to_more c.args.self.now c.lines.self c.read_first.new.self c.args.bytes.now c.lines.rest.now
-    first.line c.in_ok-after.after.now
-    (g.C.Collector.is_made c.args.collector.now c.args.made.now)
-    (g.C.Collector.is_made c.args.collector.now c.lines.made)
-    (g.C.Collector.is_made c.args.collector.now c.read_first.new.made) c.lines.invariant first.first first.read
+    let done = c.lines.invariant.done in
+    let is_made = g.C.Collector.is_made c.args.collector.now in
+    record {
+      done = done ++ first.line ∷ [];
+      is = c.lines.invariant.is ∙ ap (λ ls. done ++ ls) first.first
+          ∙ sym (append_assoc done (first.line ∷ []) (lines_of c.in_ok-after.after.now));
+      lines = reads_more c.args.self.now c.lines.self c.read_first.new.self done (first.line ∷ [])
+          (is_made c.args.made.now) (is_made c.lines.made) (is_made c.read_first.new.made) c.lines.invariant.lines
+          first.read;
+    }

@@ -1,7 +1,6 @@
 -- The walk goes over the networks of the table that contain the route's address, and each has its group of payloads.
-use Rattle.std.proofs.Common.{ℕ, ◌+◌, List, [], ◌∷◌, ◌++◌, length, rules, arith, sym, subst}
-use Rattle.std.proofs.lemmas.Iterator.Consumers.{YieldsList-from_first, YieldsList-turn, YieldsList-end}
-use Rattle.std.proofs.lemmas.Iterator.Consumers.{YieldsList-so_far}
+use Rattle.std.proofs.Common.{ℕ, ◌+◌, List, [], ◌∷◌, ◌++◌, rules, arith, sym, subst}
+use Rattle.std.proofs.lemmas.Iterator.Consumers.{YieldsList-from_first}
 use Rattle.ipnet_base.proofs.BlockLaws.{own}
 use Rattle.ipnet_base.proofs.NestingLaws.{subnet_from_own}
 use Rattle.ipnet.specs.NetLaws.{ip_valid}
@@ -13,8 +12,8 @@ use Rattle.ipnet_origins.specs.Groups.{AreInOrder, AreRanked, IsLastOf, IsGroup}
 use Rattle.ipnet_origins.proofs.ValidityLaws.{some_covers}
 use Rattle.ipnet_origins.proofs.CoveringLaws.{below_members, below_longest_first}
 use Rattle.ipnet_origins.proofs.SortedLaws.{are_covering}
-use Rattle.ipnet_origins.proofs.WalkLaws.{HasCovering, turn_in, covering_start, covering_more, covering_same}
-use Rattle.ipnet_origins.proofs.WalkLaws.{covering_all}
+use Rattle.ipnet_origins.proofs.WalkLaws.{HasCovering, walk_turn, walk_end, turn_in, covering_start, covering_more}
+use Rattle.ipnet_origins.proofs.WalkLaws.{covering_all, covering_same}
 use Rattle.ipnet_origins.proofs.origins.OriginTable.covering.Goals as goal
 
 pub group-requires-clause-order : goal.group-requires-clause-order
@@ -32,12 +31,12 @@ group-requires-clause-last c =
     = subst (λ x. AreMatches (routes_of table.lasts) x all) c.addr.ensures c.matches-route-items.ensures in
     let road = YieldsList-from_first ip_route matches_left {s = c.into_iter-route-iterator.result} all
     (search rules) in
-    let turn = YieldsList-turn road c.loop-route.yielded c.loop-route.route-iterator c.loop-route.yielded_by
-    c.next.result c.next.new.self c.in-Some.route c.in-Some.is c.next.ensures.steps in
     let r = c.in-Some.route in
+    let turn = walk_turn (routes_of table.lasts) all (own n) walk road c.loop-route.yielded
+    c.loop-route.route-iterator c.loop-route.yielded_by c.next.result c.next.new.self r c.in-Some.is
+    c.next.ensures.steps in
     subst (λ z. IsLastOf z (ip_network r.now.0) r.now.1) (sym c.as_slice-payloads.ensures.value)
-    (table.reach.lasts (ip_route r) (turn_in (routes_of table.lasts) all (own n) walk (length c.loop-route.yielded)
-    (ip_route r) turn.0 turn.1).0)
+    (table.reach.lasts (ip_route r) (turn_in (routes_of table.lasts) (own n) c.loop-route.yielded r turn).0)
 
 pub returns-in_err-extend_from_slice-clause-empty : goal.returns-in_err-extend_from_slice-clause-empty
 returns-in_err-extend_from_slice-clause-empty c =
@@ -48,11 +47,11 @@ returns-in_err-extend_from_slice-clause-empty c =
     = subst (λ x. AreMatches (routes_of table.lasts) x all) c.addr.ensures c.matches-route-items.ensures in
     let road = YieldsList-from_first ip_route matches_left {s = c.into_iter-route-iterator.result} all
     (search rules) in
-    let turn = YieldsList-turn road c.loop-route.yielded c.loop-route.route-iterator c.loop-route.yielded_by
-    c.next.result c.next.new.self c.in-Some.route c.in-Some.is c.next.ensures.steps in
     let r = c.in-Some.route in
-    let here = turn_in (routes_of table.lasts) all (own n) walk (length c.loop-route.yielded) (ip_route r) turn.0
-    turn.1 in
+    let turn = walk_turn (routes_of table.lasts) all (own n) walk road c.loop-route.yielded
+    c.loop-route.route-iterator c.loop-route.yielded_by c.next.result c.next.new.self r c.in-Some.is
+    c.next.ensures.steps in
+    let here = turn_in (routes_of table.lasts) (own n) c.loop-route.yielded r turn in
     λ none. absurd (none (some_covers table.payloads.items (routes_of table.lasts) table.reach n
     (ip_valid c.args.network.now) (ip_route r) here.0
     (subnet_from_own n (ip_network r.now.0)
@@ -67,11 +66,11 @@ returns-clause-covering c =
     = subst (λ x. AreMatches (routes_of table.lasts) x all) c.addr.ensures c.matches-route-items.ensures in
     let road = YieldsList-from_first ip_route matches_left {s = c.into_iter-route-iterator.result} all
     (search rules) in
-    let end = YieldsList-end road c.loop-route.yielded c.loop-route.route-iterator c.loop-route.yielded_by
-    c.next.result c.next.new.self c.in-None.is c.next.ensures.steps in
-    let found = covering_all table.payloads.items (routes_of table.lasts) table.reach n c.loop-route.yielded
-    (subst (AreMatches (routes_of table.lasts) (own n)) (sym end.0) walk) c.loop-route.covering.items
-    c.loop-route.invariant.has in
+    let whole = walk_end (routes_of table.lasts) all (own n) walk road c.loop-route.yielded
+    c.loop-route.route-iterator c.loop-route.yielded_by c.next.result c.next.new.self c.in-None.is
+    c.next.ensures.steps in
+    let found = covering_all table.payloads.items (routes_of table.lasts) table.reach n c.loop-route.yielded whole
+    c.loop-route.covering.items c.loop-route.invariant.has in
     are_covering table.payloads.items n table.ranked c.loop-route.covering.items found
 
 pub returns-clause-members : goal.returns-clause-members
@@ -83,11 +82,11 @@ returns-clause-members c =
     = subst (λ x. AreMatches (routes_of table.lasts) x all) c.addr.ensures c.matches-route-items.ensures in
     let road = YieldsList-from_first ip_route matches_left {s = c.into_iter-route-iterator.result} all
     (search rules) in
-    let end = YieldsList-end road c.loop-route.yielded c.loop-route.route-iterator c.loop-route.yielded_by
-    c.next.result c.next.new.self c.in-None.is c.next.ensures.steps in
-    let found = covering_all table.payloads.items (routes_of table.lasts) table.reach n c.loop-route.yielded
-    (subst (AreMatches (routes_of table.lasts) (own n)) (sym end.0) walk) c.loop-route.covering.items
-    c.loop-route.invariant.has in
+    let whole = walk_end (routes_of table.lasts) all (own n) walk road c.loop-route.yielded
+    c.loop-route.route-iterator c.loop-route.yielded_by c.next.result c.next.new.self c.in-None.is
+    c.next.ensures.steps in
+    let found = covering_all table.payloads.items (routes_of table.lasts) table.reach n c.loop-route.yielded whole
+    c.loop-route.covering.items c.loop-route.invariant.has in
     λ vrp.
     let members = below_members table.payloads.items n (n.prefix_len + 1) c.loop-route.covering.items found vrp in (
       λ c. let (old, is, low) = members.0 c in (old, is),
@@ -103,11 +102,11 @@ returns-clause-longest_first c =
     = subst (λ x. AreMatches (routes_of table.lasts) x all) c.addr.ensures c.matches-route-items.ensures in
     let road = YieldsList-from_first ip_route matches_left {s = c.into_iter-route-iterator.result} all
     (search rules) in
-    let end = YieldsList-end road c.loop-route.yielded c.loop-route.route-iterator c.loop-route.yielded_by
-    c.next.result c.next.new.self c.in-None.is c.next.ensures.steps in
-    let found = covering_all table.payloads.items (routes_of table.lasts) table.reach n c.loop-route.yielded
-    (subst (AreMatches (routes_of table.lasts) (own n)) (sym end.0) walk) c.loop-route.covering.items
-    c.loop-route.invariant.has in
+    let whole = walk_end (routes_of table.lasts) all (own n) walk road c.loop-route.yielded
+    c.loop-route.route-iterator c.loop-route.yielded_by c.next.result c.next.new.self c.in-None.is
+    c.next.ensures.steps in
+    let found = covering_all table.payloads.items (routes_of table.lasts) table.reach n c.loop-route.yielded whole
+    c.loop-route.covering.items c.loop-route.invariant.has in
     below_longest_first table.payloads.items n (n.prefix_len + 1) c.loop-route.covering.items found
 
 pub loop-route-preserved-in-Continue-1 : goal.loop-route-preserved-in-Continue-1
@@ -119,11 +118,10 @@ loop-route-preserved-in-Continue-1 c =
     = subst (λ x. AreMatches (routes_of table.lasts) x all) c.addr.ensures c.matches-route-items.ensures in
     let road = YieldsList-from_first ip_route matches_left {s = c.into_iter-route-iterator.result} all
     (search rules) in
-    let turn = YieldsList-turn road c.loop-route.yielded c.loop-route.route-iterator c.loop-route.yielded_by
-    c.next.result c.next.new.self c.in-Some.route c.in-Some.is c.next.ensures.steps in
     let r = c.in-Some.route in
-    let here = turn_in (routes_of table.lasts) all (own n) walk (length c.loop-route.yielded) (ip_route r) turn.0
-    turn.1 in
+    let turn = walk_turn (routes_of table.lasts) all (own n) walk road c.loop-route.yielded
+    c.loop-route.route-iterator c.loop-route.yielded_by c.next.result c.next.new.self r c.in-Some.is
+    c.next.ensures.steps in
     let is : IsGroup table.payloads.items (ip_network r.now.0) c.group.result.now
     = subst (λ z. IsGroup z (ip_network r.now.0) c.group.result.now) c.as_slice-payloads.ensures.value
     c.group.ensures.group in
@@ -132,11 +130,9 @@ loop-route-preserved-in-Continue-1 c =
       is_finite = search rules;
       has = subst (HasCovering table.payloads.items n (c.loop-route.yielded ++ r ∷ []))
           (sym c.in_ok-extend_from_slice.ensures.items)
-          (covering_more table.payloads.items c.group.result.now c.loop-route.covering.items (routes_of table.lasts) all
-          table.reach n walk c.loop-route.yielded r c.loop-route.invariant.has is here.0 here.1
-          (omega (arith, c.prefix_len.ensures, c.prefix_len-in-loop-route.ensures, c.if-prefix_len.true))
-          (YieldsList-so_far road c.loop-route.yielded c.loop-route.route-iterator c.loop-route.yielded_by) turn.0
-          turn.1);
+          (covering_more table.payloads.items (routes_of table.lasts) table.reach n c.group.result.now
+          c.loop-route.covering.items c.loop-route.yielded r turn c.loop-route.invariant.has is
+          (omega (arith, c.prefix_len.ensures, c.prefix_len-in-loop-route.ensures, c.if-prefix_len.true)));
     }
 
 pub loop-route-preserved : goal.loop-route-preserved

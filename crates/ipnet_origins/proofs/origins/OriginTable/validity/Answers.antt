@@ -1,6 +1,6 @@
 -- The walk goes over the networks of the table that contain the route's address, and each has its group of payloads.
-use Rattle.std.proofs.Common.{ℕ, ◌≤◌, List, length, map, rules, arith, sym, subst, refl, inl, inr}
-use Rattle.std.proofs.lemmas.Iterator.Consumers.{YieldsList-from_first, YieldsList-turn, YieldsList-end}
+use Rattle.std.proofs.Common.{ℕ, ◌≤◌, List, rules, arith, sym, subst, refl, inl, inr}
+use Rattle.std.proofs.lemmas.Iterator.Consumers.{YieldsList-from_first}
 use Rattle.ipnet_base.proofs.BlockLaws.{own}
 use Rattle.ipnet_base.proofs.NestingLaws.{subnet_from_own}
 use Rattle.ipnet_base.proofs.ResultLaws.{true_gives, false_gives}
@@ -12,7 +12,8 @@ use Rattle.ipnet_routes.specs.MatchesLeft.{matches_left}
 use Rattle.ipnet_origins.specs.Groups.{AreInOrder, AreRanked, IsLastOf, IsGroup}
 use Rattle.ipnet_origins.specs.Origins.{IsCovered, IsMatched}
 use Rattle.ipnet_origins.proofs.ValidityLaws.{some_covers}
-use Rattle.ipnet_origins.proofs.WalkLaws.{turn_in, none_more, none_longer, none_at_all, some_matches, covered_same}
+use Rattle.ipnet_origins.proofs.WalkLaws.{walk_turn, walk_end, turn_in, none_more, none_longer, none_at_all}
+use Rattle.ipnet_origins.proofs.WalkLaws.{some_matches, covered_same}
 use Rattle.ipnet_origins.proofs.origins.OriginTable.validity.Goals as goal
 
 pub group-requires-clause-order : goal.group-requires-clause-order
@@ -30,12 +31,12 @@ group-requires-clause-last c =
     = subst (λ x. AreMatches (routes_of table.lasts) x all) c.addr.ensures c.matches-route-items.ensures in
     let road = YieldsList-from_first ip_route matches_left {s = c.into_iter-route-iterator.result} all
     (search rules) in
-    let turn = YieldsList-turn road c.loop-route.yielded c.loop-route.route-iterator c.loop-route.yielded_by
-    c.next.result c.next.new.self c.in-Some.route c.in-Some.is c.next.ensures.steps in
     let r = c.in-Some.route in
+    let turn = walk_turn (routes_of table.lasts) all (own n) walk road c.loop-route.yielded
+    c.loop-route.route-iterator c.loop-route.yielded_by c.next.result c.next.new.self r c.in-Some.is
+    c.next.ensures.steps in
     subst (λ z. IsLastOf z (ip_network r.now.0) r.now.1) (sym c.as_slice-payloads.ensures.value)
-    (table.reach.lasts (ip_route r) (turn_in (routes_of table.lasts) all (own n) walk (length c.loop-route.yielded)
-    (ip_route r) turn.0 turn.1).0)
+    (table.reach.lasts (ip_route r) (turn_in (routes_of table.lasts) (own n) c.loop-route.yielded r turn).0)
 
 pub returns-then-any_matches : goal.returns-then-any_matches
 returns-then-any_matches c =
@@ -57,14 +58,14 @@ loop-route-preserved-then-prefix_len c =
     = subst (λ x. AreMatches (routes_of table.lasts) x all) c.addr.ensures c.matches-route-items.ensures in
     let road = YieldsList-from_first ip_route matches_left {s = c.into_iter-route-iterator.result} all
     (search rules) in
-    let turn = YieldsList-turn road c.loop-route.yielded c.loop-route.route-iterator c.loop-route.yielded_by
-    c.next.result c.next.new.self c.in-Some.route c.in-Some.is c.next.ensures.steps in
     let r = c.in-Some.route in
+    let turn = walk_turn (routes_of table.lasts) all (own n) walk road c.loop-route.yielded
+    c.loop-route.route-iterator c.loop-route.yielded_by c.next.result c.next.new.self r c.in-Some.is
+    c.next.ensures.steps in
     let is : IsGroup table.payloads.items (ip_network r.now.0) c.group.result.now
     = subst (λ z. IsGroup z (ip_network r.now.0) c.group.result.now) c.as_slice-payloads.ensures.value
     c.group.ensures.group in
-    let here = turn_in (routes_of table.lasts) all (own n) walk (length c.loop-route.yielded) (ip_route r) turn.0
-    turn.1 in
+    let here = turn_in (routes_of table.lasts) (own n) c.loop-route.yielded r turn in
     record {
       can_next = search rules;
       is_finite = search rules;
@@ -110,10 +111,9 @@ returns-then-is_covered c =
     = subst (λ x. AreMatches (routes_of table.lasts) x all) c.addr.ensures c.matches-route-items.ensures in
     let road = YieldsList-from_first ip_route matches_left {s = c.into_iter-route-iterator.result} all
     (search rules) in
-    let end = YieldsList-end road c.loop-route.yielded c.loop-route.route-iterator c.loop-route.yielded_by
-    c.next.result c.next.new.self c.in-None.is c.next.ensures.steps in
-    let whole : AreMatches (routes_of table.lasts) (own n) (map ip_route c.loop-route.yielded)
-    = subst (AreMatches (routes_of table.lasts) (own n)) (sym end.0) walk in
+    let whole = walk_end (routes_of table.lasts) all (own n) walk road c.loop-route.yielded
+    c.loop-route.route-iterator c.loop-route.yielded_by c.next.result c.next.new.self c.in-None.is
+    c.next.ensures.steps in
     elim c.loop-route.invariant.covered [
       | inl h ↦ (
         h.1,
@@ -132,10 +132,9 @@ returns-else-is_covered c =
     = subst (λ x. AreMatches (routes_of table.lasts) x all) c.addr.ensures c.matches-route-items.ensures in
     let road = YieldsList-from_first ip_route matches_left {s = c.into_iter-route-iterator.result} all
     (search rules) in
-    let end = YieldsList-end road c.loop-route.yielded c.loop-route.route-iterator c.loop-route.yielded_by
-    c.next.result c.next.new.self c.in-None.is c.next.ensures.steps in
-    let whole : AreMatches (routes_of table.lasts) (own n) (map ip_route c.loop-route.yielded)
-    = subst (AreMatches (routes_of table.lasts) (own n)) (sym end.0) walk in
+    let whole = walk_end (routes_of table.lasts) all (own n) walk road c.loop-route.yielded
+    c.loop-route.route-iterator c.loop-route.yielded_by c.next.result c.next.new.self c.in-None.is
+    c.next.ensures.steps in
     elim c.loop-route.invariant.covered [
       | inl h ↦ absurd (cc)
       | inr h ↦ none_at_all (IsCovered n) n (λ vrp m. m) table.payloads.items (routes_of table.lasts) table.reach

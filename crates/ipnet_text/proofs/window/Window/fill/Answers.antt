@@ -13,8 +13,8 @@ returns-in-Ok-clause-read g c =
     let bound = c.in-Ok.ensures.bound in
     let rest = g.R.Read.remaining in (
       take n c.read.new.buf,
-      grown_back w.bytes lent c.read.new.buf w.start w.end _ n c.deref_mut.ensures.value c.read.auto.buf w.ordered
-          within bound.0 ∙ ap (λ z. z ++ take n c.read.new.buf) c.loop.invariant.same,
+      grown_back w.bytes lent c.read.new.buf w.start w.end _ c.deref_mut.ensures.value c.read.auto.buf w.ordered
+          within n bound.0 ∙ ap (λ z. z ++ take n c.read.new.buf) c.loop.invariant.same,
       Consumes-trans (rest c.args.input.now) (rest c.loop.input) (rest c.read.new.self) [] (take n c.read.new.buf)
           c.loop.invariant.none c.in-Ok.ensures.bytes.0,
     )
