@@ -151,11 +151,10 @@ module _ (old now : List Choice) (front back : List (Route ℕ)) (value : ℕ) (
     }
 
 -- none of the values is in both lists, if a list of the common ones is empty
-pub none_common : (ones twos : List ℕ) (xs ys common : List ℕ) → ones ≡ xs → twos ≡ ys → length common ≡ 0
-    → ((v : ℕ) → Contains common v ↔ (Contains ones v × Contains twos v)) → (v : ℕ) → Contains xs v → Contains ys v → ⊥
-none_common ones twos xs ys common e g none are v c d =
-    let k : Contains common v = (are v).1 (subst (λ z. Contains z v) (sym e) c, subst (λ z. Contains z v) (sym g) d) in
-    omega (arith, none, k.1)
+pub none_common : (ones twos common : List ℕ) → length common ≡ 0
+    → ((v : ℕ) → Contains common v ↔ (Contains ones v × Contains twos v)) → (v : ℕ) → Contains ones v
+    → Contains twos v → ⊥
+none_common ones twos common none are v c d = omega (arith, none, ((are v).1 (c, d)).1)
 
 -- ---- a block without routes, and one with a route of its own
 
@@ -185,18 +184,24 @@ none_block old routes value around block e network values size =
       size = omega (arith, size, ap length best.added, length-append old (choices_of best.plan));
     }
 
+-- The route `t` holds the network, is shorter than the other routes, and has a value.
+record IsOnTop (t : Route ℕ) (rest : List (Route ℕ)) (around : Network) : Type 0 where
+  pub holds : IsSubnetOf around t.0
+  pub shorter : (x : Route ℕ) → Contains rest x → t.0.prefix_len < x.0.prefix_len
+  pub some : 0 < t.1
+
 best_under : (old new : List Choice) (t : Route ℕ) (rest : List (Route ℕ)) (value : ℕ) (around : Network)
-    (block : Block) → IsSubnetOf around t.0
-    → ((x : Route ℕ) → Contains rest x → t.0.prefix_len < x.0.prefix_len) → 0 < t.1
-    → IsBlock old new rest t.1 around block → IsBlock old new (t ∷ rest) value around block
-best_under old new t rest value around block holds longer some b = record {
+    (block : Block) → IsOnTop t rest around → IsBlock old new rest t.1 around block
+    → IsBlock old new (t ∷ rest) value around block
+best_under old new t rest value around block top b = record {
   network = b.network;
   best = record {
     sorted = b.best.sorted;
     plan = b.best.plan;
     sized = b.best.sized;
     added = b.best.added;
-    solved = solved_under t rest value around (items_of block.values) b.best.plan holds longer some b.best.solved;
+    solved = solved_under t rest value around (items_of block.values) b.best.plan top.holds top.shorter top.some
+        b.best.solved;
   };
   size = b.size;
 }
@@ -243,13 +248,14 @@ module _ (around : IpNet) (routes : List (IpNet × ℕ)) (r : IpNet × ℕ) (res
       → IsBlock old new (ip_routes routes) value (ip_network around) block
   block_under same old new value block b = subst
       (λ z. IsBlock old new (ip_routes z) value (ip_network around) block) (sym e)
-      (best_under old new (route r) (ip_routes rest) value (ip_network around) block
-      (nested_by_len (ip_network around) (ip_network r.0) (own (ip_network r.0))
-      (table.within (ip_network r.0) (contains_here (ip_network r.0) (ip_networks rest)) (own (ip_network r.0))
-      (own_in (ip_network r.0))) (own_in (ip_network r.0)) (omega (arith, same)))
-      (λ x c. rest_longer (ip_network around) (ip_network r.0) (ip_networks rest) (ip_valid around)
-      (valid_in (r ∷ rest)) table same x.0 (network_of_route rest x c))
-      (all_values (route r) (contains_here (route r) (ip_routes rest))) b)
+      (best_under old new (route r) (ip_routes rest) value (ip_network around) block (record {
+        holds = nested_by_len (ip_network around) (ip_network r.0) (own (ip_network r.0))
+            (table.within (ip_network r.0) (contains_here (ip_network r.0) (ip_networks rest)) (own (ip_network r.0))
+            (own_in (ip_network r.0))) (own_in (ip_network r.0)) (omega (arith, same));
+        shorter = λ x c. rest_longer (ip_network around) (ip_network r.0) (ip_networks rest) (ip_valid around)
+            (valid_in (r ∷ rest)) table same x.0 (network_of_route rest x c);
+        some = all_values (route r) (contains_here (route r) (ip_routes rest));
+      }) b)
 
 -- the first route, and no others
 module _ (around : IpNet) (routes : List (IpNet × ℕ)) (r : IpNet × ℕ) (rest : List (IpNet × ℕ)) (e : routes ≡ r ∷ rest)
@@ -280,10 +286,12 @@ module _ (around : IpNet) (routes : List (IpNet × ℕ)) (r : IpNet × ℕ) (res
   one_block old value of_value size =
       subst (λ z. IsBlock old old (ip_routes routes) value z block) (sym network)
       (subst (λ z. IsBlock old old (ip_routes z) value (ip_network r.0) block) (sym e)
-      (best_under old old (route r) (ip_routes rest) value (ip_network r.0) block (λ x a. a)
-      (λ x c. absurd (contains_nil x (subst (λ z. Contains (ip_routes z) x) none c)))
-      (values (route r)
-      (subst (λ z. Contains (ip_routes z) (route r)) (sym e) (contains_here (route r) (ip_routes rest))))
+      (best_under old old (route r) (ip_routes rest) value (ip_network r.0) block (record {
+        holds = λ x a. a;
+        shorter = λ x c. absurd (contains_nil x (subst (λ z. Contains (ip_routes z) x) none c));
+        some = values (route r)
+            (subst (λ z. Contains (ip_routes z) (route r)) (sym e) (contains_here (route r) (ip_routes rest)));
+      })
       (none_block old rest r.1 (ip_network r.0) block none network of_value size)))
 
 -- the routes of both halves

@@ -1,5 +1,5 @@
 -- Lists that are made from routes one by one: their values, the numbers of these, and the values of numbers.
-use Rattle.std.proofs.Common.{◌≡◌, ℕ, ◌+◌, ◌-◌, ◌<◌, ◌≤◌, List, [], ◌∷◌, ◌++◌, length, take, get_or, min, Contains}
+use Rattle.std.proofs.Common.{◌≡◌, ℕ, ◌+◌, ◌-◌, ◌<◌, List, [], ◌∷◌, ◌++◌, length, take, get_or, min, Contains}
 use Rattle.std.proofs.Common.{Ordering, Less, Equal, Greater, Bool, true, false, refl, sym, ap, ap₂, ◌∙◌, subst}
 use Rattle.std.proofs.Common.{subst₂, arith, inl, inr}
 use Rattle.std.proofs.Math.Seq.{get_or-append_seam}

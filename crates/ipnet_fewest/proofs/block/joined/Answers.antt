@@ -1,5 +1,6 @@
 -- The values that are best for both halves; or else for either, with one more choice.
-use Rattle.std.proofs.Common.{◌≡◌, ◌<◌, ◌++◌, length, get_or, vec_len, rules, Contains, sym, ◌∙◌, subst, subst₂, arith}
+use Rattle.std.proofs.Common.{◌≡◌, ℕ, ◌<◌, ◌++◌, length, get_or, vec_len, rules, Contains}
+use Rattle.std.proofs.Common.{sym, ◌∙◌, subst, subst₂, arith}
 use Rattle.std.proofs.lemmas.Bool.{eqb-true}
 use Rattle.std.proofs.lemmas.Result.{IfOk-weaker}
 use Rattle.ipnet_sets.proofs.InsideLaws.{some_from_empty}
@@ -23,8 +24,6 @@ returns-then-not-is_empty c old front back value around h =
 
 pub returns : goal.returns
 returns c old front back value around h =
-    let ones = (items_of c.args.first.values) in
-    let twos = (items_of c.args.second.values) in
     let common = c.in_ok-common.common in
     let size : vec_len common ≡ length common.items = search rules in
     let none = eqb-true (vec_len common) 0 (sym c.is_empty.ensures ∙ c.if-not-is_empty.false) in
@@ -34,8 +33,9 @@ returns c old front back value around h =
     (first_number seconds (subst (λ z. 0 < length z) (sym c.as_slice-5.ensures) c.requires.second)) in
     best_choice old c.args.choices.now.items front back value around c.args.first c.args.second h w
     has
-    (none_common c.as_slice.result.now c.as_slice-2.result.now ones twos common.items c.as_slice.ensures
-    c.as_slice-2.ensures (omega (arith, none, size)) c.in_ok-common.ensures.members) c.push.new.self.items
+    (subst₂ (λ xs ys. (v : ℕ) → Contains xs v → Contains ys v → ⊥) c.as_slice.ensures c.as_slice-2.ensures
+    (none_common c.as_slice.result.now c.as_slice-2.result.now common.items (omega (arith, none, size))
+    c.in_ok-common.ensures.members)) c.push.new.self.items
     c.in_ok-push.ensures.items (items_of c.in_ok-values.values)
     (subst₂ (λ xs ys. AreValuesOfBoth xs ys (items_of c.in_ok-values.values)) c.as_slice-3.ensures
     c.as_slice-4.ensures c.in_ok-values.ensures)

@@ -30,27 +30,15 @@ returns-then-is_empty g c =
 
 pub fewest_routes-requires-clause-table : goal.fewest_routes-requires-clause-table
 fewest_routes-requires-clause-table g c =
-    let cmp = g.V.Ord.cmp in
     let routes = c.routes-routes.result.now in
-    let given = routes_of c.args.table.now in
     let of_table = c.routes-routes.ensures in
-    let table = given_table routes given of_table.routes of_table.ascending of_table.truncated in
-    let values = c.as_slice.result.now in
-    let numbers = c.in_ok-numbers.numbers.items in
-    let num = c.in_ok-numbers.ensures in
-    numbers_table cmp values routes numbers num table
+    let table = given_table routes (routes_of c.args.table.now) of_table.routes of_table.ascending of_table.truncated in
+    numbers_table g.V.Ord.cmp c.as_slice.result.now routes c.in_ok-numbers.numbers.items c.in_ok-numbers.ensures table
 
 pub fewest_routes-requires-clause-values : goal.fewest_routes-requires-clause-values
 fewest_routes-requires-clause-values g c =
-    let cmp = g.V.Ord.cmp in
-    let routes = c.routes-routes.result.now in
-    let given = routes_of c.args.table.now in
-    let of_table = c.routes-routes.ensures in
-    let table = given_table routes given of_table.routes of_table.ascending of_table.truncated in
-    let values = c.as_slice.result.now in
-    let numbers = c.in_ok-numbers.numbers.items in
-    let num = c.in_ok-numbers.ensures in
-    numbers_values cmp values routes numbers num
+    numbers_values g.V.Ord.cmp c.as_slice.result.now c.routes-routes.result.now c.in_ok-numbers.numbers.items
+    c.in_ok-numbers.ensures
 
 pub valued-requires : goal.valued-requires
 valued-requires g c =
