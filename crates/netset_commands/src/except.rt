@@ -1,6 +1,7 @@
 //! The option `--except` of filters and operations, and the run of a filter by a list without others.
 ghost use Rattle.std.specs.Prelude.{◌≡◌, ◌≤◌, ◌<◌, ◌↔◌, length, codes, IsTrue, IfOk, IfErr};
 ghost use Rattle.netset_commands.specs.Arguments.{values_of};
+ghost use Rattle.netset_commands.specs.SetsRead.{IsAnswerBy};
 ghost use Rattle.netset_commands.specs.Without.{IsFilterWithout};
 ghost use Rattle.netset_lib.specs.declared.failure.Failure.TheVariants.{Memory};
 
@@ -15,7 +16,7 @@ use ipnet_sets::IpSet;
 use netset_files::{Lists, Writers, read_answers_by, stream_list};
 use netset_lib::filter::side_set;
 use netset_lib::runs::end_with;
-use netset_lib::{Answerer, Failure, SetReader, Side, Stream, run_text};
+use netset_lib::{Answer, Answerer, Failure, SetReader, Side, Stream, run_text};
 use std::alloc::Global;
 
 /// The id and the name of the option for lists that are taken out of SET.
@@ -77,6 +78,27 @@ fn read_answerer(
     }
 }
 
+/// Reads FILE, and returns the answer of the answerer to its entries. `names` are the names of all lists. If that
+/// fails, or if lines are refused, it is reported, and the error is the exit status.
+fn read_answer_by(
+    rt: &HostRuntime,
+    matches: &ArgMatches,
+    first: (Lists<SetReader>, Answerer),
+    names: &[&str],
+    writers: &mut Writers<'_, '_>,
+) -> Result<Answer, u8>
+    ensures answer { IfOk result (IsAnswerBy matches.now first.1 first.0.reader
+        writers.old.reports.skips_bad writers.new.skipped) }
+    ensures failed { IfErr result (λ status. status ≡ 2) }
+{
+    let (lists, answerer) = first;
+    let entries = entries_or_report(rt, matches)?;
+    let file = last_name(matches, OTHERS);
+    let (read, allowed, answer) = read_answers_by(rt, lists, answerer, file, entries)?;
+    finish(read, names, writers)?;
+    if allowed { Ok(answer) } else { Err(2) }
+}
+
 /// Reads the lists of these names, of which FILE is the last, prints the entries of FILE that are kept, and returns the
 /// status. If that fails, it is reported, and the error is the exit status.
 fn print_kept(
@@ -96,12 +118,7 @@ fn print_kept(
         let stream = Stream { lists, answerer };
         return Ok(stream_list(rt, stream, names, file, writers));
     }
-    let entries = entries_or_report(rt, matches)?;
-    let (lists, allowed, answer) = read_answers_by(rt, lists, answerer, file, entries)?;
-    finish(lists, names, writers)?;
-    if !allowed {
-        return Err(2);
-    }
+    let answer = read_answer_by(rt, matches, (lists, answerer), names, writers)?;
     Ok(run_text(answer, names, &mut writers.answer, &mut writers.faults))
 }
 

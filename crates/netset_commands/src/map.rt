@@ -2,6 +2,7 @@
 ghost use Rattle.std.specs.Prelude.{◌≡◌, ◌≤◌, ◌<◌, ◌↔◌, Bool, false, Some, None, codes, length, IsTrue, IfErr, IfOk};
 ghost use Rattle.clap.specs.Matches.{found_of, first_value};
 ghost use Rattle.netset_commands.specs.Arguments.{input_count, IsFlag};
+ghost use Rattle.netset_commands.specs.BadLines.{AreTaken};
 ghost use Rattle.netset_files.specs.Files.{standard_input};
 ghost use Rattle.netset_pictures.specs.MapAnswers.{theme_text};
 ghost use Rattle.svg_maps.specs.declared.style.Theme.{Theme};
@@ -164,7 +165,8 @@ fn end_noted(
     names: &[&str],
     writers: &mut Writers<'_, '_>,
 ) -> Result<TitledEntries, u8>
-    ensures { IfErr result (λ status. status ≡ 2) }
+    ensures taken { IfOk result (λ _. AreTaken writers.old.reports.skips_bad writers.new.skipped lists.reader.sets) }
+    ensures failed { IfErr result (λ status. status ≡ 2) }
 {
     let (reader, allowed) = lists.into_reader();
     let NotedReader { sets, notes, .. } = reader;

@@ -256,7 +256,7 @@ fn read_free(
     matches: &ArgMatches,
     writers: &mut Writers<'_, '_>,
 ) -> Result<Free, u8>
-    ensures free { IfOk result (IsFree matches.now) }
+    ensures free { IfOk result (IsFree matches.now writers.old.reports.skips_bad writers.new.skipped) }
     ensures failed { IfErr result (λ status. status ≡ 2) }
 {
     let pool = name_of_list(matches, FIRST);

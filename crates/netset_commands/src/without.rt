@@ -79,6 +79,7 @@ pub fn without_or_report(
     writers: &mut Writers<'_, '_>,
 ) -> Result<IpSet, u8>
     ensures set { IfOk result (IsWithout sets.items) }
+    ensures skipped { writers.new.skipped ≡ writers.old.skipped }
     ensures failed { IfErr result (λ status. status ≡ 2) }
 {
     match set_without(rt.alloc(), sets) {
