@@ -1,5 +1,5 @@
 //! The command `fit`: its arguments, and its run.
-ghost use Rattle.std.specs.Prelude.{◌≡◌, ◌≤◌, codes, IfOk, IfErr};
+ghost use Rattle.std.specs.Prelude.{◌≡◌, ◌≤◌, true, codes, IfOk, IfErr};
 ghost use Rattle.netset_commands.specs.FitOptions.{AreFitNames, limit_of, IsFitRequest, IsNumberGiven};
 
 use crate::arguments::{ANY_LISTS, ArgumentFailure, SHARED, SKIPPING, report_argument_failure};
@@ -161,7 +161,8 @@ fn read_never(
 /// Reads the arguments and the lists, prints the networks within the limits, and returns the exit status.
 #[inline(never)]
 pub fn fit_lists(rt: &HostRuntime, matches: &ArgMatches, writers: &mut Writers<'_, '_>) -> u8
-    ensures { result ≤ 2 }
+    ensures status { result ≤ 2 }
+    ensures withheld { result ≡ 1 → writers.new.answer.is_withheld ≡ true }
 {
     let request = match request_of(rt, matches) {
         Ok(request) => request,
