@@ -5,6 +5,7 @@ pub mod MapLaws
 pub mod WordLaws
 pub mod OnceLaws
 pub mod EntryLaws
+pub mod FitLaws
 pub mod OperationLaws
 pub mod SetsReadLaws
 pub mod WithoutLaws

@@ -2,7 +2,7 @@
 ghost use Rattle.std.specs.Prelude.{◌≡◌, ◌≤◌, ◌<◌, ◌↔◌, length, codes, IsTrue, IfOk, IfErr};
 ghost use Rattle.netset_commands.specs.Arguments.{values_of};
 ghost use Rattle.netset_commands.specs.SetsRead.{IsAnswerBy};
-ghost use Rattle.netset_commands.specs.Without.{IsFilterWithout};
+ghost use Rattle.netset_commands.specs.Without.{IsAnswererOf, IsFilterWithout};
 ghost use Rattle.netset_lib.specs.declared.failure.Failure.TheVariants.{Memory};
 
 use crate::arguments::{FIRST, OTHERS, is_streamed, side_of};
@@ -65,12 +65,15 @@ fn read_answerer(
     names: &[&str],
     writers: &mut Writers<'_, '_>,
 ) -> Result<(Lists<SetReader>, Answerer), u8>
-    ensures { IfErr result (λ status. status ≡ 2) }
+    ensures answerer { IfOk result (λ r. IsAnswererOf matches.now (length names.now) r.1 r.0.reader) }
+    ensures failed { IfErr result (λ status. status ≡ 2) }
 {
-    let lists = Lists::new(set_reader(rt, matches)?, writers.reports);
-    let (lists, sets) = lists.read_files(rt, names)?;
-    match answerer_without(rt.alloc(), side_of(matches), sets) {
-        Ok(answerer) => Ok((lists, answerer)),
+    let reader = set_reader(rt, matches)?;
+    let lists = Lists::new(reader, writers.reports);
+    let (read, sets) = lists.read_files(rt, names)?;
+    let side = side_of(matches);
+    match answerer_without(rt.alloc(), side, sets) {
+        Ok(answerer) => Ok((read, answerer)),
         Err(failure) => {
             let _ = end_with(&failure, names, &mut writers.faults);
             Err(2)

@@ -1,6 +1,6 @@
 //! Lists that an option takes out of the lists of a command: `--taken` of `plan`, and `--except` of `filter` and of the
 //! operations.
-ghost use Rattle.std.specs.Prelude.{◌≡◌, ◌<◌, ◌++◌, map, IfOk, IfErr};
+ghost use Rattle.std.specs.Prelude.{◌≡◌, ◌-◌, ◌<◌, ◌++◌, map, take, length, IfOk, IfErr};
 ghost use Rattle.netset_commands.specs.Arguments.{input_count, values_of};
 ghost use Rattle.netset_commands.specs.Without.{AreNamesWithout, IsWithout};
 ghost use Rattle.netset_lib.specs.declared.failure.Failure.TheVariants.{Memory};
@@ -51,6 +51,17 @@ pub fn names_without_or_report<'a>(
         return Err(report_argument_failure(rt, ArgumentFailure::InputTwice));
     }
     Ok(names)
+}
+
+/// Returns the names before the last one.
+pub fn names_before_last<'n, 'a>(names: &'n [&'a str]) -> &'n [&'a str]
+    ensures { result.now ≡ take (length names.now - 1) names.now }
+{
+    if names.is_empty() {
+        names
+    } else {
+        &names[..names.len() - 1]
+    }
 }
 
 /// Returns the first of the sets without the addresses of the others. Fails only if memory runs out.
