@@ -1,5 +1,6 @@
 -- Lemmas of this crate.
 pub mod ArgumentLaws
+pub mod BarLaws
 pub mod CommandLaws
 pub mod MapLaws
 pub mod WordLaws
