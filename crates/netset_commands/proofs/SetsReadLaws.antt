@@ -10,7 +10,7 @@ use Rattle.ipnet_sets.specs.declared.set.IpSet.{IpSet}
 use Rattle.netset_commands.specs.Arguments.{entries_of}
 use Rattle.netset_commands.specs.Calls.{IsGrammar}
 use Rattle.netset_commands.specs.EntryOptions.{IsEntryText}
-use Rattle.netset_commands.specs.SetsRead.{AreListSets, AreSetsRead, ReadsSet}
+use Rattle.netset_commands.specs.SetsRead.{AreListSets, AreSetsRead, IsLastList, ReadsSet}
 use Rattle.netset_files.specs.ListReads.{AreRead, AreReadThen, Left}
 use Rattle.netset_lib.specs.SetReaders.{WereRead}
 use Rattle.netset_lib.specs.declared.set_reader.SetReader.{SetReader}
@@ -69,3 +69,22 @@ list_sets matches count sets last new reader begun same read = record {
   unread = subst (WereRead begun.0 [] []) (sym same) begun.2;
   read = read;
 }
+
+-- the last list, by whether there is a text of entries
+pub last_list : (matches : ArgMatches) (Reads : Left → Type 0) (text : Option (String Global))
+    → IsEntryText (entries_of matches) text → IfNone text (Reads None)
+    → IfSome text (λ lines. Reads (Some (string_bytes lines))) → IsLastList matches Reads
+last_list matches Reads None none file entries = record {
+  file = λ _. file;
+  entries = λ some. let zero : length (entries_of matches) ≡ 0 = ap length none in absurd (omega (arith, some, zero));
+}
+last_list matches Reads (Some text) is file entries = record {
+  file = λ zero. absurd (omega (arith, zero, is.0));
+  entries = λ _. subst (λ bytes. Reads (Some bytes)) is.2 entries;
+}
+
+-- a file leaves something unknown
+pub some_left : (text : Option (String Global)) (Reads : Left → Type 0) → IfNone text (Reads None)
+    → IfNone text ((after : Left) × Reads after)
+some_left None Reads read = (None, read)
+some_left (Some text) Reads read = read

@@ -1,11 +1,14 @@
 -- The options of `fit`: its limits, and its lists.
-use Rattle.std.specs.Prelude.{◌≡◌, ◌++◌, ◌∷◌, ℕ, List, [], Option, Some, None, codes, map}
+use Rattle.std.specs.Prelude.{◌≡◌, ◌<◌, ◌++◌, ◌∷◌, ℕ, Bool, List, [], Option, Some, None, codes, map}
 use Rattle.std.specs.Prelude.{unwrap_or}
 use Rattle.clap.specs.declared.parser.matches.ArgMatches.{ArgMatches}
 use Rattle.clap.specs.Matches.{found_of, first_value}
 use Rattle.ipnet.specs.Numerals.{IsDecimal}
 use Rattle.ipnet.specs.declared.parser.Grammar.TheVariants.{Strict}
+use Rattle.ipnet_sets.specs.Members.{HasNoAddress}
+use Rattle.ipnet_sets.specs.declared.set.IpSet.{IpSet}
 use Rattle.netset_commands.specs.Calls.{AreNamesOf}
+use Rattle.netset_commands.specs.SetsRead.{AreTakenSets}
 use Rattle.ipnet_lists.specs.Names.{Names}
 use Rattle.netset_entries.specs.declared.fit.FitLimit.{FitLimit}
 use Rattle.netset_entries.specs.declared.fit.FitLimit.TheVariants.{Networks, Spare}
@@ -55,3 +58,14 @@ pub record AreFitNames (matches : ArgMatches) (all : Names) : Type 0 where
   pub are : AreNamesOf matches lists
   pub names : map (λ name. name.now) all
       ≡ never_names (first_value (found_of matches) (codes "never")) ++ map (λ name. name.now) lists
+
+-- The set to avoid and the other sets of `fit`, of this number of lists. They are the sets of the lists, in order, if
+-- there is a list to avoid, which is the first. Otherwise the set to avoid has no address, and the others are the sets
+-- of the lists.
+-- Example: the set of `n`, and those of `a` and `b`, for `fit --never n a b`.
+pub record AreFitSets (matches : ArgMatches) (count : ℕ) (skips skipped : Bool) (never : IpSet) (sets : List IpSet)
+    : Type 0 where
+  pub none : first_value (found_of matches) (codes "never") ≡ None
+      → HasNoAddress never × AreTakenSets matches count skips skipped sets
+  pub some : (name : List ℕ) → first_value (found_of matches) (codes "never") ≡ Some name → 0 < count
+      → AreTakenSets matches count skips skipped (never ∷ sets)

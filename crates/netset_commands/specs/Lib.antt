@@ -12,6 +12,7 @@ pub mod Words
 pub mod InfoWords
 pub mod FindOptions
 pub mod OperationCommands
+pub mod PictureOptions
 pub mod PlanCommands
 pub mod SelectOptions
 pub mod SetsRead

@@ -35,13 +35,15 @@ IsExpectation matches expected = (some : Bool) × (none : Bool) × IsFlag matche
     × IsFlag matches (codes "expect-none") none × (expected ≡ expectation_of some none)
 
 -- This is what the operation of this name is asked for: it combines a set for each list that is named. The sets of the
--- lists of `--except` are taken out of its result. The options choose the form and the expectation.
+-- lists of `--except` are taken out of its result. The options choose the form and the expectation. `skips` and
+-- `skipped` say which bad lines the lists may have.
 -- Example: for `union a b --except c`, the union of the sets of `a` and `b`, without the set of `c`.
-pub record IsOperationCommand (matches : ArgMatches) (name : List ℕ) (command : FormCommand) : Type 0 where
+pub record IsOperationCommand (matches : ArgMatches) (name : List ℕ) (skips skipped : Bool) (command : FormCommand)
+    : Type 0 where
   pub names : Names
   pub are_names : AreGoodNames matches names
   pub sets : Vec IpSet
-  pub operands : AreOperands matches (length names) sets.items command.excepts.items
+  pub operands : AreOperands matches (length names) skips skipped sets.items command.excepts.items
   pub families : Families
   pub are_families : AreFamilies matches families
   pub combination : IsCombination name families sets command.combination

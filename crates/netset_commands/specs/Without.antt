@@ -1,12 +1,14 @@
 -- Lists that an option takes out of the lists of a command: `--taken` of `plan`, and `--except` of `filter` and of the
 -- operations.
-use Rattle.std.specs.Prelude.{◌≡◌, ◌↔◌, ◌<◌, ◌++◌, ℕ, Bool, true, false, List, map}
+use Rattle.std.specs.Prelude.{◌≡◌, ◌↔◌, ◌<◌, ◌+◌, ◌++◌, ℕ, Bool, true, false, List, map, length, codes}
 use Rattle.clap.specs.declared.parser.matches.ArgMatches.{ArgMatches}
 use Rattle.ipnet_base.specs.Address.{Address, Family, IsAddress}
 use Rattle.ipnet_lists.specs.Names.{Names}
 use Rattle.ipnet_sets.specs.Members.{IsMember}
 use Rattle.ipnet_sets.specs.declared.set.IpSet.{IpSet}
 use Rattle.netset_commands.specs.Arguments.{input_count, values_of}
+use Rattle.netset_commands.specs.Calls.{IsSide}
+use Rattle.netset_commands.specs.SetsRead.{AreFileSets, AreTakenSets}
 use Rattle.netset_lib.specs.Filters.{IsOnSide}
 use Rattle.netset_lib.specs.Operations.{IsInFirstAlone}
 use Rattle.netset_lib.specs.PlanAnswers.{IsPlanFamily}
@@ -15,6 +17,7 @@ use Rattle.netset_lib.specs.declared.answerer.Answerer.TheVariants as Answerers
 use Rattle.netset_lib.specs.declared.filter.Side.{Side}
 use Rattle.netset_lib.specs.declared.operation.Families.{Families}
 use Rattle.netset_lib.specs.declared.operation.Families.TheVariants as Chosen
+use Rattle.netset_lib.specs.declared.set_reader.SetReader.{SetReader}
 
 -- These are the first names, then the names of the lists that the option with this id takes out of the first lists, and
 -- the last names. At most one list is standard input.
@@ -51,3 +54,20 @@ abbrev pub IsFilterWithout : Side → List IpSet → Answerer → Type 0
 IsFilterWithout side sets (Answerers.Filter set) =
     (x : Address) → IsAddress x → IsMember set x ↔ IsOnSide side (IsInFirstAlone IsMember sets) x
 IsFilterWithout side sets (Answerers.Route table) = ⊥
+
+-- The addresses of SET that are in no list of `--except`: a set was read for SET, and one for each of these lists.
+-- `skips` and `skipped` say which bad lines the lists may have.
+-- Example: 10.0.0.0 to 10.0.0.2 of `filter --lines s --except e`, for `10.0.0.0/30` in `s` and `10.0.0.3` in `e`.
+pub record IsKeptSet (matches : ArgMatches) (skips skipped : Bool) (kept : IpSet) : Type 0 where
+  pub sets : List IpSet
+  pub read : AreTakenSets matches (1 + length (values_of matches (codes "except"))) skips skipped sets
+  pub set : IsWithout sets kept
+
+-- The answerer of `filter --except`, by the side that the flags choose, and by the sets of this number of files: the
+-- first without the others. `last` is the reader of the files then.
+pub record IsAnswererOf (matches : ArgMatches) (count : ℕ) (answerer : Answerer) (last : SetReader) : Type 0 where
+  pub sets : List IpSet
+  pub read : AreFileSets matches count sets last
+  pub side : Side
+  pub is_side : IsSide matches side
+  pub filter : IsFilterWithout side sets answerer

@@ -1,5 +1,6 @@
 //! The command `apply`: its arguments, and its run.
-ghost use Rattle.std.specs.Prelude.{◌≡◌, ◌≤◌, IfErr};
+ghost use Rattle.std.specs.Prelude.{◌≡◌, ◌≤◌, IfOk, IfErr};
+ghost use Rattle.netset_commands.specs.SetsRead.{IsTakenFile};
 
 use crate::arguments::{
     FIRST_LIST, OTHERS, RANGES, RANGES_FLAG, SHARED, SKIP_BAD_FLAG, grammar_of, is_set,
@@ -61,12 +62,14 @@ fn read_both(
     names: &[&str; 2],
     writers: &mut Writers<'_, '_>,
 ) -> Result<(IpSet, Vec<u8>), u8>
-    ensures { IfErr result (λ status. status ≡ 2) }
+    ensures set { IfOk result (λ r. IsTakenFile matches.now writers.old.reports.skips_bad writers.new.skipped r.0) }
+    ensures failed { IfErr result (λ status. status ≡ 2) }
 {
-    let lists = Lists::new(set_reader(rt, matches)?, writers.reports);
-    let (lists, set) = lists.read(rt, names[0])?;
+    let reader = set_reader(rt, matches)?;
+    let lists = Lists::new(reader, writers.reports);
+    let (read, set) = lists.read(rt, names[0])?;
     let changes = changes_of(rt, names[1], writers.reports);
-    finish_lists(lists, names, writers)?;
+    finish_lists(read, names, writers)?;
     Ok((set, changes?))
 }
 

@@ -4,6 +4,7 @@ ghost use Rattle.clap.specs.Matches.{found_of, first_value};
 ghost use Rattle.ipnet_bars.specs.declared.marks.RowWidth.{RowWidth};
 ghost use Rattle.ipnet_bars.specs.declared.marks.RowWidth.TheVariants.{ThirtyTwo};
 ghost use Rattle.netset_commands.specs.Arguments.{IsFlag};
+ghost use Rattle.netset_commands.specs.PictureOptions.{AreMarks, IsBarForm};
 ghost use Rattle.netset_commands.specs.Words.{IsFrameOf, ArePictured, mark_choice};
 ghost use Rattle.netset_pictures.specs.BarAnswers.{width_text};
 
@@ -178,7 +179,8 @@ fn choice_of(matches: &ArgMatches, is_terminal: bool) -> MarkChoice
 /// The characters of the marks: as the flags say, or as the terminal and the locale do. If memory runs out, it is
 /// reported, and the error is the exit status.
 fn marks_of(rt: &HostRuntime, matches: &ArgMatches, writers: &Writers<'_, '_>) -> Result<Marks, u8>
-    ensures { IfErr result (λ status. status ≡ 2) }
+    ensures marks { IfOk result (AreMarks matches.now writers.now.answer.destination) }
+    ensures failed { IfErr result (λ status. status ≡ 2) }
 {
     let lc_all = variable(rt, "LC_ALL")?;
     let lc_ctype = variable(rt, "LC_CTYPE")?;
@@ -188,8 +190,10 @@ fn marks_of(rt: &HostRuntime, matches: &ArgMatches, writers: &Writers<'_, '_>) -
         lc_ctype: lc_ctype.as_str(),
         lang: lang.as_str(),
     };
-    let choice = choice_of(matches, writers.answer.is_terminal());
-    Ok(chosen_marks(choice, values))
+    let is_terminal = writers.answer.is_terminal();
+    let choice = choice_of(matches, is_terminal);
+    let marks = chosen_marks(choice, values);
+    Ok(marks)
 }
 
 /// The number of marks in a row: what `--width` says, or 32.
@@ -211,13 +215,12 @@ pub fn bar_form_of(
     matches: &ArgMatches,
     writers: &Writers<'_, '_>,
 ) -> Result<BarForm, u8>
-    ensures { IfErr result (λ status. status ≡ 2) }
+    ensures form { IfOk result (IsBarForm matches.now writers.now.answer.destination) }
+    ensures failed { IfErr result (λ status. status ≡ 2) }
 {
     let marks = marks_of(rt, matches, writers)?;
-    Ok(BarForm {
-        row_width: row_width_of(matches),
-        marks,
-    })
+    let row_width = row_width_of(matches);
+    Ok(BarForm { row_width, marks })
 }
 
 /// Reads the network to draw. If the word is not a network, it is reported, and the error is the exit status.
@@ -241,7 +244,9 @@ fn request_of(
     matches: &ArgMatches,
     writers: &Writers<'_, '_>,
 ) -> Result<BarRequest, u8>
-    ensures { IfErr result (λ status. status ≡ 2) }
+    ensures frame { IfOk result (λ request. IsFrameOf matches.now request.frame) }
+    ensures form { IfOk result (λ request. IsBarForm matches.now writers.now.answer.destination request.form) }
+    ensures failed { IfErr result (λ status. status ≡ 2) }
 {
     let frame = frame_of(rt, matches)?;
     let form = bar_form_of(rt, matches, writers)?;

@@ -1,7 +1,8 @@
 //! The option `--except` of filters and operations, and the run of a filter by a list without others.
 ghost use Rattle.std.specs.Prelude.{◌≡◌, ◌≤◌, ◌<◌, ◌↔◌, length, codes, IsTrue, IfOk, IfErr};
 ghost use Rattle.netset_commands.specs.Arguments.{values_of};
-ghost use Rattle.netset_commands.specs.Without.{IsFilterWithout};
+ghost use Rattle.netset_commands.specs.SetsRead.{IsAnswerBy};
+ghost use Rattle.netset_commands.specs.Without.{IsAnswererOf, IsFilterWithout};
 ghost use Rattle.netset_lib.specs.declared.failure.Failure.TheVariants.{Memory};
 
 use crate::arguments::{FIRST, OTHERS, is_streamed, side_of};
@@ -15,7 +16,7 @@ use ipnet_sets::IpSet;
 use netset_files::{Lists, Writers, read_answers_by, stream_list};
 use netset_lib::filter::side_set;
 use netset_lib::runs::end_with;
-use netset_lib::{Answerer, Failure, SetReader, Side, Stream, run_text};
+use netset_lib::{Answer, Answerer, Failure, SetReader, Side, Stream, run_text};
 use std::alloc::Global;
 
 /// The id and the name of the option for lists that are taken out of SET.
@@ -64,17 +65,41 @@ fn read_answerer(
     names: &[&str],
     writers: &mut Writers<'_, '_>,
 ) -> Result<(Lists<SetReader>, Answerer), u8>
-    ensures { IfErr result (λ status. status ≡ 2) }
+    ensures answerer { IfOk result (λ r. IsAnswererOf matches.now (length names.now) r.1 r.0.reader) }
+    ensures failed { IfErr result (λ status. status ≡ 2) }
 {
-    let lists = Lists::new(set_reader(rt, matches)?, writers.reports);
-    let (lists, sets) = lists.read_files(rt, names)?;
-    match answerer_without(rt.alloc(), side_of(matches), sets) {
-        Ok(answerer) => Ok((lists, answerer)),
+    let reader = set_reader(rt, matches)?;
+    let lists = Lists::new(reader, writers.reports);
+    let (read, sets) = lists.read_files(rt, names)?;
+    let side = side_of(matches);
+    match answerer_without(rt.alloc(), side, sets) {
+        Ok(answerer) => Ok((read, answerer)),
         Err(failure) => {
             let _ = end_with(&failure, names, &mut writers.faults);
             Err(2)
         }
     }
+}
+
+/// Reads FILE, and returns the answer of the answerer to its entries. `names` are the names of all lists. If that
+/// fails, or if lines are refused, it is reported, and the error is the exit status.
+fn read_answer_by(
+    rt: &HostRuntime,
+    matches: &ArgMatches,
+    first: (Lists<SetReader>, Answerer),
+    names: &[&str],
+    writers: &mut Writers<'_, '_>,
+) -> Result<Answer, u8>
+    ensures answer { IfOk result (IsAnswerBy matches.now first.1 first.0.reader
+        writers.old.reports.skips_bad writers.new.skipped) }
+    ensures failed { IfErr result (λ status. status ≡ 2) }
+{
+    let (lists, answerer) = first;
+    let entries = entries_or_report(rt, matches)?;
+    let file = last_name(matches, OTHERS);
+    let (read, allowed, answer) = read_answers_by(rt, lists, answerer, file, entries)?;
+    finish(read, names, writers)?;
+    if allowed { Ok(answer) } else { Err(2) }
 }
 
 /// Reads the lists of these names, of which FILE is the last, prints the entries of FILE that are kept, and returns the
@@ -96,12 +121,7 @@ fn print_kept(
         let stream = Stream { lists, answerer };
         return Ok(stream_list(rt, stream, names, file, writers));
     }
-    let entries = entries_or_report(rt, matches)?;
-    let (lists, allowed, answer) = read_answers_by(rt, lists, answerer, file, entries)?;
-    finish(lists, names, writers)?;
-    if !allowed {
-        return Err(2);
-    }
+    let answer = read_answer_by(rt, matches, (lists, answerer), names, writers)?;
     Ok(run_text(answer, names, &mut writers.answer, &mut writers.faults))
 }
 

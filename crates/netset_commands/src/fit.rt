@@ -1,16 +1,18 @@
 //! The command `fit`: its arguments, and its run.
-ghost use Rattle.std.specs.Prelude.{◌≡◌, ◌≤◌, codes, IfOk, IfErr};
-ghost use Rattle.netset_commands.specs.FitOptions.{AreFitNames, limit_of, IsFitRequest, IsNumberGiven};
+ghost use Rattle.std.specs.Prelude.{◌≡◌, ◌≤◌, ◌∷◌, List, true, false, codes, length, IfOk, IfErr, IsTrue};
+ghost use Rattle.ipnet_sets.specs.Members.{HasNoAddress};
+ghost use Rattle.ipnet_sets.specs.declared.set.IpSet.{IpSet};
+ghost use Rattle.netset_commands.specs.FitOptions.{AreFitNames, AreFitSets, limit_of, IsFitRequest, IsNumberGiven};
 
 use crate::arguments::{ANY_LISTS, ArgumentFailure, SHARED, SKIPPING, report_argument_failure};
-use crate::entry_options::{ENTRY_OPTION, entries_or_report};
+use crate::entry_options::ENTRY_OPTION;
 use crate::named_lists::{names_of, reads_input_twice};
-use crate::reading::{finish_lists, set_reader};
+use crate::reading::read_sets;
 use crate::table::{ARGUMENT, Argument, Form, Subcommand};
 use clap::ArgMatches;
 use ipnet_sets::IpSet;
 use netset_entries::{FitCommand, FitLimit, FitRequest, run_fit};
-use netset_files::{Lists, Writers};
+use netset_files::Writers;
 use netset_lib::read_number;
 use std::alloc::{AllocError, Global};
 use std::io::Write;
@@ -133,35 +135,42 @@ fn fit_names<'a>(alloc: Global, matches: &ArgMatches<'a>) -> Result<Vec<&'a str>
     Ok(names)
 }
 
+/// The set to avoid, and the others: the first of the sets if it is to be avoided, or else the empty set.
+fn split_never(alloc: Global, avoids: bool, mut sets: Vec<IpSet>) -> (IpSet, Vec<IpSet>)
+    ensures none { avoids ≡ false → HasNoAddress result.0 × (result.1 ≡ sets) }
+    ensures some { (first : IpSet) (others : List IpSet) → avoids ≡ true → sets.items ≡ first ∷ others
+        → (result.0 ≡ first) × (result.1.items ≡ others) }
+{
+    if !avoids || sets.is_empty() {
+        return (IpSet::new(alloc), sets);
+    }
+    let never = sets.remove(0);
+    (never, sets)
+}
+
 /// Reads the list to avoid, if there is one, and the others, which have these names. If there are entries, they are the
-/// last list. Returns the set to avoid, and the
-/// others. If that fails, or if lines are refused, it is reported, and the error is the exit status.
+/// last list. Returns the set to avoid, and the others. If that fails, or if lines are refused, it is reported, and the
+/// error is the exit status.
 fn read_never(
     rt: &HostRuntime,
     matches: &ArgMatches,
     names: &[&str],
     writers: &mut Writers<'_, '_>,
 ) -> Result<(IpSet, Vec<IpSet>), u8>
-    ensures { IfErr result (λ status. status ≡ 2) }
+    ensures sets { IfOk result (λ r. AreFitSets matches.now (length names.now)
+        writers.old.reports.skips_bad writers.new.skipped r.0 r.1.items) }
+    ensures failed { IfErr result (λ status. status ≡ 2) }
 {
-    let lists = Lists::new(set_reader(rt, matches)?, writers.reports);
-    let entries = entries_or_report(rt, matches)?;
-    let (lists, never, others) = match (matches.get_str(NEVER), names) {
-        (Some(name), [_, others @ ..]) => {
-            let (lists, never) = lists.read(rt, name)?;
-            (lists, never, others)
-        }
-        (_, names) => (lists, IpSet::new(rt.alloc()), names),
-    };
-    let (lists, sets) = lists.read_all(rt, others, entries)?;
-    finish_lists(lists, names, writers)?;
-    Ok((never, sets))
+    let sets = read_sets(rt, matches, names, writers)?;
+    let avoids = matches.get_str(NEVER).is_some();
+    Ok(split_never(rt.alloc(), avoids, sets))
 }
 
 /// Reads the arguments and the lists, prints the networks within the limits, and returns the exit status.
 #[inline(never)]
 pub fn fit_lists(rt: &HostRuntime, matches: &ArgMatches, writers: &mut Writers<'_, '_>) -> u8
-    ensures { result ≤ 2 }
+    ensures status { result ≤ 2 }
+    ensures withheld { result ≡ 1 → writers.new.answer.is_withheld ≡ true }
 {
     let request = match request_of(rt, matches) {
         Ok(request) => request,

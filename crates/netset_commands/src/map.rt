@@ -1,7 +1,9 @@
 //! The command `map`: its arguments, and its runs.
 ghost use Rattle.std.specs.Prelude.{◌≡◌, ◌≤◌, ◌<◌, ◌↔◌, Bool, false, Some, None, codes, length, IsTrue, IfErr, IfOk};
+ghost use Rattle.std.specs.Prelude.{[]};
 ghost use Rattle.clap.specs.Matches.{found_of, first_value};
 ghost use Rattle.netset_commands.specs.Arguments.{input_count, IsFlag};
+ghost use Rattle.netset_commands.specs.BadLines.{AreTaken};
 ghost use Rattle.netset_files.specs.Files.{standard_input};
 ghost use Rattle.netset_pictures.specs.MapAnswers.{theme_text};
 ghost use Rattle.svg_maps.specs.declared.style.Theme.{Theme};
@@ -164,7 +166,8 @@ fn end_noted(
     names: &[&str],
     writers: &mut Writers<'_, '_>,
 ) -> Result<TitledEntries, u8>
-    ensures { IfErr result (λ status. status ≡ 2) }
+    ensures taken { IfOk result (λ _. AreTaken writers.old.reports.skips_bad writers.new.skipped lists.reader.sets) }
+    ensures failed { IfErr result (λ status. status ≡ 2) }
 {
     let (reader, allowed) = lists.into_reader();
     let NotedReader { sets, notes, .. } = reader;
@@ -310,6 +313,28 @@ fn draw_lists(
     }
 }
 
+/// How a map without entries looks, with these names of networks: in the colours that the arguments name, and with the
+/// free blocks if they are asked for.
+fn look_of<'a>(matches: &ArgMatches, table: &'a RouteTable<&'a str>) -> Look<'a>
+    ensures given { (theme : Theme)
+        → first_value (found_of matches.now) (codes "theme") ≡ Some (theme_text theme) → result.theme ≡ theme }
+    ensures absent { first_value (found_of matches.now) (codes "theme") ≡ None → result.theme ≡ Auto }
+    ensures free { IsFlag matches.now (codes "free") result.shows_free }
+    ensures names { result.names.now ≡ table.now }
+    ensures titled { result.entries.titled.now ≡ [] }
+    ensures count { result.entries.count ≡ 0 }
+{
+    Look {
+        theme: theme_of(matches),
+        shows_free: is_set(matches, FREE),
+        names: table,
+        entries: MapEntries {
+            titled: &[],
+            count: 0,
+        },
+    }
+}
+
 /// Reads the lists, prints the map with these names of networks, and returns the exit status.
 fn draw_table(
     rt: &HostRuntime,
@@ -320,15 +345,7 @@ fn draw_table(
 ) -> u8
     ensures { result ≤ 2 }
 {
-    let look = Look {
-        theme: theme_of(matches),
-        shows_free: matches.get_flag(FREE),
-        names: table,
-        entries: MapEntries {
-            titled: &[],
-            count: 0,
-        },
-    };
+    let look = look_of(matches, table);
     let names = match names_or_report(rt, matches) {
         Ok(names) => names,
         Err(status) => return status,

@@ -37,7 +37,8 @@ fn read_operands(
     writers: &mut Writers<'_, '_>,
 ) -> Result<Operands, u8>
     ensures operands { IfOk result (λ operands.
-        AreOperands matches.now (length first.now) operands.sets.items operands.excepts.items) }
+        AreOperands matches.now (length first.now) writers.old.reports.skips_bad writers.new.skipped
+        operands.sets.items operands.excepts.items) }
     ensures failed { IfErr result (λ status. status ≡ 2) }
 {
     let (read, sets) = read_list_sets(rt, matches, first, writers.reports)?;
@@ -119,7 +120,8 @@ fn read_command<'a>(
     matches: &ArgMatches<'a>,
     writers: &mut Writers<'_, '_>,
 ) -> Result<(FormCommand<'a>, Vec<&'a str>), u8>
-    ensures command { IfOk result (λ r. IsOperationCommand matches.now name.now r.0) }
+    ensures command { IfOk result (λ r. IsOperationCommand matches.now name.now
+        writers.old.reports.skips_bad writers.new.skipped r.0) }
     ensures failed { IfErr result (λ status. status ≡ 2) }
 {
     let named = names_or_report(rt, matches)?;

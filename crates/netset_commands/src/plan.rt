@@ -1,5 +1,5 @@
 //! The command `plan`: its arguments, and its run.
-ghost use Rattle.std.specs.Prelude.{◌≡◌, ◌≤◌, IfErr, IfOk, IfSome, IfNone};
+ghost use Rattle.std.specs.Prelude.{◌≡◌, ◌≤◌, true, IfErr, IfOk, IfSome, IfNone};
 ghost use Rattle.netset_commands.specs.PlanCommands.{AreFamiliesIn, AreWordsAsked, IsFree};
 ghost use Rattle.netset_commands.specs.Without.{IsFamilyOfPool, only_families};
 ghost use Rattle.netset_commands.specs.Words.{AsksFor, ArePlanWords, IsNoPlanWord, AreLengthsFor};
@@ -256,7 +256,7 @@ fn read_free(
     matches: &ArgMatches,
     writers: &mut Writers<'_, '_>,
 ) -> Result<Free, u8>
-    ensures free { IfOk result (IsFree matches.now) }
+    ensures free { IfOk result (IsFree matches.now writers.old.reports.skips_bad writers.new.skipped) }
     ensures failed { IfErr result (λ status. status ≡ 2) }
 {
     let pool = name_of_list(matches, FIRST);
@@ -348,7 +348,8 @@ fn run_plan(
 /// Reads the arguments and the lists, prints the plan or its bar, and returns the exit status.
 #[inline(never)]
 pub fn plan_networks(rt: &HostRuntime, matches: &ArgMatches, writers: &mut Writers<'_, '_>) -> u8
-    ensures { result ≤ 2 }
+    ensures status { result ≤ 2 }
+    ensures withheld { result ≡ 1 → writers.new.answer.is_withheld ≡ true }
 {
     let asked = match asked_for(rt, matches, writers) {
         Ok(asked) => asked,

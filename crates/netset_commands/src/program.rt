@@ -1,7 +1,8 @@
 //! A run of the program: its arguments, its output and its command.
-ghost use Rattle.std.specs.Prelude.{◌≡◌, ◌≤◌, ◌⊎◌, true, codes, IfErr};
+ghost use Rattle.std.specs.Prelude.{◌≡◌, ◌≤◌, ◌⊎◌, true, codes, IfOk, IfErr};
 ghost use Rattle.netset_commands.specs.Arguments.{IsFlag};
 ghost use Rattle.netset_commands.specs.Calls.{IsSide};
+ghost use Rattle.netset_commands.specs.SetsRead.{IsQueryAnswer};
 ghost use Rattle.netset_files.specs.Statuses.{IsExitStatus, IsUsualStatus};
 ghost use Rattle.netset_lib.specs.declared.filter.Side.{Side};
 ghost use Rattle.netset_lib.specs.declared.query.Query.TheVariants.{Filter};
@@ -377,10 +378,12 @@ fn read_answer(
     names: &[&str; 2],
     writers: &mut Writers<'_, '_>,
 ) -> Result<Answer, u8>
-    ensures { IfErr result (λ status. status ≡ 2) }
+    ensures answer { IfOk result (IsQueryAnswer matches.now first.reader.query first.reader.lists
+        writers.old.reports.skips_bad writers.new.skipped) }
+    ensures failed { IfErr result (λ status. status ≡ 2) }
 {
     let entries = entries_or_report(rt, matches)?;
-    let (lists, allowed, answer) = read_answers(rt, first, names, entries)?;
-    finish(lists, names, writers)?;
+    let (read, allowed, answer) = read_answers(rt, first, names, entries)?;
+    finish(read, names, writers)?;
     if allowed { Ok(answer) } else { Err(2) }
 }

@@ -6,9 +6,8 @@ ghost use Rattle.netset_commands.specs.Arguments.{entries_of};
 ghost use Rattle.netset_commands.specs.BadLines.{HasBadLine, HasNoBadLine};
 ghost use Rattle.netset_commands.specs.Calls.{IsGrammar};
 ghost use Rattle.netset_commands.specs.EntryOptions.{entry_lines};
-ghost use Rattle.netset_commands.specs.SetsRead.{AreListSets};
+ghost use Rattle.netset_commands.specs.SetsRead.{AreListSets, AreTakenSets};
 ghost use Rattle.netset_lib.specs.SetReaders.{WereRead};
-ghost use Rattle.netset_lib.specs.declared.set_reader.SetReader.{SetReader};
 
 use crate::arguments::{ArgumentFailure, grammar_of, report_argument_failure};
 use crate::entry_options::entries_or_report;
@@ -99,8 +98,8 @@ pub fn read_sets(
     names: &[&str],
     writers: &mut Writers<'_, '_>,
 ) -> Result<Vec<IpSet>, u8>
-    ensures sets { IfOk result (λ sets. (last : SetReader)
-        × AreListSets matches.now (length names.now) sets.items last) }
+    ensures sets { IfOk result (λ sets. AreTakenSets matches.now (length names.now)
+        writers.old.reports.skips_bad writers.new.skipped sets.items) }
     ensures failed { IfErr result (λ status. status ≡ 2) }
 {
     let (lists, sets) = read_list_sets(rt, matches, names, writers.reports)?;
@@ -115,7 +114,8 @@ pub fn read_only_set(
     name: &str,
     writers: &mut Writers<'_, '_>,
 ) -> Result<IpSet, u8>
-    ensures set { IfOk result (λ set. (last : SetReader) × AreListSets matches.now 1 (set ∷ []) last) }
+    ensures set { IfOk result (λ set. AreTakenSets matches.now 1
+        writers.old.reports.skips_bad writers.new.skipped (set ∷ [])) }
     ensures failed { IfErr result (λ status. status ≡ 2) }
 {
     let reader = set_reader(rt, matches)?;
@@ -133,7 +133,8 @@ pub fn read_pair(
     names: &[&str; 2],
     writers: &mut Writers<'_, '_>,
 ) -> Result<(IpSet, IpSet), u8>
-    ensures sets { IfOk result (λ sets. (last : SetReader) × AreListSets matches.now 2 (sets.0 ∷ sets.1 ∷ []) last) }
+    ensures sets { IfOk result (λ sets. AreTakenSets matches.now 2
+        writers.old.reports.skips_bad writers.new.skipped (sets.0 ∷ sets.1 ∷ [])) }
     ensures failed { IfErr result (λ status. status ≡ 2) }
 {
     let reader = set_reader(rt, matches)?;

@@ -1,9 +1,10 @@
 //! The command `filter --lines`: its flags, and its run.
-ghost use Rattle.std.specs.Prelude.{◌≡◌, ◌≤◌, cond, codes, IfErr, IsTrue};
+ghost use Rattle.std.specs.Prelude.{◌≡◌, ◌≤◌, cond, codes, IfOk, IfErr, IsTrue};
 ghost use Rattle.ipnet_text.specs.Outputs.{IsWritten};
 ghost use Rattle.ipnet_text.specs.Watched.{writer_of, HasFailed};
 ghost use Rattle.netset_commands.specs.Arguments.{IsFlag};
 ghost use Rattle.netset_commands.specs.Calls.{IsGrammar, IsSide};
+ghost use Rattle.netset_commands.specs.Without.{IsKeptSet};
 ghost use Rattle.netset_lib.specs.Reports.{named_line};
 
 use crate::after::{AFTER_OPTION, after_or_report};
@@ -12,7 +13,7 @@ use crate::except::EXCEPT;
 use crate::named_lists::{last_name, name_of_list};
 use crate::reading::read_sets;
 use crate::table::{ARGUMENT, Argument, Form};
-use crate::without::{names_without_or_report, without_or_report};
+use crate::without::{names_before_last, names_without_or_report, without_or_report};
 use clap::ArgMatches;
 use ipnet_sets::IpSet;
 use ipnet_text::Watched;
@@ -95,13 +96,14 @@ fn read_kept_set<'a>(
     matches: &ArgMatches<'a>,
     writers: &mut Writers<'_, '_>,
 ) -> Result<(IpSet, [&'a str; 2]), u8>
-    ensures { IfErr result (λ status. status ≡ 2) }
+    ensures set { IfOk result (λ r. IsKeptSet matches.now writers.old.reports.skips_bad writers.new.skipped r.0) }
+    ensures failed { IfErr result (λ status. status ≡ 2) }
 {
     let log = last_name(matches, OTHERS);
     let set = name_of_list(matches, FIRST);
     let all = names_without_or_report(rt, matches, &[set], EXCEPT, &[log])?;
     let all = all.as_slice();
-    let names = &all[..all.len().saturating_sub(1)];
+    let names = names_before_last(all);
     let sets = read_sets(rt, matches, names, writers)?;
     let kept = without_or_report(rt, sets, names, writers)?;
     Ok((kept, [set, log]))

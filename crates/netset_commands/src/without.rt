@@ -1,6 +1,6 @@
 //! Lists that an option takes out of the lists of a command: `--taken` of `plan`, and `--except` of `filter` and of the
 //! operations.
-ghost use Rattle.std.specs.Prelude.{◌≡◌, ◌<◌, ◌++◌, map, IfOk, IfErr};
+ghost use Rattle.std.specs.Prelude.{◌≡◌, ◌-◌, ◌<◌, ◌++◌, map, take, length, IfOk, IfErr};
 ghost use Rattle.netset_commands.specs.Arguments.{input_count, values_of};
 ghost use Rattle.netset_commands.specs.Without.{AreNamesWithout, IsWithout};
 ghost use Rattle.netset_lib.specs.declared.failure.Failure.TheVariants.{Memory};
@@ -53,6 +53,17 @@ pub fn names_without_or_report<'a>(
     Ok(names)
 }
 
+/// Returns the names before the last one.
+pub fn names_before_last<'n, 'a>(names: &'n [&'a str]) -> &'n [&'a str]
+    ensures { result.now ≡ take (length names.now - 1) names.now }
+{
+    if names.is_empty() {
+        names
+    } else {
+        &names[..names.len() - 1]
+    }
+}
+
 /// Returns the first of the sets without the addresses of the others. Fails only if memory runs out.
 ///
 /// ```text
@@ -79,6 +90,7 @@ pub fn without_or_report(
     writers: &mut Writers<'_, '_>,
 ) -> Result<IpSet, u8>
     ensures set { IfOk result (IsWithout sets.items) }
+    ensures skipped { writers.new.skipped ≡ writers.old.skipped }
     ensures failed { IfErr result (λ status. status ≡ 2) }
 {
     match set_without(rt.alloc(), sets) {

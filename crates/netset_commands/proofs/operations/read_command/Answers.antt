@@ -14,7 +14,8 @@ returns-clause-command c =
       names = named.named.items;
       are_names = named.ensures.named;
       sets = sets;
-      operands = subst (λ names. AreOperands c.args.matches.now (length names) sets.items excepts.items)
+      operands = subst (λ names. AreOperands c.args.matches.now (length names) c.args.writers.now.reports.skips_bad
+          c.read_operands.new.writers.skipped sets.items excepts.items)
           c.as_slice-first.ensures.value operands.ensures.operands;
       families = c.families_of-families.result;
       are_families = c.families_of-families.ensures;

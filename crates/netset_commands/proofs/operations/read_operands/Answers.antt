@@ -6,6 +6,7 @@ use Rattle.netset_commands.proofs.operations.read_operands.Goals as goal
 pub returns-clause-operands : goal.returns-clause-operands
 returns-clause-operands c =
     let all = c.in_ok-all in
+    let taken = c.in_ok-finish_lists in
     record {
       mid = c.in_ok-read.read.reader;
       lists = c.in_ok-read.ensures.sets;
@@ -13,4 +14,5 @@ returns-clause-operands c =
       taken = all.ensures.read;
       each = all.ensures.count ∙ sym (length-map c.values_of-others.result.now (λ name. name.now))
           ∙ ap length c.values_of-others.ensures;
+      are_taken = record { refused = taken.ensures.refused; noted = taken.ensures.noted };
     }

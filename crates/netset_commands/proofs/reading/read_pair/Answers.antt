@@ -10,10 +10,12 @@ returns-clause-sets c =
     let read = c.in_ok-read in
     let lists = c.new-lists.result.reader in
     let mid = after.after.reader in
-    let last = read.read.reader in (
+    let last = read.read.reader in
+    let taken = c.in_ok-finish_lists in (
       last,
       list_sets matches 2 (after.first ∷ read.second ∷ []) last lists _ c.in_ok-reader.ensures.grammar
           c.new-lists.ensures.reader
           (last_read matches lists (after.first ∷ []) mid read.second last (mid, after.ensures.read, refl)
           c.in_ok-entries.entries c.in_ok-entries.ensures.text read.ensures.file read.ensures.entries),
+      record { refused = taken.ensures.refused; noted = taken.ensures.noted },
     )
