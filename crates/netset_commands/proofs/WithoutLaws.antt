@@ -1,6 +1,6 @@
 -- Lists that are taken out of the first list of a command.
 use Rattle.std.proofs.Common.{◌≡◌, ◌≢◌, ◌↔◌, ◌∙◌, Bool, true, false, IsTrue, List, length, get_or, refl, sym, subst}
-use Rattle.std.proofs.Common.{◌<◌, ◌-◌, ◌+◌, ◌++◌, ℕ, ap, arith, length-append, map, take}
+use Rattle.std.proofs.Common.{◌-◌, ◌+◌, ◌++◌, ℕ, ap, arith, length-append, map, take}
 use Rattle.std.proofs.lemmas.List.{length-map, length-take-le}
 use Rattle.std.proofs.lemmas.List.Elements.{All-nil}
 use Rattle.ipnet_lists.specs.Names.{Names}
@@ -99,16 +99,14 @@ of_named families chosen pool has4 has6 named only h4 h6 =
     (subst (IsFamilyOfPool Chosen.Named pool) (sym only) (of_pool pool has4 has6 h4 h6))
 
 -- how many names are before the last of a first name, the names of an option and a last name
-pub count_before_last : (names slice front first last : Names) (values : List (List ℕ))
-    → map (λ name. name.now) names ≡ map (λ name. name.now) first ++ values ++ map (λ name. name.now) last
+pub count_before_last : (names slice front : Names) (first values last : List (List ℕ))
+    → map (λ name. name.now) names ≡ first ++ values ++ last
     → length first ≡ 1 → length last ≡ 1 → slice ≡ names → front ≡ take (length slice - 1) slice
     → length front ≡ 1 + length values
-count_before_last names slice front first last values are one other same cut =
+count_before_last names slice front first values last are one other same cut =
     let whole = sym (length-map names (λ name. name.now)) ∙ ap length are in
-    let before = length-append (map (λ name. name.now) first) values in
-    let after = length-append (map (λ name. name.now) first ++ values) (map (λ name. name.now) last) in
-    let firsts = length-map first (λ name. name.now) in
-    let lasts = length-map last (λ name. name.now) in
+    let before = length-append first values in
+    let after = length-append (first ++ values) last in
     let size = ap length same in
     ap length cut ∙ length-take-le (length slice - 1) slice (omega arith)
-    ∙ omega (arith, size, whole, before, after, firsts, lasts, one, other)
+    ∙ omega (arith, size, whole, before, after, one, other)
