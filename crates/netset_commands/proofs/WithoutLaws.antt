@@ -99,14 +99,13 @@ of_named families chosen pool has4 has6 named only h4 h6 =
     (subst (IsFamilyOfPool Chosen.Named pool) (sym only) (of_pool pool has4 has6 h4 h6))
 
 -- how many names are before the last of a first name, the names of an option and a last name
-pub count_before_last : (names slice front : Names) (first values last : List (List ℕ))
+pub count_before_last : (names front : Names) (first values last : List (List ℕ))
     → map (λ name. name.now) names ≡ first ++ values ++ last
-    → length first ≡ 1 → length last ≡ 1 → slice ≡ names → front ≡ take (length slice - 1) slice
+    → length first ≡ 1 → length last ≡ 1 → front ≡ take (length names - 1) names
     → length front ≡ 1 + length values
-count_before_last names slice front first values last are one other same cut =
+count_before_last names front first values last are one other cut =
     let whole = sym (length-map names (λ name. name.now)) ∙ ap length are in
     let before = length-append first values in
     let after = length-append (first ++ values) last in
-    let size = ap length same in
-    ap length cut ∙ length-take-le (length slice - 1) slice (omega arith)
-    ∙ omega (arith, size, whole, before, after, one, other)
+    ap length cut ∙ length-take-le (length names - 1) names (omega arith)
+    ∙ omega (arith, whole, before, after, one, other)

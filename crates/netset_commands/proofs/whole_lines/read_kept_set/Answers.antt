@@ -1,5 +1,5 @@
 -- A set was read for each name before the last.
-use Rattle.std.proofs.Common.{◌+◌, ◌∷◌, [], codes, length, refl, subst, sym}
+use Rattle.std.proofs.Common.{◌≡◌, ◌+◌, ◌-◌, ◌∷◌, [], codes, length, refl, subst, sym, take}
 use Rattle.netset_commands.specs.Arguments.{values_of}
 use Rattle.netset_commands.specs.SetsRead.{AreTakenSets}
 use Rattle.netset_commands.proofs.WithoutLaws.{count_before_last}
@@ -18,9 +18,10 @@ returns-clause-set c =
       read = subst (λ skipped. AreTakenSets matches (1 + length values) skips skipped sets.sets.items)
           (sym kept.ensures.skipped)
           (subst (λ count. AreTakenSets matches count skips c.read_sets.new.writers.skipped sets.sets.items)
-          (count_before_last all.all.items c.as_slice-all.result.now c.names_before_last-names.result.now
-          (c.name_of_list-set.result.now ∷ []) values (c.last_name-log.result.now ∷ [])
-          all.ensures.named.are refl refl c.as_slice-all.ensures.value c.names_before_last-names.ensures)
+          (count_before_last all.all.items c.names_before_last-names.result.now
+          (c.name_of_list-set.result.now ∷ []) values (c.last_name-log.result.now ∷ []) all.ensures.named.are refl refl
+          (subst (λ s. c.names_before_last-names.result.now ≡ take (length s - 1) s) c.as_slice-all.ensures.value
+          c.names_before_last-names.ensures))
           sets.ensures.sets);
       set = kept.ensures.set;
     }
