@@ -62,7 +62,7 @@ pub record AreFitNames (matches : ArgMatches) (all : Names) : Type 0 where
 -- The set to avoid and the other sets of `fit`, of this number of lists. They are the sets of the lists, in order, if
 -- there is a list to avoid, which is the first. Otherwise the set to avoid has no address, and the others are the sets
 -- of the lists.
--- Example: the set of `n`, and those of `a` and `b`, for `fit --never n a b`.
+-- Example: for `fit --never n a b`, the set of `n`, and the sets of `a` and `b`.
 pub record AreFitSets (matches : ArgMatches) (count : ℕ) (skips skipped : Bool) (never : IpSet) (sets : List IpSet)
     : Type 0 where
   pub none : first_value (found_of matches) (codes "never") ≡ None

@@ -1,4 +1,4 @@
--- The marks are those of the choice.
+-- The choice has these marks.
 use Rattle.std.proofs.Common.{subst}
 use Rattle.netset_commands.specs.PictureOptions.{AreMarksOf}
 use Rattle.netset_commands.proofs.BarLaws.{marks_chosen}
